@@ -4,3 +4,4 @@ pub mod Pieces
 pub mod Clocks
 pub mod BytesInView
 pub mod ListClockView
+pub mod Adapters

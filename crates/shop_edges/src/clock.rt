@@ -2,7 +2,7 @@ ghost use Rattle.std.specs.Prelude.{List, ℕ, Option};
 ghost use Rattle.shop_edges.specs.Clocks.{Tells, IsTwin};
 
 /// Tells the time. A clock may be moved to another thread.
-pub trait Clock: Send + Drop {
+pub trait Clock: Send + Drop + 'static {
     /// The readings to come, where they are known: a list, and then its last again and again.
     ghost readings: { Self → Option (List ℕ) };
 

@@ -7,15 +7,23 @@ mod bytes_in;
 mod bytes_out;
 mod clock;
 mod list_clock;
+mod reader_source;
 mod sink;
 mod source;
+mod standard_output;
+mod system_clock;
+mod writer_sink;
 
 pub use bytes_in::BytesIn;
 pub use bytes_out::BytesOut;
 pub use clock::Clock;
 pub use list_clock::ListClock;
+pub use reader_source::{FIRST_READS, ReaderSource};
 pub use sink::{Sink, Took, write_all};
 pub use source::{Got, Source};
+pub use standard_output::StandardOutput;
+pub use system_clock::SystemClock;
+pub use writer_sink::WriterSink;
 
 #[cfg(test)]
 mod tests;
