@@ -45,8 +45,8 @@ pub record WriteCause (before now : ℕ) (result : Took) : Type 0 where
   pub later : before ≤ now
   pub failed : result ≡ took.Failed → Rose before now
 
--- a front of the bytes, and maybe all of them, came behind what was held
+-- some front of the bytes came behind what was held, and a byte is missing
 pub record AppendsFront (old new : Option (List ℕ)) (bytes : List ℕ) : Type 0 where
   pub count : ℕ
-  pub within : count ≤ length bytes
+  pub within : count < length bytes
   pub written : Appends old new (take count bytes)

@@ -7,8 +7,8 @@ use std::sync::Arc;
 /// A clock that gives the readings of a list, and then its last again and again; 0 where the list
 /// is empty. Its twins share the list.
 ///
-/// Contracts see the readings to come. Where the list could not be shared with a twin, since it has
-/// 2^63 owners, the twin tells nothing, and stands still at the next reading.
+/// Where the list can't be shared with a twin, since it has 2^63 owners, the twin stands still at
+/// the next reading, and tells none.
 #[derive(Debug, Drop)]
 pub struct ListClock {
     shared: Option<Arc<Listed<u64>>>,
@@ -17,11 +17,12 @@ pub struct ListClock {
 }
 
 impl Model for ListClock {
-    ghost use Rattle.std.specs.Prelude.{Option, List, ℕ, ◌≤◌, length};
+    ghost use Rattle.std.specs.Prelude.{◌≤◌, length};
     ghost use Rattle.std.specs.Option.{ForSome};
     ghost use Rattle.std.specs.Arc.{arc_value};
+    ghost use Rattle.shop_edges.specs.Clocks.{ListedReadings};
 
-    ghost Value = { Option (List ℕ) };
+    ghost Value = { ListedReadings };
 
     ghost use Rattle.shop_edges.specs.ListClockView.{readings_of};
 
@@ -31,10 +32,10 @@ impl Model for ListClock {
 }
 
 impl ListClock {
-    ghost use Rattle.std.specs.Prelude.{◌≡◌, Some, IfOk};
+    ghost use Rattle.std.specs.Prelude.{◌≡◌, true, IfOk};
 
     pub fn new(alloc: Global, readings: Listed<u64>) -> Result<ListClock, Memory>
-        ensures { IfOk result (λ clock. clock ≡ Some readings) }
+        ensures { IfOk result (λ clock. clock ≡ record { readings = readings; told = true }) }
     {
         Ok(ListClock {
             shared: Some(Arc::new(alloc, readings)?),
@@ -45,9 +46,16 @@ impl ListClock {
 }
 
 impl Clock for ListClock {
-    ghost readings = { λ c. c };
+    ghost use Rattle.std.specs.Prelude.{◌≡◌, ◌∷◌, [], Some, IsTrue, IsFalse};
+    ghost use Rattle.shop_edges.specs.Clocks.{Tells, IsTwin, told_readings, next_reading};
 
-    fn now(&mut self) -> u64 {
+    ghost readings = { told_readings };
+
+    fn now(&mut self) -> u64
+        ensures reading { Tells (Some self.old.readings) (Some self.new.readings) result }
+        ensures same { self.new.told ≡ self.old.told }
+        ensures tells { Tells (told_readings self.old) (told_readings self.new) result }
+    {
         let Some(shared) = &self.shared else {
             return self.still;
         };
@@ -62,7 +70,11 @@ impl Clock for ListClock {
         }
     }
 
-    fn twin(&self) -> ListClock {
+    fn twin(&self) -> ListClock
+        ensures told { IsTrue result.told → result ≡ self.now }
+        ensures still { IsFalse result.told → result.readings ≡ next_reading self.now.readings ∷ [] }
+        ensures twin { IsTwin (told_readings self.now) (told_readings result) }
+    {
         let Some(shared) = &self.shared else {
             return ListClock {
                 shared: None,
