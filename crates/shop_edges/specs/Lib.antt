@@ -1,0 +1,7 @@
+pub mod Causes
+pub mod Streams
+pub mod Pieces
+pub mod Clocks
+pub mod BytesInView
+pub mod ListClockView
+pub mod Adapters

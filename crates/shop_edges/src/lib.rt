@@ -1,0 +1,29 @@
+//! What the shop meets of the outside: bytes that come and go, and the time. Each of them is a
+//! trait, which says what is owed where its content is known; an implementation in memory, whose
+//! every answer is known; and a trusted adapter over std, which tells nothing of content.
+#![tactic(auto)]
+
+mod bytes_in;
+mod bytes_out;
+mod clock;
+mod list_clock;
+mod reader_source;
+mod sink;
+mod source;
+mod standard_output;
+mod system_clock;
+mod writer_sink;
+
+pub use bytes_in::BytesIn;
+pub use bytes_out::BytesOut;
+pub use clock::Clock;
+pub use list_clock::ListClock;
+pub use reader_source::{FIRST_READS, ReaderSource};
+pub use sink::{Sink, Took, write_all};
+pub use source::{Got, Source};
+pub use standard_output::StandardOutput;
+pub use system_clock::SystemClock;
+pub use writer_sink::WriterSink;
+
+#[cfg(test)]
+mod tests;
