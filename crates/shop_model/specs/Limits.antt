@@ -1,0 +1,38 @@
+-- The bounds of the numbers in rows, all this project's own.
+use Rattle.std.specs.Prelude.{ℕ, ◌^◌}
+
+-- a discount, in per cent
+abbrev pub discount_limit : ℕ
+discount_limit = 50
+
+-- the price of one unit, in cents
+abbrev pub price_limit : ℕ
+price_limit = 999_999
+
+-- the units of one line
+abbrev pub quantity_limit : ℕ
+quantity_limit = 999
+
+-- the lines of an order or a cart
+abbrev pub lines_limit : ℕ
+lines_limit = 100
+
+-- the units in stock
+abbrev pub stock_limit : ℕ
+stock_limit = 1_000_000
+
+-- how often an item was restocked
+abbrev pub restocks_limit : ℕ
+restocks_limit = 2 ^ 60
+
+-- a day since 1970-01-01: 9999-12-31
+abbrev pub day_limit : ℕ
+day_limit = 2_932_896
+
+-- a moment in milliseconds since 1970-01-01: the last one of 9999-12-31
+abbrev pub stamp_limit : ℕ
+stamp_limit = 253_402_300_799_999
+
+-- how long a session lasts after its login, in milliseconds
+abbrev pub session_time : ℕ
+session_time = 7_200_000

@@ -1,0 +1,48 @@
+use std::marker::Model;
+
+/// The identifier of a card authorisation: 15 ASCII digits.
+#[derive(Clone, Copy, Debug, PartialEq, Eq)]
+pub struct AuthId {
+    digits: [u8; 15],
+}
+
+impl Model for AuthId {
+    ghost use Rattle.std.specs.Prelude.{ℕ, List};
+    ghost use Rattle.shop_model.specs.AuthIds.{IsAuthId};
+
+    ghost Value = { List ℕ };
+
+    ghost view = { λ i. i.digits };
+
+    ghost inverse = { λ digits. record { digits = digits } };
+
+    ghost invariant = { λ i. IsAuthId i.digits };
+}
+
+impl AuthId {
+    ghost use Rattle.std.specs.Prelude.{◌≡◌, ◌<◌, ◌^◌};
+    ghost use Rattle.shop_model.specs.AuthIds as spec;
+
+    /// The 15 digits of a number, with leading zeros.
+    pub fn of(number: u64) -> AuthId
+        requires { number < 10 ^ 15 }
+        ensures { result ≡ spec.digits 15 number }
+    {
+        let mut digits = [b'0'; 15];
+        let mut rest = number;
+        let mut place = 15;
+        while place > 0 {
+            place -= 1;
+            digits[place] = b'0' + (rest % 10) as u8;
+            rest /= 10;
+        }
+        AuthId { digits }
+    }
+
+    /// The codes of the digits.
+    pub fn bytes(&self) -> &[u8]
+        ensures { result.now ≡ self.now }
+    {
+        &self.digits
+    }
+}

@@ -1,0 +1,21 @@
+use shop_text::Listed;
+use std::marker::Model;
+
+/// A cart: pairs of an item's id and a quantity of at most 999, in the order in which they came.
+#[derive(Debug, Drop)]
+pub struct Cart {
+    pub id: u32,
+    pub lines: Listed<(u32, u32)>,
+}
+
+impl Model for Cart {
+    ghost use Rattle.shop_model.specs.Rows.{CartRow, IsCart};
+
+    ghost Value = { CartRow };
+
+    ghost use Rattle.shop_model.specs.CartView.{row_of};
+
+    ghost view = { row_of };
+
+    ghost invariant = { λ i. IsCart (row_of i) };
+}

@@ -1,0 +1,43 @@
+//! The rows of the shop, and what they mean.
+#![tactic(auto)]
+
+mod address;
+mod auth_id;
+mod author;
+mod backing;
+mod card_type;
+mod card_use;
+mod cart;
+mod country;
+mod customer;
+mod drawing;
+mod item;
+mod line;
+mod order;
+mod order_state;
+mod page;
+mod scale;
+mod ship_type;
+mod subject;
+mod tables;
+pub mod words;
+
+pub use address::{Address, AddressText};
+pub use auth_id::AuthId;
+pub use author::Author;
+pub use backing::Backing;
+pub use card_type::CardType;
+pub use card_use::CardUse;
+pub use cart::Cart;
+pub use country::Country;
+pub use customer::Customer;
+pub use drawing::{Words, drawn};
+pub use item::Item;
+pub use line::Line;
+pub use order::Order;
+pub use order_state::OrderState;
+pub use page::{Block, Field, Page};
+pub use scale::Scale;
+pub use ship_type::ShipType;
+pub use subject::Subject;
+pub use tables::Tables;
