@@ -33,7 +33,8 @@ fn push_pair(
     second: &Text,
     end: &[u8],
 ) -> Result<(), Memory>
-    ensures ok { OnOk result (text.new ≡ text.old ++ (front.now ++ escape first.now ++ middle.now ++ escape second.now ++ end.now)) }
+    ensures ok { OnOk result (text.new ≡ text.old
+        ++ (front.now ++ escape first.now ++ middle.now ++ escape second.now ++ end.now)) }
     ensures err { OnErr result (Extends text.old text.new) }
 {
     push_tagged(text, front, first, middle)?;

@@ -7,9 +7,10 @@ use shop_model::Page;
 use shop_text::{Memory, Text};
 use std::alloc::Global;
 
-/// The bytes of a page around its blocks, and the bytes of a block, for which room is made at first.
+/// The bytes for which room is made at first: those around the blocks.
 const FRAME_ROOM: usize = 128;
 
+/// The same for each block; most are links.
 const BLOCK_ROOM: usize = 96;
 
 /// Adds the text of the page; a refusal may come after some of it.

@@ -5,7 +5,8 @@ use Rattle.shop_pages.proofs.page.add_page.Goals as goal
 
 -- what is pushed in turn is pushed as one
 joined : (old front middle end now tagged listed : List ℕ)
-    → tagged ≡ old ++ front → listed ≡ tagged ++ middle → now ≡ listed ++ end → now ≡ old ++ (front ++ middle ++ end)
+    → tagged ≡ old ++ front → listed ≡ tagged ++ middle → now ≡ listed ++ end
+    → now ≡ old ++ (front ++ middle ++ end)
 joined old front middle end now tagged listed is_tagged is_listed is_now =
     rw (is_now, is_listed, is_tagged, append_assoc old front middle, append_assoc old (front ++ middle) end)
 
