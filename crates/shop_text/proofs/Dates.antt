@@ -83,9 +83,11 @@ at_year : (Y M D day : ℕ) → 1970 ≤ Y → IsCivilDate (pos Y) M D
 unfolding day_text
 at_year Y M D day late at e =
     let within = day_count-day_of_year (pos Y) M D at.2.0 in
-    let in_year = year_walk 8029 1970 Y M D day at late (omega (arith, signed_arith, at.0)) (omega (arith, e, day_count-epoch)) in
+    let most : Y ≤ 1970 + 8029 = omega (arith, signed_arith, at.0) in
+    let in_year = year_walk 8029 1970 Y M D day at late most (omega (arith, e, day_count-epoch)) in
     let place = day_of_year (pos Y) M D - 1 in
-    let in_month = month_walk 11 1 Y M D place at (omega arith) at.1.0 (omega (arith, at.1)) (omega (arith, within, at.2.0)) in
+    let in_month =
+    month_walk 11 1 Y M D place at (omega arith) at.1.0 (omega (arith, at.1)) (omega (arith, within, at.2.0)) in
     rw (in_year, in_month)
 
 as_pos : (z : ℤ) → pos 1970 ≤ℤ z → (n : ℕ) × (z ≡ pos n)

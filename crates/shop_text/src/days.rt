@@ -20,11 +20,22 @@ fn date_bytes(year: u16, month: u8, day: u8) -> [u8; 10]
     requires { (year < 10_000) × (month < 100) × (day < 100) }
     ensures { result ≡ spec.date_text year month day }
 {
-    let [c, d] = two_digits((year / 100) as u8);
-    let [y, z] = two_digits((year % 100) as u8);
-    let [m, n] = two_digits(month);
-    let [t, o] = two_digits(day);
-    [c, d, y, z, b'-', m, n, b'-', t, o]
+    let hundreds = two_digits((year / 100) as u8);
+    let rest = two_digits((year % 100) as u8);
+    let month = two_digits(month);
+    let day = two_digits(day);
+    [
+        hundreds[0],
+        hundreds[1],
+        rest[0],
+        rest[1],
+        b'-',
+        month[0],
+        month[1],
+        b'-',
+        day[0],
+        day[1],
+    ]
 }
 
 /// A day counted from 1970-01-01 as `YYYY-MM-DD`.

@@ -16,7 +16,8 @@ loop-at-preserved c =
           record {
             order = omega arith;
             text = rw w.start-is
-                (entity_step _ before.text name _ _ before.start before.at so_far.order (omega arith) w.in-Some.ensures now so_far.text);
+                (entity_step _ before.text name _ _ before.start before.at so_far.order (omega arith)
+                w.in-Some.ensures now so_far.text);
             front = rw now (Extends-append _ _ name (Extends-append _ _ _ so_far.front));
           }
       | in_default w ↦ record {

@@ -1,0 +1,39 @@
+-- The bytes of replies (RFC 9112).
+use Rattle.std.specs.Prelude.{◌==◌, ℕ, List, [], ◌++◌, length, Bool, true, false, codes, decimal, if◌then◌else◌}
+use Rattle.shop_model.specs.declared.page.Page.{Page}
+use Rattle.shop_model.specs.declared.tables.Tables.{Tables}
+use Rattle.shop_model.specs.PageText.{page_text}
+use Rattle.shop_model.specs.Show.{product_detail, refusal_page}
+use Rattle.shop_engine.specs.declared.messages.Stop.{Stop}
+use Rattle.shop_engine.specs.declared.messages.Stop.TheVariants.{Between, Inside, Refusing}
+
+-- the reason phrase of a page's status, which is the title of a refusal's page
+abbrev pub phrase_of : Page → List ℕ
+phrase_of page = if page.status == 200 then codes "OK" else page.title
+
+-- the end of a reply's head, which says whether the connection ends
+abbrev pub head_end : Bool → List ℕ
+head_end close = if close then codes "\r\nConnection: close\r\n\r\n" else codes "\r\n\r\n"
+
+-- the head of a reply around a page of so many bytes
+unfoldable pub reply_head : Page → ℕ → Bool → List ℕ
+reply_head page len close =
+    codes "HTTP/1.1 " ++ decimal page.status ++ codes " " ++ phrase_of page
+    ++ codes "\r\nContent-Type: text/html; charset=utf-8\r\nContent-Length: " ++ decimal len ++ head_end close
+
+unfoldable pub reply : Page → Bool → List ℕ
+reply page close = reply_head page (length (page_text page)) close ++ page_text page
+
+-- the answer to a message that asks for an item
+unfoldable pub answer : Tables → ℕ → List ℕ
+answer tables item = reply (product_detail tables item) false
+
+-- the page of a message that isn't served; this project's own
+abbrev pub not_served_page : ℕ → Page
+not_served_page status = refusal_page status (codes "Not Implemented") (codes "Not served yet.")
+
+-- what is written where the messages stop
+unfoldable pub last_words : Stop → List ℕ
+last_words Between = []
+last_words Inside = []
+last_words (Refusing status) = reply (not_served_page status) true

@@ -1,0 +1,92 @@
+ghost use Rattle.std.specs.Prelude.{◌≡◌, ◌++◌, [], codes, IfOk, OnOk, if◌then◌else◌};
+ghost use Rattle.shop_engine.specs.Replies as spec;
+
+use shop_model::Page;
+use shop_pages::push_page;
+use shop_text::{Memory, Text};
+use std::alloc::Global;
+use std::marker::Model;
+
+/// The bytes for which a page makes room at first, and those of a reply's head.
+const PAGE_ROOM: usize = 1_024;
+
+const HEAD_ROOM: usize = 160;
+
+/// The bytes of a reply. Its room serves one request after another.
+#[derive(Drop)]
+pub(crate) struct Reply {
+    page: Text,
+    bytes: Text,
+}
+
+impl Model for Reply {
+    ghost use Rattle.std.specs.Prelude.{List, ℕ};
+
+    ghost Value = { List ℕ };
+
+    ghost view = { λ r. r.bytes };
+}
+
+impl Reply {
+    pub(crate) fn new(alloc: Global) -> Result<Reply, Memory>
+        ensures { IfOk result (λ reply. reply ≡ []) }
+    {
+        Ok(Reply {
+            page: Text::with_capacity(alloc, PAGE_ROOM)?,
+            bytes: Text::with_capacity(alloc, HEAD_ROOM + PAGE_ROOM)?,
+        })
+    }
+
+    pub(crate) fn bytes(&self) -> &[u8]
+        ensures { result.now ≡ self.now }
+    {
+        self.bytes.bytes()
+    }
+
+    /// Makes the reply around a page, in place of the one before; a refusal may leave a part of it.
+    pub(crate) fn make(&mut self, page: &Page, close: bool) -> Result<(), Memory>
+        ensures { OnOk result (self.new ≡ spec.reply page.now close) }
+    {
+        self.page.clear();
+        push_page(&mut self.page, page)?;
+        self.bytes.clear();
+        push_head(&mut self.bytes, page, self.page.len(), close)?;
+        self.bytes.push(self.page.bytes())
+    }
+}
+
+/// Adds the head of a reply around a page of so many bytes.
+#[tactic(auto, unfolding(crate::specs::Replies::reply_head))]
+fn push_head(text: &mut Text, page: &Page, len: usize, close: bool) -> Result<(), Memory>
+    ensures { OnOk result (text.new ≡ text.old ++ spec.reply_head page.now len close) }
+{
+    text.push(b"HTTP/1.1 ")?;
+    text.push_decimal(u64::from(page.status))?;
+    text.push(b" ")?;
+    text.push(phrase_of(page))?;
+    text.push(b"\r\nContent-Type: text/html; charset=utf-8\r\nContent-Length: ")?;
+    text.push_decimal(len as u64)?;
+    text.push(head_end(close))
+}
+
+/// The reason phrase of a page's status.
+fn phrase_of(page: &Page) -> &[u8]
+    ensures { result.now ≡ spec.phrase_of page.now }
+{
+    if page.status == 200 {
+        b"OK"
+    } else {
+        page.title.bytes()
+    }
+}
+
+/// The end of a head, which says whether the connection ends.
+fn head_end(close: bool) -> &'static [u8]
+    ensures { result.now ≡ spec.head_end close }
+{
+    if close {
+        b"\r\nConnection: close\r\n\r\n"
+    } else {
+        b"\r\n\r\n"
+    }
+}

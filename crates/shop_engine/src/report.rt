@@ -1,0 +1,50 @@
+use shop_text::Listed;
+
+/// What decided an answer.
+#[derive(Clone, Copy, Debug, PartialEq, Eq)]
+pub enum PointKind {
+    /// The message alone, or the refusal of it. The point's numbers are 0.
+    Plain,
+    /// The tables.
+    At,
+}
+
+/// What an answer stands on.
+#[derive(Clone, Copy, Debug, PartialEq, Eq)]
+pub struct Point {
+    pub kind: PointKind,
+    /// So many changes came before it.
+    pub front: u64,
+    /// Milliseconds since 1970-01-01.
+    pub moment: u64,
+    /// Which of the caller's accepted requests it answers, counted from 1.
+    pub call: u64,
+    /// The word that was drawn for it.
+    pub draw: u32,
+    /// How many attempts it took.
+    pub tries: u32,
+}
+
+/// How a connection ended.
+#[derive(Clone, Copy, Debug, PartialEq, Eq)]
+pub enum Ended {
+    /// The source ended between two messages.
+    Closed,
+    /// The source ended inside a message.
+    Cut,
+    /// A message was refused, and the page of the refusal, with this status, was written first.
+    Refused(u16),
+    /// The source failed.
+    ReadFault,
+    /// The sink failed.
+    WriteFault,
+    /// Memory ran out.
+    Memory,
+}
+
+/// What became of a connection: its end, and a point for each answer.
+#[derive(Debug, Drop)]
+pub struct Report {
+    pub end: Ended,
+    pub points: Listed<Point>,
+}
