@@ -14,16 +14,20 @@ pub record IsWritten (old new : Option (List ℕ)) (bytes rest : List ℕ) : Typ
 
 -- no byte is written yet
 pub nothing_written : (held : Option (List ℕ)) (bytes : List ℕ) → IsWritten held held bytes bytes
-nothing_written held bytes = record { count = 0; within = omega arith; remains = refl; written = Appends-nothing held }
+nothing_written held bytes =
+    record { count = 0; within = omega arith; remains = refl; written = Appends-nothing held }
 
 -- n more bytes behind those that are written
-pub more_written : (a b c : Option (List ℕ)) (bytes rest : List ℕ) (n : ℕ) → IsWritten a b bytes rest → n ≤ length rest
-    → Appends b c (take n rest) → IsWritten a c bytes (take (length rest - n) (drop n rest))
+pub more_written : (a b c : Option (List ℕ)) (bytes rest : List ℕ) (n : ℕ) → IsWritten a b bytes rest
+    → n ≤ length rest → Appends b c (take n rest)
+    → IsWritten a c bytes (take (length rest - n) (drop n rest))
 more_written a b c bytes rest n so_far le written =
+    let k = so_far.count in
+    let split : take k bytes ++ take n rest ≡ take (k + n) bytes =
+    ap (λ more. take k bytes ++ take n more) so_far.remains ∙ sym (take-add k n bytes) in
     record {
-      count = so_far.count + n;
-      within = omega (arith, length-drop so_far.count bytes, ap length so_far.remains, le, so_far.within);
-      remains = take_rest rest n ∙ ap (drop n) so_far.remains ∙ drop-drop n so_far.count bytes;
-      written = subst (Appends a c) (ap (λ more. take so_far.count bytes ++ take n more) so_far.remains ∙ sym (take-add so_far.count n bytes))
-          (Appends-more a b c _ _ so_far.written written);
+      count = k + n;
+      within = omega (arith, length-drop k bytes, ap length so_far.remains, le, so_far.within);
+      remains = take_rest rest n ∙ ap (drop n) so_far.remains ∙ drop-drop n k bytes;
+      written = subst (Appends a c) split (Appends-more a b c _ _ so_far.written written);
     }

@@ -1,5 +1,5 @@
 -- What is known of a reader and a writer of std under the shop's adapters.
-use Rattle.std.specs.Prelude.{◌≡◌, ℕ, ◌-◌}
+use Rattle.std.specs.Prelude.{ℕ}
 use Rattle.shop_edges.specs.declared.source.Got.{Got}
 use Rattle.shop_edges.specs.declared.source.Got.TheVariants as got
 use Rattle.shop_edges.specs.declared.sink.Took.{Took}

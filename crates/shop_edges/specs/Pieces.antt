@@ -18,7 +18,8 @@ pub record Pieces : Type 0 where
 
 -- before the first call
 abbrev pub fresh : List ℕ → ℕ → List ℕ → Pieces
-fresh bytes piece fails = record { bytes = bytes; piece = piece; fails = fails; calls = 0; faults = 0 }
+fresh bytes piece fails =
+    record { bytes = bytes; piece = piece; fails = fails; calls = 0; faults = 0 }
 
 -- the next call is listed as one that fails
 abbrev pub is_listed : Pieces → Bool
@@ -32,15 +33,22 @@ moved s bytes = record s { bytes = bytes; calls = count_up s.calls }
 abbrev pub failed : Pieces → Pieces
 failed s = record s { calls = count_up s.calls; faults = count_up s.faults }
 
--- a read fails exactly at a listed call; else it gives a piece of what is left, as far as there is room
+-- a read fails exactly at a listed call; else it gives a piece of what is left, as far as there
+-- is room
 abbrev pub GivesPiece : Pieces → Pieces → Got → ℕ → Type 0
 GivesPiece old new (got.Bytes n) room =
-    (is_listed old ≡ false) × (n ≡ min (length old.bytes) (min old.piece room)) × (new ≡ moved old (drop n old.bytes))
-GivesPiece old new got.End room = (is_listed old ≡ false) × (old.bytes ≡ []) × (new ≡ moved old [])
+    (is_listed old ≡ false)
+    × (n ≡ min (length old.bytes) (min old.piece room))
+    × (new ≡ moved old (drop n old.bytes))
+GivesPiece old new got.End room =
+    (is_listed old ≡ false) × (old.bytes ≡ []) × (new ≡ moved old [])
 GivesPiece old new got.Failed room = (is_listed old ≡ true) × (new ≡ failed old)
 
--- a write takes a piece where the call is not listed; it fails at a listed call, at a piece of 0, and in want of memory
+-- a write that is not listed takes a piece of what there is; it fails at a listed call, at a piece
+-- of 0, and in want of memory
 abbrev pub TakesPiece : Pieces → Pieces → Took → List ℕ → Type 0
 TakesPiece old new (took.Bytes n) from =
-    (is_listed old ≡ false) × (n ≡ min old.piece (length from)) × (new ≡ moved old (old.bytes ++ take n from))
+    (is_listed old ≡ false)
+    × (n ≡ min old.piece (length from))
+    × (new ≡ moved old (old.bytes ++ take n from))
 TakesPiece old new took.Failed from = new ≡ failed old

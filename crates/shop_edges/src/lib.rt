@@ -1,6 +1,8 @@
-//! What the shop meets of the outside: bytes that come and go, and the time. Each of them is a
-//! trait, which says what is owed where its content is known; an implementation in memory, whose
-//! every answer is known; and a trusted adapter over std, which tells nothing of content.
+//! What the shop meets of the outside: bytes that come and go, and the time.
+//!
+//! Each is a trait, which says what is owed where the content is known, and that a call fails only
+//! where a count of faults rose. It has an implementation in memory, whose every answer is known,
+//! and an adapter over std, the trusted edge, which knows no more of the content than std tells.
 #![tactic(auto)]
 
 mod bytes_in;

@@ -60,7 +60,8 @@ impl<R: Read> Source for ReaderSource<R> {
     fn read(&mut self, into: &mut [u8]) -> Got
         requires { 0 < length into.old }
         ensures fits { GotFits result into.new }
-        ensures bytes { Reads (R.remaining self.old.reader) (R.remaining self.new.reader) result into.new }
+        ensures bytes { Reads (R.remaining self.old.reader) (R.remaining self.new.reader)
+            result into.new }
         ensures reads { Lowers self.old.reads self.new.reads result }
         ensures cause { ReadCause self.old.faults self.new.faults result }
         ensures fewer { self.new.reads ≡ self.old.reads - 1 }

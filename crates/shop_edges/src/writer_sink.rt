@@ -50,7 +50,8 @@ impl<W: Write> Sink for WriterSink<W> {
     fn write(&mut self, from: &[u8]) -> Took
         requires { 0 < length from.now }
         ensures fits { TookFits result from.now }
-        ensures bytes { Writes (W.contents self.old.writer) (W.contents self.new.writer) result from.now }
+        ensures bytes { Writes (W.contents self.old.writer) (W.contents self.new.writer)
+            result from.now }
         ensures cause { WriteCause self.old.faults self.new.faults result }
         ensures faults { self.new.faults ≡ faults_after_write result self.old.faults }
     {
