@@ -1,0 +1,11 @@
+//! The top calls: what the words of the program say is done here.
+#![tactic(auto)]
+
+mod alone;
+mod status;
+
+pub use alone::run_alone;
+pub use status::Status;
+
+#[cfg(test)]
+mod tests;
