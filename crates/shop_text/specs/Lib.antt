@@ -1,0 +1,7 @@
+pub mod Days
+pub mod Escape
+pub mod Extends
+pub mod Fold
+pub mod Money
+pub mod Syllables
+pub mod Texts

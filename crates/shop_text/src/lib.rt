@@ -1,0 +1,26 @@
+//! Owned bytes, lists that contracts see as lists, and the texts that pages are made of.
+//!
+//! Each text has two forms: a push that appends it to a [`Text`], and a function that makes a new one.
+//! A push that is refused for want of memory leaves the text as it was.
+#![tactic(auto)]
+
+mod days;
+mod fold;
+mod listed;
+mod markup;
+mod memory;
+mod money;
+mod syllables;
+mod text;
+
+pub use days::day_text;
+pub use fold::{fold_begins, fold_eq};
+pub use listed::Listed;
+pub use markup::escape;
+pub use memory::Memory;
+pub use money::cents_text;
+pub use syllables::{digsyl, digsyl_lower};
+pub use text::Text;
+
+#[cfg(test)]
+mod tests;
