@@ -1,5 +1,5 @@
 -- The text of a page, this project's own HTML.
-use Rattle.std.specs.Prelude.{ℕ, List, [], ◌∷◌, ◌++◌, codes}
+use Rattle.std.specs.Prelude.{ℕ, List, ◌++◌, codes}
 use Rattle.std.specs.List.{flat_map}
 use Rattle.shop_text.specs.Texts.{escape}
 use Rattle.shop_model.specs.declared.page.Block.{Block}

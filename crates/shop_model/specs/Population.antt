@@ -1,5 +1,5 @@
 -- The rows that the shop opens with, each from its number alone.
-use Rattle.std.specs.Prelude.{ℕ, zero, suc, ◌+◌, ◌-◌, ◌*◌, ◌/◌, ◌%◌, ◌^◌, List, [], ◌∷◌, ◌++◌, map, codes, decimal, Option}
+use Rattle.std.specs.Prelude.{ℕ, ◌+◌, ◌-◌, ◌*◌, ◌/◌, ◌%◌, List, [], ◌∷◌, ◌++◌, map, codes, decimal, Option}
 use Rattle.std.specs.List.{range_with_len}
 use Rattle.shop_text.specs.Texts.{digsyl, digsyl_lower}
 use Rattle.shop_model.specs.declared.country.Country.{Country}

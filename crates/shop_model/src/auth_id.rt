@@ -20,7 +20,24 @@ impl Model for AuthId {
 }
 
 impl AuthId {
-    ghost use Rattle.std.specs.Prelude.{◌≡◌};
+    ghost use Rattle.std.specs.Prelude.{◌≡◌, ◌<◌, ◌^◌};
+    ghost use Rattle.shop_model.specs.AuthIds as spec;
+
+    /// The 15 digits of a number, with leading zeros.
+    pub fn of(number: u64) -> AuthId
+        requires { number < 10 ^ 15 }
+        ensures { result ≡ spec.digits 15 number }
+    {
+        let mut digits = [b'0'; 15];
+        let mut rest = number;
+        let mut place = 15;
+        while place > 0 {
+            place -= 1;
+            digits[place] = b'0' + (rest % 10) as u8;
+            rest /= 10;
+        }
+        AuthId { digits }
+    }
 
     /// The codes of the digits.
     pub fn bytes(&self) -> &[u8]
