@@ -5,12 +5,15 @@ use Rattle.rand_pcg.specs.Pcg.{multiplier_64, pcg32}
 use Rattle.shop_model.specs.Scales.{ScaleRow, is_desk}
 use Rattle.shop_model.specs.Words.{desk_word, pcg_word, word, Drawing, to_come}
 
+-- the words to come of a new generator are those of its row
 pub first_words : (seed : ℕ) (scale : ScaleRow) (table row : ℕ) (rng : Lcg)
     → rng ≡ started 64 multiplier_64 seed (increment_of 64 (table * 2 ^ 40 + row)) → (j : ℕ)
-    → to_come (record { desk = is_desk scale; coming = (seed + 1009 * table + 101 * row) % 2 ^ 32; rng = rng }) j ≡ word seed scale table row j
+    → to_come (record { desk = is_desk scale; coming = (seed + 1009 * table + 101 * row) % 2 ^ 32; rng = rng }) j
+    ≡ word seed scale table row j
 unfolding to_come word desk_word pcg_word
 first_words seed scale table row rng is j =
-    let e : ((seed + 1009 * table + 101 * row) % 2 ^ 32 + 13 * j) % 2 ^ 32 ≡ (seed + 1009 * table + 101 * row + 13 * j) % 2 ^ 32 = omega arith in
+    let sum = seed + 1009 * table + 101 * row in
+    let e : (sum % 2 ^ 32 + 13 * j) % 2 ^ 32 ≡ (sum + 13 * j) % 2 ^ 32 = omega arith in
     rw (is, e) refl
 
 -- the result of a step
@@ -23,10 +26,10 @@ coming_word d drawn result rng fits step (inl (on, is)) =
 coming_word d drawn result rng fits step (inr (off, is)) = rw off (is ∙ ap (λ (p : ℕ × Lcg). p.0) step)
 
 -- what is left after a step
-pub words_left : (d : Drawing) (drawn : ℕ) (rng : Lcg) → (drawn, rng) ≡ pcg32 d.rng → (j : ℕ)
+pub words_after : (d : Drawing) (drawn : ℕ) (rng : Lcg) → (drawn, rng) ≡ pcg32 d.rng → (j : ℕ)
     → to_come (record { desk = d.desk; coming = (d.coming + 13) % 2 ^ 32; rng = rng }) j ≡ to_come d (j + 1)
 unfolding to_come state_after
-words_left d drawn rng step j =
+words_after d drawn rng step j =
     let e : ((d.coming + 13) % 2 ^ 32 + 13 * j) % 2 ^ 32 ≡ (d.coming + 13 * (j + 1)) % 2 ^ 32 = omega arith in
     let after : rng ≡ (pcg32 d.rng).1 = ap (λ (p : ℕ × Lcg). p.1) step in
     rw (after, e) (rw add-one refl)

@@ -1,4 +1,5 @@
--- The rows that the shop opens with, each from its number alone.
+-- The rows that the shop opens with, each from its id and its own drawn words; this project's own.
+-- A name w3 stands for word 3 of the row.
 use Rattle.std.specs.Prelude.{ℕ, ◌+◌, ◌-◌, ◌*◌, ◌/◌, ◌%◌, List, [], ◌∷◌, ◌++◌, map, codes, decimal, Option}
 use Rattle.std.specs.List.{range_with_len}
 use Rattle.shop_text.specs.Texts.{digsyl, digsyl_lower}
@@ -19,7 +20,7 @@ use Rattle.shop_model.specs.Money.{Money, totals}
 use Rattle.shop_model.specs.Sound.{last_of}
 use Rattle.shop_model.specs.Words.{word, entry, adjectives, nouns, first_names, last_names, publishers}
 
--- countries
+-- countries draw no words
 
 unfoldable pub country_name : ℕ → List ℕ
 country_name r = codes "Country " ++ digsyl r
@@ -27,10 +28,11 @@ country_name r = codes "Country " ++ digsyl r
 unfoldable pub country_row : ℕ → Country
 country_row r = record { id = r; name = country_name r }
 
--- addresses
+-- addresses, which draw from table 2
 
 unfoldable pub street : ℕ → ℕ → List ℕ
-street w0 w1 = decimal (1 + w0 % 200) ++ codes " " ++ entry [] nouns w1 ++ codes " Street"
+street w0 w1 =
+    decimal (1 + w0 % 200) ++ codes " " ++ entry [] nouns w1 ++ codes " Street"
 
 unfoldable pub city : ℕ → List ℕ
 city w2 = entry [] last_names w2 ++ codes "ton"
@@ -53,7 +55,7 @@ address_row seed scale r =
       };
     }
 
--- customers
+-- customers, who draw from table 3; the password is the user name in small letters
 
 unfoldable pub phone : ℕ → List ℕ
 phone w4 = decimal (2_000_000_000 + w4 % 1_000_000_000)
@@ -78,36 +80,45 @@ customer_row seed scale r =
       expiry = 0;
     }
 
--- authors
+-- authors, who draw from table 4
 
 unfoldable pub author_row : ℕ → ScaleRow → ℕ → Author
 author_row seed scale r =
     let w : ℕ → ℕ = word seed scale 4 r in
     record { id = r; first = entry [] first_names (w 0); last = entry [] last_names (w 1) }
 
--- items
+-- items, which draw from table 5
 
 -- the items that follow r in cyclic order
 unfoldable pub followers : ℕ → ℕ → List ℕ
 followers items r =
-    (1 + r % items) ∷ (1 + (r + 1) % items) ∷ (1 + (r + 2) % items) ∷ (1 + (r + 3) % items) ∷ (1 + (r + 4) % items) ∷ []
+    (1 + r % items)
+    ∷ (1 + (r + 1) % items)
+    ∷ (1 + (r + 2) % items)
+    ∷ (1 + (r + 3) % items)
+    ∷ (1 + (r + 4) % items)
+    ∷ []
 
 unfoldable pub title : ℕ → ℕ → ℕ → List ℕ
-title w0 w1 r = entry [] adjectives w0 ++ codes " " ++ entry [] nouns w1 ++ codes " " ++ digsyl r
+title w0 w1 r =
+    entry [] adjectives w0 ++ codes " " ++ entry [] nouns w1 ++ codes " " ++ digsyl r
 
 unfoldable pub about : ℕ → ℕ → List ℕ
-about w10 w11 = codes "About a " ++ entry [] adjectives w10 ++ codes " " ++ entry [] nouns w11 ++ codes "."
+about w10 w11 =
+    codes "About a " ++ entry [] adjectives w10 ++ codes " " ++ entry [] nouns w11 ++ codes "."
 
 -- the link to a picture of item r
 unfoldable pub picture : List ℕ → ℕ → List ℕ
 picture front r = front ++ decimal r ++ codes ".gif"
 
+-- the suggested price, and the shop's own, up to 50 per cent below
 unfoldable pub srp : ℕ → ℕ
 srp w5 = 100 + w5 % 9900
 
 unfoldable pub cost : ℕ → ℕ → ℕ
 cost w5 w6 = srp w5 * (100 - w6 % 51) / 100
 
+-- what there is in stock, 10 to 30 units
 unfoldable pub stock : ℕ → ℕ
 stock w7 = 10 + w7 % 21
 
@@ -134,11 +145,12 @@ item_row seed scale r =
       backing = entry Hardback backings (w 9);
     }
 
--- orders
+-- orders, which draw from table 6
 
 abbrev pub order_word : ℕ → ScaleRow → ℕ → ℕ → ℕ
 order_word seed scale r j = word seed scale 6 r j
 
+-- whose order it is, and the address of this customer
 unfoldable pub order_customer : ℕ → ScaleRow → ℕ → CustomerRow
 order_customer seed scale r = customer_row seed scale (1 + order_word seed scale r 0 % scale.customers)
 
@@ -149,6 +161,7 @@ order_address seed scale r = address_row seed scale (order_customer seed scale r
 unfoldable pub size : ℕ → ℕ
 size w1 = 1 + w1 % 5
 
+-- the moment of the order, at the start of one of 60 days from 2000-02-13, and the day of shipping
 unfoldable pub placed : ℕ → ℕ
 placed w3 = (11_000 + w3 % 60) * 86_400_000
 
@@ -162,6 +175,7 @@ line_item scale w2 k = 1 + (w2 + 17 * (k - 1)) % scale.items
 unfoldable pub line_quantity : ℕ → ℕ → ℕ
 line_quantity w4 k = 1 + (w4 + k) % 5
 
+-- line k, at the populated cost of its item
 unfoldable pub order_line : ℕ → ScaleRow → ℕ → ℕ → ℕ → LineRow
 order_line seed scale w2 w4 k = record {
   number = k;
@@ -181,7 +195,7 @@ card_number r = 4_000_000_000_000_000 + r
 unfoldable pub card_name : CustomerRow → List ℕ
 card_name customer = customer.first ++ codes " " ++ customer.last
 
--- an order of a customer to an address
+-- the payment of order r: the call r of caller 0
 unfoldable pub card_of : CustomerRow → Address → ℕ → ℕ → ℕ → ℕ → CardUseRow
 card_of customer address total r w3 w6 = record {
   card = entry Visa card_types w6;
@@ -194,6 +208,7 @@ card_of customer address total r w3 w6 = record {
   country = address.text.country;
 }
 
+-- order r of a customer to an address
 unfoldable pub order_of : CustomerRow → Address → List LineRow → ℕ → ℕ → ℕ → ℕ → ℕ → ℕ → OrderRow
 order_of customer address lines r w3 w5 w6 w7 w8 =
     let money : Money = totals lines customer.discount in
@@ -217,7 +232,16 @@ order_of customer address lines r w3 w5 w6 w7 w8 =
 unfoldable pub order_row : ℕ → ScaleRow → ℕ → OrderRow
 order_row seed scale r =
     let w : ℕ → ℕ = word seed scale 6 r in
-    order_of (order_customer seed scale r) (order_address seed scale r) (order_lines seed scale r) r (w 3) (w 5) (w 6) (w 7) (w 8)
+    order_of
+    (order_customer seed scale r)
+    (order_address seed scale r)
+    (order_lines seed scale r)
+    r
+    (w 3)
+    (w 5)
+    (w 6)
+    (w 7)
+    (w 8)
 
 -- the tables: rows whose ids run from 1
 
@@ -245,6 +269,7 @@ orders_table seed scale = rows (order_row seed scale) scale.orders
 unfoldable pub lasts_table : ℕ → ScaleRow → List (Option ℕ)
 lasts_table seed scale = rows (last_of (orders_table seed scale)) scale.customers
 
+-- the shop at its opening: no carts, and each order is populated
 unfoldable pub populated : ℕ → ScaleRow → Tables
 populated seed scale = record {
   countries = countries_table;

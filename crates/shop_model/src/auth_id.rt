@@ -23,7 +23,7 @@ impl AuthId {
     ghost use Rattle.std.specs.Prelude.{◌≡◌, ◌<◌, ◌^◌};
     ghost use Rattle.shop_model.specs.AuthIds as spec;
 
-    /// The 15 digits of a number, with leading zeros.
+    /// The digits of a number, with leading zeros.
     pub fn of(number: u64) -> AuthId
         requires { number < 10 ^ 15 }
         ensures { result ≡ spec.digits 15 number }
@@ -39,7 +39,7 @@ impl AuthId {
         AuthId { digits }
     }
 
-    /// The codes of the digits.
+    /// The ASCII codes of the digits.
     pub fn bytes(&self) -> &[u8]
         ensures { result.now ≡ self.now }
     {

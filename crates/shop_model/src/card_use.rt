@@ -2,15 +2,22 @@ use crate::{AuthId, CardType};
 use shop_text::Text;
 use std::marker::Model;
 
+/// The payment of an order by card.
 #[derive(Debug, Drop)]
 pub struct CardUse {
     pub card: CardType,
+    /// The number on the card, as decimal digits.
     pub number: Text,
+    /// The holder's name.
     pub name: Text,
+    /// The month in which the card expires, as `YYYY-MM`.
     pub expiry: Text,
     pub auth: AuthId,
+    /// What was paid, in cents.
     pub total: u64,
+    /// The moment of the payment, in milliseconds since 1970-01-01.
     pub stamp: u64,
+    /// The id of the country that the order ships to.
     pub country: u32,
 }
 

@@ -1,10 +1,11 @@
 use shop_text::Listed;
 use std::marker::Model;
 
-/// A cart: pairs of an item's id and a quantity of at most 999, in the order in which they came.
+/// A shopping cart.
 #[derive(Debug, Drop)]
 pub struct Cart {
     pub id: u32,
+    /// Pairs of an item's id and a quantity, 999 at most, in the order in which the items came.
     pub lines: Listed<(u32, u32)>,
 }
 

@@ -1,4 +1,4 @@
-//! The rows of the shop, and what they mean.
+//! The rows of an online bookstore, what holds of them, and how they open.
 #![tactic(auto)]
 
 mod address;
@@ -12,6 +12,7 @@ mod country;
 mod customer;
 mod drawing;
 mod item;
+mod limits;
 mod line;
 mod order;
 mod order_state;
@@ -31,8 +32,12 @@ pub use card_use::CardUse;
 pub use cart::Cart;
 pub use country::Country;
 pub use customer::Customer;
-pub use drawing::{Words, drawn};
+pub use drawing::{Words, drawn, word};
 pub use item::Item;
+pub use limits::{
+    DAY_LIMIT, DISCOUNT_LIMIT, LINES_LIMIT, PRICE_LIMIT, QUANTITY_LIMIT, SESSION_TIME, STAMP_LIMIT,
+    STOCK_LIMIT,
+};
 pub use line::Line;
 pub use order::Order;
 pub use order_state::OrderState;
@@ -41,3 +46,6 @@ pub use scale::Scale;
 pub use ship_type::ShipType;
 pub use subject::Subject;
 pub use tables::Tables;
+
+#[cfg(test)]
+mod tests;

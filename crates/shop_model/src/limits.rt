@@ -1,0 +1,25 @@
+//! The bounds of the numbers in rows.
+
+/// The largest discount, in per cent.
+pub const DISCOUNT_LIMIT: u32 = 50;
+
+/// The largest price of one unit, in cents.
+pub const PRICE_LIMIT: u64 = 999_999;
+
+/// The most units of one line.
+pub const QUANTITY_LIMIT: u32 = 999;
+
+/// The most lines of an order or a cart.
+pub const LINES_LIMIT: usize = 100;
+
+/// The most units of an item in stock.
+pub const STOCK_LIMIT: u32 = 1_000_000;
+
+/// The last day, counted from 1970-01-01: 9999-12-31.
+pub const DAY_LIMIT: u32 = 2_932_896;
+
+/// The last moment, in milliseconds since 1970-01-01: the end of 9999-12-31.
+pub const STAMP_LIMIT: u64 = 253_402_300_799_999;
+
+/// How long a session lasts after its login, in milliseconds: two hours.
+pub const SESSION_TIME: u64 = 7_200_000;
