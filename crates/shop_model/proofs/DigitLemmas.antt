@@ -5,9 +5,12 @@ use Rattle.shop_model.specs.AuthIds.{digits}
 
 -- one digit more, before those that are written
 pub digits_more : (place n : ℕ) (written : List ℕ) → 0 < place → place ≤ length written
-    → digits place n ++ drop place written ≡ digits (place - 1) (n / 10) ++ drop (place - 1) (set written (place - 1) (48 + n % 10))
+    → digits place n ++ drop place written
+    ≡ digits (place - 1) (n / 10) ++ drop (place - 1) (set written (place - 1) (48 + n % 10))
 unfolding digits
 digits_more zero n written some within = absurd (omega arith)
 digits_more (suc k) n written some within =
     let less : suc k - 1 ≡ k = omega arith in
-    rw (less, drop-set written k (48 + n % 10) (omega arith), append_assoc (digits k (n / 10)) ((48 + n % 10) ∷ []) (drop (suc k) written), add-one) refl
+    let first = drop-set written k (48 + n % 10) (omega arith) in
+    let behind = append_assoc (digits k (n / 10)) ((48 + n % 10) ∷ []) (drop (suc k) written) in
+    rw (less, first, behind, add-one) refl

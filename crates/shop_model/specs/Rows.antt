@@ -7,6 +7,7 @@ use Rattle.shop_model.specs.declared.card_type.CardType.{CardType}
 use Rattle.shop_model.specs.declared.ship_type.ShipType.{ShipType}
 use Rattle.shop_model.specs.declared.order_state.OrderState.{OrderState}
 
+-- a customer
 pub record CustomerRow : Type 0 where
   pub id : ℕ
   pub user : List ℕ
@@ -25,6 +26,7 @@ pub record IsCustomer (row : CustomerRow) : Type 0 where
   pub login : row.login ≤ stamp_limit
   pub expiry : row.expiry ≤ stamp_limit + session_time
 
+-- a book
 pub record ItemRow : Type 0 where
   pub id : ℕ
   pub title : List ℕ
@@ -52,6 +54,7 @@ pub record IsItem (row : ItemRow) : Type 0 where
   pub first_stock : row.first_stock ≤ stock_limit
   pub restocks : row.restocks ≤ restocks_limit
 
+-- a line of an order
 pub record LineRow : Type 0 where
   pub number : ℕ
   pub item : ℕ
@@ -62,6 +65,7 @@ pub record IsLine (row : LineRow) : Type 0 where
   pub quantity : row.quantity ≤ quantity_limit
   pub cost : row.cost ≤ price_limit
 
+-- a payment by card; `auth` has the codes of the authorisation's digits
 pub record CardUseRow : Type 0 where
   pub card : CardType
   pub number : List ℕ
@@ -75,6 +79,7 @@ pub record CardUseRow : Type 0 where
 pub record IsCardUse (row : CardUseRow) : Type 0 where
   pub stamp : row.stamp ≤ stamp_limit
 
+-- an order with its lines and its payment
 pub record OrderRow : Type 0 where
   pub id : ℕ
   pub customer : ℕ
@@ -96,7 +101,7 @@ pub record IsOrder (row : OrderRow) : Type 0 where
   pub discount : row.discount ≤ discount_limit
   pub ship_day : row.ship_day ≤ day_limit
 
--- lines are pairs of an item and a quantity
+-- a cart, whose lines are pairs of an item and a quantity
 pub record CartRow : Type 0 where
   pub id : ℕ
   pub lines : List (ℕ × ℕ)

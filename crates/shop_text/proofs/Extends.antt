@@ -1,5 +1,6 @@
 -- Texts that were only added to begin with what stood there before.
-use Rattle.std.proofs.Common.{ℕ, ◌≤◌, List, ◌++◌, length, arith, ap, sym, ◌∙◌}
+use Rattle.std.proofs.Common.{◌≡◌, ℕ, ◌≤◌, List, ◌++◌, length, arith, ap, sym, ◌∙◌}
+use Rattle.std.proofs.Math.Seq.{take-append_seam}
 use Rattle.std.proofs.lemmas.List.{length-take, take-append-le, take-take}
 use Rattle.shop_text.specs.Extends.{Extends}
 
@@ -14,3 +15,7 @@ pub Extends-trans : (before now later : List ℕ) → Extends before now → Ext
 Extends-trans before now later first second =
     let twice = take-take (length before) (length now) later (longer before now first) in
     sym (rw second at twice) ∙ first
+
+pub Extends-after : (before more now later : List ℕ) → now ≡ before ++ more → Extends now later → Extends before later
+Extends-after before more now later is second =
+    Extends-trans before now later (rw is (take-append_seam before more)) second

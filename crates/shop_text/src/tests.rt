@@ -1,14 +1,6 @@
 use super::*;
 use std::test::Fail;
 
-fn made(text: Result<Text, Memory>) -> Result<Text, Fail> {
-    Ok(text.ok().ok_or("out of memory")?)
-}
-
-fn added(pushed: Result<(), Memory>) -> Result<(), Fail> {
-    Ok(pushed.ok().ok_or("out of memory")?)
-}
-
 #[test]
 fn numbers_in_syllables(rt: HostRuntime) -> Result<(), Fail> {
     let alloc = rt.alloc();
@@ -19,11 +11,8 @@ fn numbers_in_syllables(rt: HostRuntime) -> Result<(), Fail> {
         (1_345_679, "OGRIRESEATULNG", "ogrireseatulng"),
     ];
     for (number, name, small) in cases {
-        assert_eq!(rt; made(digsyl(alloc, number))?.bytes(), name.as_bytes());
-        assert_eq!(rt;
-            made(digsyl_lower(alloc, number))?.bytes(),
-            small.as_bytes()
-        );
+        assert_eq!(rt; digsyl(alloc, number)?.bytes(), name.as_bytes());
+        assert_eq!(rt; digsyl_lower(alloc, number)?.bytes(), small.as_bytes());
     }
     Ok(())
 }
@@ -37,7 +26,7 @@ fn amounts_in_cents(rt: HostRuntime) -> Result<(), Fail> {
         (u64::MAX, "184467440737095516.15"),
     ];
     for (cents, want) in cases {
-        assert_eq!(rt; made(cents_text(alloc, cents))?.bytes(), want.as_bytes());
+        assert_eq!(rt; cents_text(alloc, cents)?.bytes(), want.as_bytes());
     }
     Ok(())
 }
@@ -52,7 +41,7 @@ fn days_as_dates(rt: HostRuntime) -> Result<(), Fail> {
         (2_932_896, "9999-12-31"),
     ];
     for (day, want) in cases {
-        assert_eq!(rt; made(day_text(alloc, day))?.bytes(), want.as_bytes());
+        assert_eq!(rt; day_text(alloc, day)?.bytes(), want.as_bytes());
     }
     Ok(())
 }
@@ -67,10 +56,7 @@ fn escaped_bytes(rt: HostRuntime) -> Result<(), Fail> {
         ("&&end", "&amp;&amp;end"),
     ];
     for (bytes, want) in cases {
-        assert_eq!(rt;
-            made(escape(alloc, bytes.as_bytes()))?.bytes(),
-            want.as_bytes()
-        );
+        assert_eq!(rt; escape(alloc, bytes.as_bytes())?.bytes(), want.as_bytes());
     }
     Ok(())
 }
@@ -95,18 +81,18 @@ fn bytes_without_case(rt: HostRuntime) {
 #[test]
 fn pushes_add_at_the_end(rt: HostRuntime) -> Result<(), Fail> {
     let alloc = rt.alloc();
-    let mut text = made(Text::with_capacity(alloc, 4))?;
+    let mut text = Text::with_capacity(alloc, 4)?;
     assert!(rt; text.is_empty());
-    added(text.reserve(64))?;
-    added(text.push(b"of "))?;
-    added(text.push_decimal(1_000))?;
-    added(text.push_escaped(b" & "))?;
-    added(text.push_cents(1_234))?;
-    added(text.push(b" "))?;
-    added(text.push_day(1))?;
-    added(text.push_digsyl(7))?;
-    added(text.push_digsyl_lower(7))?;
-    let want = made(Text::copy(alloc, b"of 1000 &amp; 12.34 1970-01-02ULul"))?;
+    text.reserve(64)?;
+    text.push(b"of ")?;
+    text.push_decimal(1_000)?;
+    text.push_escaped(b" & ")?;
+    text.push_cents(1_234)?;
+    text.push(b" ")?;
+    text.push_day(1)?;
+    text.push_digsyl(7)?;
+    text.push_digsyl_lower(7)?;
+    let want = Text::copy(alloc, b"of 1000 &amp; 12.34 1970-01-02ULul")?;
     assert!(rt; text == want);
     text.truncate(2);
     assert_eq!(rt; text.bytes(), b"of".as_slice());
@@ -118,9 +104,9 @@ fn pushes_add_at_the_end(rt: HostRuntime) -> Result<(), Fail> {
 #[test]
 fn a_list_keeps_its_order(rt: HostRuntime) -> Result<(), Fail> {
     let alloc = rt.alloc();
-    let mut list = Listed::with_capacity(alloc, 1).ok().ok_or("out of memory")?;
+    let mut list = Listed::with_capacity(alloc, 1)?;
     for number in [3u32, 1, 2] {
-        added(list.push(number))?;
+        list.push(number)?;
     }
     let again = Listed::from_vec(list.into_vec());
     assert_eq!(rt; again.as_slice(), [3, 1, 2].as_slice());
