@@ -29,14 +29,16 @@ unfolding followers follower
 followers_are n r = rw add-zero
 
 -- what holds of the follower at each place holds of all five
-all_followers : (P : ℕ → Type 0) (n r : ℕ) → ((k : ℕ) → k < 5 → P (follower n r k)) → All P (followers n r)
+all_followers : (P : ℕ → Type 0) (n r : ℕ)
+    → ((k : ℕ) → k < 5 → P (follower n r k)) → All P (followers n r)
 all_followers P n r each = rw followers_are (λ k d within.
     let few : k < 5 = rw length-map-range_with_len at within in
     rw (get_or-map-range_with_len (follower n r) 0 5 k k d few (omega arith)) (each k few))
 
 pub followers_exist : (n r : ℕ) → 1 ≤ n → All (Has n) (followers n r)
 unfolding follower
-followers_exist n r some = all_followers (Has n) n r (λ k few. record { first = omega arith; last = omega arith })
+followers_exist n r some =
+    all_followers (Has n) n r (λ k few. record { first = omega arith; last = omega arith })
 
 pub followers_are_others : (n r : ℕ) → 6 ≤ n → 1 ≤ r → r ≤ n → All (λ id. id ≢ r) (followers n r)
 unfolding follower

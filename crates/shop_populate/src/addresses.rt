@@ -6,6 +6,7 @@ use shop_model::{Address, AddressText, Scale, drawn};
 use shop_text::{Listed, Memory, Text};
 use std::alloc::Global;
 
+/// The table's number in the drawn words.
 const ADDRESSES: u64 = 2;
 
 const LONGEST_STREET: usize = b"200 Kitchen Street".len();
@@ -16,24 +17,24 @@ const ZIP: usize = 5;
 
 /// `NUMBER NOUN Street`.
 #[tactic(auto, unfolding(shop_model::specs::Population::street))]
-fn street(alloc: Global, number: u32, name: u32) -> Result<Text, Memory>
-    ensures { IfOk result (λ text. text ≡ spec.street number name) }
+fn street(alloc: Global, number_word: u32, noun_word: u32) -> Result<Text, Memory>
+    ensures { IfOk result (λ text. text ≡ spec.street number_word noun_word) }
 {
     let mut text = Text::with_capacity(alloc, LONGEST_STREET)?;
-    text.push_decimal(1 + number as u64 % 200)?;
+    text.push_decimal(1 + number_word as u64 % 200)?;
     text.push(b" ")?;
-    text.push(noun(name))?;
+    text.push(noun(noun_word))?;
     text.push(b" Street")?;
     Ok(text)
 }
 
 /// A last name with `ton` behind it.
 #[tactic(auto, unfolding(shop_model::specs::Population::city))]
-fn city(alloc: Global, name: u32) -> Result<Text, Memory>
-    ensures { IfOk result (λ text. text ≡ spec.city name) }
+fn city(alloc: Global, name_word: u32) -> Result<Text, Memory>
+    ensures { IfOk result (λ text. text ≡ spec.city name_word) }
 {
     let mut text = Text::with_capacity(alloc, LONGEST_CITY)?;
-    text.push(last_name(name))?;
+    text.push(last_name(name_word))?;
     text.push(b"ton")?;
     Ok(text)
 }
@@ -53,13 +54,13 @@ fn zip(alloc: Global, word: u32) -> Result<Text, Memory>
 fn address_row(alloc: Global, seed: u32, scale: &Scale, id: u32) -> Result<Address, Memory>
     ensures { IfOk result (λ row. row ≡ spec.address_row seed scale.now id) }
 {
-    let [number, name, town, state, code, country] = drawn::<6>(seed, scale, ADDRESSES, id);
+    let [number, noun_word, name, state, code, country] = drawn::<6>(seed, scale, ADDRESSES, id);
     Ok(Address {
         id,
         text: AddressText {
-            street1: street(alloc, number, name)?,
+            street1: street(alloc, number, noun_word)?,
             street2: Text::new(alloc),
-            city: city(alloc, town)?,
+            city: city(alloc, name)?,
             state: Text::copy(alloc, adjective(state))?,
             zip: zip(alloc, code)?,
             country: 1 + country % 92,

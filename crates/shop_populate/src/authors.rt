@@ -6,6 +6,7 @@ use shop_model::{Author, Scale, drawn};
 use shop_text::{Listed, Memory, Text};
 use std::alloc::Global;
 
+/// The table's number in the drawn words.
 const AUTHORS: u64 = 4;
 
 /// The author with this id.

@@ -8,6 +8,8 @@ use std::alloc::Global;
 
 const NUMBER: usize = 16;
 
+const LONGEST_NAME: usize = b"Hugo Parker".len();
+
 /// The authorisation of a populated order: that of caller 0 at the call with the order's number.
 #[tactic(auto, unfolding(shop_model::specs::AuthIds::auth_number))]
 fn auth_id(number: u64, cents: u64, call: u32) -> AuthId
@@ -24,7 +26,8 @@ fn auth_id(number: u64, cents: u64, call: u32) -> AuthId
 fn card_name(alloc: Global, customer: &Customer) -> Result<Text, Memory>
     ensures { IfOk result (λ text. text ≡ spec.card_name customer.now) }
 {
-    let mut text = Text::copy(alloc, customer.first.bytes())?;
+    let mut text = Text::with_capacity(alloc, LONGEST_NAME)?;
+    text.push(customer.first.bytes())?;
     text.push(b" ")?;
     text.push(customer.last.bytes())?;
     Ok(text)

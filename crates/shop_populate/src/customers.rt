@@ -7,6 +7,7 @@ use shop_model::{Customer, Scale, drawn};
 use shop_text::{Listed, Memory, Text};
 use std::alloc::Global;
 
+/// The table's number in the drawn words.
 const CUSTOMERS: u64 = 3;
 
 const LONGEST_USER: usize = b"ALINNGNGNG".len();

@@ -6,6 +6,7 @@ use shop_model::{Backing, Item, Scale, Subject, drawn};
 use shop_text::{Listed, Memory, Text};
 use std::alloc::Global;
 
+/// The table's number in the drawn words.
 const ITEMS: u64 = 5;
 
 const LONGEST_TITLE: usize = b"Distant Kitchen OGBABABABA".len();
@@ -16,13 +17,13 @@ const LONGEST_PICTURE: usize = b"/img/thumb_10000.gif".len();
 
 /// `ADJECTIVE NOUN SYLLABLES`.
 #[tactic(auto, unfolding(shop_model::specs::Population::title))]
-fn title(alloc: Global, kind: u32, thing: u32, id: u32) -> Result<Text, Memory>
-    ensures { IfOk result (λ text. text ≡ spec.title kind thing id) }
+fn title(alloc: Global, adjective_word: u32, noun_word: u32, id: u32) -> Result<Text, Memory>
+    ensures { IfOk result (λ text. text ≡ spec.title adjective_word noun_word id) }
 {
     let mut text = Text::with_capacity(alloc, LONGEST_TITLE)?;
-    text.push(adjective(kind))?;
+    text.push(adjective(adjective_word))?;
     text.push(b" ")?;
-    text.push(noun(thing))?;
+    text.push(noun(noun_word))?;
     text.push(b" ")?;
     text.push_digsyl(id)?;
     Ok(text)
@@ -30,14 +31,14 @@ fn title(alloc: Global, kind: u32, thing: u32, id: u32) -> Result<Text, Memory>
 
 /// `About a ADJECTIVE NOUN.`
 #[tactic(auto, unfolding(shop_model::specs::Population::about))]
-fn about(alloc: Global, kind: u32, thing: u32) -> Result<Text, Memory>
-    ensures { IfOk result (λ text. text ≡ spec.about kind thing) }
+fn about(alloc: Global, adjective_word: u32, noun_word: u32) -> Result<Text, Memory>
+    ensures { IfOk result (λ text. text ≡ spec.about adjective_word noun_word) }
 {
     let mut text = Text::with_capacity(alloc, LONGEST_ABOUT)?;
     text.push(b"About a ")?;
-    text.push(adjective(kind))?;
+    text.push(adjective(adjective_word))?;
     text.push(b" ")?;
-    text.push(noun(thing))?;
+    text.push(noun(noun_word))?;
     text.push(b".")?;
     Ok(text)
 }
@@ -81,11 +82,11 @@ fn srp(word: u32) -> u64
 
 /// The price, in cents: the recommended one less 0 to 50 per cent, rounded down.
 #[tactic(auto, unfolding(shop_model::specs::Population::cost))]
-fn cost(price: u32, off: u32) -> u64
-    ensures value { result ≡ spec.cost price off }
+fn cost(srp_word: u32, discount_word: u32) -> u64
+    ensures value { result ≡ spec.cost srp_word discount_word }
     ensures bound { result < 10_000 }
 {
-    srp(price) * (100 - (off % 51) as u64) / 100
+    srp(srp_word) * (100 - (discount_word % 51) as u64) / 100
 }
 
 #[tactic(auto, unfolding(shop_model::specs::Population::stock))]
@@ -104,32 +105,32 @@ fn item_row(alloc: Global, seed: u32, scale: &Scale, id: u32) -> Result<Item, Me
     ensures { IfOk result (λ row. row ≡ spec.item_row seed scale.now id) }
 {
     let [
-        kind,
-        thing,
+        title_adjective,
+        title_noun,
         subject,
         day,
         house,
         price,
-        off,
+        discount,
         level,
         pages,
         backing,
-        about_kind,
-        about_thing,
+        about_adjective,
+        about_noun,
     ] = drawn::<12>(seed, scale, ITEMS, id);
     Ok(Item {
         id,
-        title: title(alloc, kind, thing, id)?,
+        title: title(alloc, title_adjective, title_noun, id)?,
         author: 1 + (id - 1) % scale.authors,
         subject: Subject::picked(subject),
         published: 3652 + day % 9000,
         publisher: Text::copy(alloc, publisher(house))?,
-        about: about(alloc, about_kind, about_thing)?,
+        about: about(alloc, about_adjective, about_noun)?,
         related: followers(scale.items, id),
         thumb: picture(alloc, b"/img/thumb_", id)?,
         image: picture(alloc, b"/img/image_", id)?,
         srp: srp(price),
-        cost: cost(price, off),
+        cost: cost(price, discount),
         stock: stock(level),
         restocks: 0,
         first_stock: stock(level),

@@ -1,4 +1,7 @@
 //! The tables that a shop opens with, drawn from a seed.
+//!
+//! Each row comes from its id and its own drawn words. The tables are made in one pass each, with their
+//! size reserved; an order looks up its customer, address and items in the tables made before it.
 #![tactic(auto)]
 
 mod addresses;

@@ -9,6 +9,7 @@ use shop_model::{Address, Customer, Item, Line, Order, OrderState, Scale, ShipTy
 use shop_text::{Listed, Memory};
 use std::alloc::Global;
 
+/// The table's number in the drawn words.
 const ORDERS: u64 = 6;
 
 /// The drawn words that pick what an order is, beside its customer and its lines.
@@ -40,7 +41,8 @@ fn order_of(
     picks: Picks,
 ) -> Result<Order, Memory>
     requires { length lines ≤ 100 }
-    ensures { IfOk result (λ row. row ≡ spec.order_of customer.now address.now lines id picks.day picks.delay picks.card picks.state picks.carrier) }
+    ensures { IfOk result (λ row. row ≡ spec.order_of customer.now address.now lines id
+        picks.day picks.delay picks.card picks.state picks.carrier) }
 {
     let charge = charged(lines.as_slice(), customer.discount);
     let card = card_of(
@@ -88,9 +90,9 @@ fn order_row(
     let [
         buyer,
         count,
-        first,
+        item_word,
         day,
-        amount,
+        quantity_word,
         delay,
         card,
         state,
@@ -98,7 +100,15 @@ fn order_row(
     ] = drawn::<9>(seed, scale, ORDERS, id);
     let customer = customer_at(seed, scale, customers, 1 + buyer % scale.customers);
     let address = address_at(seed, scale, addresses, customer.address);
-    let lines = order_lines(alloc, seed, scale, items, first, amount, size(count))?;
+    let lines = order_lines(
+        alloc,
+        seed,
+        scale,
+        items,
+        item_word,
+        quantity_word,
+        size(count),
+    )?;
     let picks = Picks {
         day,
         delay,

@@ -9,7 +9,8 @@ index_mut-requires c =
     omega (arith, within, c.loop-order.lasts.ok)
 
 pub loop-order-init : goal.loop-order-init
-loop-order-init c = c.in_ok-lasts.ensures.items_if_clones_equal (λ y h. search rules) ∙ none_yet 1 c.args.customers
+loop-order-init c =
+    c.in_ok-lasts.ensures.items_if_clones_equal (λ y h. search rules) ∙ none_yet 1 c.args.customers
 
 pub loop-order-preserved : goal.loop-order-preserved
 loop-order-preserved c =

@@ -6,7 +6,8 @@ use Rattle.shop_populate.proofs.lookups.customer_at.Goals as goal
 
 pub returns-clause-value : goal.returns-clause-value
 unfolding spec.customers_table
-returns-clause-value c = row_at _ _ _ _ _ c.requires.table c.requires.has.first c.requires.has.last c.index-customers-id.is
+returns-clause-value c =
+    row_at _ _ _ _ _ c.requires.table c.requires.has.first c.requires.has.last c.index-customers-id.is
 
 pub returns-clause-known : goal.returns-clause-known
 returns-clause-known c =

@@ -1,4 +1,4 @@
-use Rattle.std.proofs.Common.{◌≡◌, ◌∙◌}
+use Rattle.std.proofs.Common.{◌∙◌}
 use Rattle.shop_model.specs.Population as spec
 use Rattle.shop_populate.proofs.orders.order_of.Goals as goal
 

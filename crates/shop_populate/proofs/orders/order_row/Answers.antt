@@ -7,4 +7,13 @@ pub returns : goal.returns
 unfolding spec.order_row spec.order_customer spec.order_address spec.order_lines
 returns c =
     let address = ap (λ (x : CustomerRow). x.address) c.customer.view_is in
-    rw (c.in_ok-order.ensures, c.address_at-address.ensures, address, c.customer_at-customer.ensures.value, c.in_ok-lines.ensures.value, c.size.ensures.value, c.drawn.ensures, ← c.scale.view_is)
+    rw (
+      c.in_ok-order.ensures,
+      c.address_at-address.ensures,
+      address,
+      c.customer_at-customer.ensures.value,
+      c.in_ok-lines.ensures.value,
+      c.size.ensures.value,
+      c.drawn.ensures,
+      ← c.scale.view_is,
+    )

@@ -4,11 +4,13 @@ use Rattle.shop_populate.proofs.population.populate.Goals as goal
 
 pub last_orders_table-requires-clause-run : goal.last_orders_table-requires-clause-run
 last_orders_table-requires-clause-run c =
-    rw (c.as_slice-4.ensures, c.in_ok-orders.ensures) (orders_run c.args.seed c.args.scale.now (rw (← c.scale.view_is) c.scale.invariant))
+    rw (c.as_slice-4.ensures, c.in_ok-orders.ensures, ← c.scale.view_is)
+    (orders_run c.args.seed _ c.scale.invariant)
 
 pub last_orders_table-requires-clause-known : goal.last_orders_table-requires-clause-known
 last_orders_table-requires-clause-known c =
-    rw (c.as_slice-4.ensures, c.in_ok-orders.ensures, ← c.scale.view_is) (buyers_exist c.args.seed _ c.scale.invariant)
+    rw (c.as_slice-4.ensures, c.in_ok-orders.ensures, ← c.scale.view_is)
+    (buyers_exist c.args.seed _ c.scale.invariant)
 
 pub returns-clause-value : goal.returns-clause-value
 unfolding spec.populated spec.lasts_table
@@ -27,7 +29,9 @@ returns-clause-value c =
     )
 
 pub returns-clause-sound : goal.returns-clause-sound
-returns-clause-sound c = rw (returns-clause-value c) (is_sound c.args.seed c.args.scale.now (rw (← c.scale.view_is) c.scale.invariant))
+returns-clause-sound c =
+    rw (returns-clause-value c, ← c.scale.view_is) (is_sound c.args.seed _ c.scale.invariant)
 
 pub returns-clause-room : goal.returns-clause-room
-returns-clause-room c = rw (returns-clause-value c) (has_room c.args.seed c.args.scale.now (rw (← c.scale.view_is) c.scale.invariant))
+returns-clause-room c =
+    rw (returns-clause-value c, ← c.scale.view_is) (has_room c.args.seed _ c.scale.invariant)
