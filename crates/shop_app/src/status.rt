@@ -33,8 +33,8 @@ impl Status {
         }
     }
 
-    /// The line that tells it, which is empty where all went well.
-    pub(crate) fn line(&self) -> &'static [u8]
+    /// The line for the faults sink, which is empty where all went well.
+    pub fn line(&self) -> &'static [u8]
         ensures { result.now ≡ fault_line self.now }
     {
         match self {

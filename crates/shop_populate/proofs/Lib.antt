@@ -1,0 +1,4 @@
+pub mod Followers
+pub mod RowFacts
+pub mod LastExists
+pub mod Opening

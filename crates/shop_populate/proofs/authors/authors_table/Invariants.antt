@@ -1,0 +1,6 @@
+use Rattle.std.proofs.Common.{◌≡◌}
+use Rattle.shop_model.specs.Population as spec
+use Rattle.shop_populate.proofs.authors.authors_table.Given as goal
+
+abbrev pub invariant-loop-made : goal.invariant-loop-made
+invariant-loop-made l = l.table ≡ spec.rows (spec.author_row l.seed l.scale) l.made

@@ -1,0 +1,44 @@
+ghost use Rattle.std.specs.Prelude.{◌≡◌, ◌≤◌, ◌++◌, IfOk};
+ghost use Rattle.shop_model.specs.Population as spec;
+
+use shop_model::Country;
+use shop_text::{Listed, Memory, Text};
+use std::alloc::Global;
+
+/// How many countries there are, at every scale.
+const COUNTRIES: u32 = 92;
+
+const LONGEST_NAME: usize = b"Country NGAL".len();
+
+#[tactic(auto, unfolding(shop_model::specs::Population::country_name))]
+fn country_name(alloc: Global, id: u32) -> Result<Text, Memory>
+    ensures { IfOk result (λ text. text ≡ spec.country_name id) }
+{
+    let mut text = Text::with_capacity(alloc, LONGEST_NAME)?;
+    text.push(b"Country ")?;
+    text.push_digsyl(id)?;
+    Ok(text)
+}
+
+/// The country with this id.
+#[tactic(auto, unfolding(shop_model::specs::Population::country_row))]
+fn country_row(alloc: Global, id: u32) -> Result<Country, Memory>
+    ensures { IfOk result (λ row. row ≡ spec.country_row id) }
+{
+    Ok(Country {
+        id,
+        name: country_name(alloc, id)?,
+    })
+}
+
+/// All countries.
+#[tactic(auto, using(shop_model::proofs::Lists::rows_push), unfolding(shop_model::specs::Population::countries_table))]
+pub fn countries_table(alloc: Global) -> Result<Listed<Country>, Memory>
+    ensures { IfOk result (λ table. table ≡ spec.countries_table) }
+{
+    let mut table = Listed::with_capacity(alloc, COUNTRIES as usize)?;
+    for made in 0..COUNTRIES {
+        table.push(country_row(alloc, made + 1)?)?;
+    }
+    Ok(table)
+}

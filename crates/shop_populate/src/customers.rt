@@ -1,0 +1,88 @@
+ghost use Rattle.std.specs.Prelude.{◌≡◌, ◌≤◌, ◌++◌, IfOk};
+ghost use Rattle.shop_model.specs.Population as spec;
+ghost use Rattle.shop_text.specs.Texts.{digsyl, digsyl_lower};
+
+use shop_model::words::{first_name, last_name};
+use shop_model::{Customer, Scale, drawn};
+use shop_text::{Listed, Memory, Text};
+use std::alloc::Global;
+
+/// The table's number in the drawn words.
+const CUSTOMERS: u64 = 3;
+
+const LONGEST_USER: usize = b"ALINNGNGNG".len();
+
+const LONGEST_EMAIL: usize = b"alinngngng@shop.example".len();
+
+const PHONE: usize = 10;
+
+/// The syllables of the id.
+fn user_name(alloc: Global, id: u32) -> Result<Text, Memory>
+    ensures { IfOk result (λ text. text ≡ digsyl id) }
+{
+    let mut text = Text::with_capacity(alloc, LONGEST_USER)?;
+    text.push_digsyl(id)?;
+    Ok(text)
+}
+
+/// The user name in lower case.
+fn password(alloc: Global, id: u32) -> Result<Text, Memory>
+    ensures { IfOk result (λ text. text ≡ digsyl_lower id) }
+{
+    let mut text = Text::with_capacity(alloc, LONGEST_USER)?;
+    text.push_digsyl_lower(id)?;
+    Ok(text)
+}
+
+/// Ten digits.
+#[tactic(auto, unfolding(shop_model::specs::Population::phone))]
+fn phone(alloc: Global, word: u32) -> Result<Text, Memory>
+    ensures { IfOk result (λ text. text ≡ spec.phone word) }
+{
+    let mut text = Text::with_capacity(alloc, PHONE)?;
+    text.push_decimal(2_000_000_000 + word as u64 % 1_000_000_000)?;
+    Ok(text)
+}
+
+#[tactic(auto, unfolding(shop_model::specs::Population::email))]
+fn email(alloc: Global, id: u32) -> Result<Text, Memory>
+    ensures { IfOk result (λ text. text ≡ spec.email id) }
+{
+    let mut text = Text::with_capacity(alloc, LONGEST_EMAIL)?;
+    text.push_digsyl_lower(id)?;
+    text.push(b"@shop.example")?;
+    Ok(text)
+}
+
+/// The customer with this id.
+#[tactic(auto, unfolding(shop_model::specs::Population::customer_row))]
+fn customer_row(alloc: Global, seed: u32, scale: &Scale, id: u32) -> Result<Customer, Memory>
+    ensures { IfOk result (λ row. row ≡ spec.customer_row seed scale.now id) }
+{
+    let [first, last, address, discount, number] = drawn::<5>(seed, scale, CUSTOMERS, id);
+    Ok(Customer {
+        id,
+        user: user_name(alloc, id)?,
+        password: password(alloc, id)?,
+        first: Text::copy(alloc, first_name(first))?,
+        last: Text::copy(alloc, last_name(last))?,
+        address: 1 + address % scale.addresses,
+        discount: discount % 51,
+        phone: phone(alloc, number)?,
+        email: email(alloc, id)?,
+        login: 0,
+        expiry: 0,
+    })
+}
+
+/// The customers of a shop.
+#[tactic(auto, using(shop_model::proofs::Lists::rows_push), unfolding(shop_model::specs::Population::customers_table))]
+pub fn customers_table(alloc: Global, seed: u32, scale: &Scale) -> Result<Listed<Customer>, Memory>
+    ensures { IfOk result (λ table. table ≡ spec.customers_table seed scale.now) }
+{
+    let mut table = Listed::with_capacity(alloc, scale.customers as usize)?;
+    for made in 0..scale.customers {
+        table.push(customer_row(alloc, seed, scale, made + 1)?)?;
+    }
+    Ok(table)
+}

@@ -1,0 +1,152 @@
+ghost use Rattle.std.specs.Prelude.{◌≡◌, ◌≤◌, ◌<◌, ◌++◌, IfOk};
+ghost use Rattle.shop_model.specs.Population as spec;
+
+use shop_model::words::{adjective, noun, publisher};
+use shop_model::{Backing, Item, Scale, Subject, drawn};
+use shop_text::{Listed, Memory, Text};
+use std::alloc::Global;
+
+/// The table's number in the drawn words.
+const ITEMS: u64 = 5;
+
+const LONGEST_TITLE: usize = b"Distant Kitchen OGBABABABA".len();
+
+const LONGEST_ABOUT: usize = b"About a Distant Kitchen.".len();
+
+const LONGEST_PICTURE: usize = b"/img/thumb_10000.gif".len();
+
+/// `ADJECTIVE NOUN SYLLABLES`.
+#[tactic(auto, unfolding(shop_model::specs::Population::title))]
+fn title(alloc: Global, adjective_word: u32, noun_word: u32, id: u32) -> Result<Text, Memory>
+    ensures { IfOk result (λ text. text ≡ spec.title adjective_word noun_word id) }
+{
+    let mut text = Text::with_capacity(alloc, LONGEST_TITLE)?;
+    text.push(adjective(adjective_word))?;
+    text.push(b" ")?;
+    text.push(noun(noun_word))?;
+    text.push(b" ")?;
+    text.push_digsyl(id)?;
+    Ok(text)
+}
+
+/// `About a ADJECTIVE NOUN.`
+#[tactic(auto, unfolding(shop_model::specs::Population::about))]
+fn about(alloc: Global, adjective_word: u32, noun_word: u32) -> Result<Text, Memory>
+    ensures { IfOk result (λ text. text ≡ spec.about adjective_word noun_word) }
+{
+    let mut text = Text::with_capacity(alloc, LONGEST_ABOUT)?;
+    text.push(b"About a ")?;
+    text.push(adjective(adjective_word))?;
+    text.push(b" ")?;
+    text.push(noun(noun_word))?;
+    text.push(b".")?;
+    Ok(text)
+}
+
+/// The path of a picture: the front, the id's digits and `.gif`.
+#[tactic(auto, unfolding(shop_model::specs::Population::picture))]
+fn picture(alloc: Global, front: &[u8], id: u32) -> Result<Text, Memory>
+    ensures { IfOk result (λ text. text ≡ spec.picture front.now id) }
+{
+    let mut text = Text::with_capacity(alloc, LONGEST_PICTURE)?;
+    text.push(front)?;
+    text.push_decimal(id as u64)?;
+    text.push(b".gif")?;
+    Ok(text)
+}
+
+/// The five items that follow this one in cyclic order.
+#[tactic(auto, unfolding(shop_model::specs::Population::followers))]
+fn followers(items: u32, id: u32) -> [u32; 5]
+    requires some { 0 < items }
+    requires small { id ≤ 10_000 }
+    ensures { result ≡ spec.followers items id }
+{
+    [
+        1 + id % items,
+        1 + (id + 1) % items,
+        1 + (id + 2) % items,
+        1 + (id + 3) % items,
+        1 + (id + 4) % items,
+    ]
+}
+
+/// The recommended price, in cents.
+#[tactic(auto, unfolding(shop_model::specs::Population::srp))]
+fn srp(word: u32) -> u64
+    ensures value { result ≡ spec.srp word }
+    ensures bound { result < 10_000 }
+{
+    100 + (word % 9900) as u64
+}
+
+/// The price, in cents: the recommended one less 0 to 50 per cent, rounded down.
+#[tactic(auto, unfolding(shop_model::specs::Population::cost))]
+fn cost(srp_word: u32, discount_word: u32) -> u64
+    ensures value { result ≡ spec.cost srp_word discount_word }
+    ensures bound { result < 10_000 }
+{
+    srp(srp_word) * (100 - (discount_word % 51) as u64) / 100
+}
+
+#[tactic(auto, unfolding(shop_model::specs::Population::stock))]
+fn stock(word: u32) -> u32
+    ensures value { result ≡ spec.stock word }
+    ensures bound { result ≤ 30 }
+{
+    10 + word % 21
+}
+
+/// The item with this id.
+#[tactic(auto, unfolding(shop_model::specs::Population::item_row))]
+fn item_row(alloc: Global, seed: u32, scale: &Scale, id: u32) -> Result<Item, Memory>
+    requires first { 1 ≤ id }
+    requires last { id ≤ 10_000 }
+    ensures { IfOk result (λ row. row ≡ spec.item_row seed scale.now id) }
+{
+    let [
+        title_adjective,
+        title_noun,
+        subject,
+        day,
+        house,
+        price,
+        discount,
+        level,
+        pages,
+        backing,
+        about_adjective,
+        about_noun,
+    ] = drawn::<12>(seed, scale, ITEMS, id);
+    Ok(Item {
+        id,
+        title: title(alloc, title_adjective, title_noun, id)?,
+        author: 1 + (id - 1) % scale.authors,
+        subject: Subject::picked(subject),
+        published: 3652 + day % 9000,
+        publisher: Text::copy(alloc, publisher(house))?,
+        about: about(alloc, about_adjective, about_noun)?,
+        related: followers(scale.items, id),
+        thumb: picture(alloc, b"/img/thumb_", id)?,
+        image: picture(alloc, b"/img/image_", id)?,
+        srp: srp(price),
+        cost: cost(price, discount),
+        stock: stock(level),
+        restocks: 0,
+        first_stock: stock(level),
+        pages: 20 + pages % 9980,
+        backing: Backing::picked(backing),
+    })
+}
+
+/// The items of a shop.
+#[tactic(auto, using(shop_model::proofs::Lists::rows_push), unfolding(shop_model::specs::Population::items_table))]
+pub fn items_table(alloc: Global, seed: u32, scale: &Scale) -> Result<Listed<Item>, Memory>
+    ensures { IfOk result (λ table. table ≡ spec.items_table seed scale.now) }
+{
+    let mut table = Listed::with_capacity(alloc, scale.items as usize)?;
+    for made in 0..scale.items {
+        table.push(item_row(alloc, seed, scale, made + 1)?)?;
+    }
+    Ok(table)
+}

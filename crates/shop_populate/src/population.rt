@@ -1,0 +1,50 @@
+ghost use Rattle.std.specs.Prelude.{◌≡◌, IfOk};
+ghost use Rattle.shop_model.specs.Population as spec;
+ghost use Rattle.shop_model.specs.Sound.{Room, Sound};
+
+use crate::addresses::addresses_table;
+use crate::authors::authors_table;
+use crate::countries::countries_table;
+use crate::customers::customers_table;
+use crate::items::items_table;
+use crate::last_orders::last_orders_table;
+use crate::orders::orders_table;
+use shop_model::{Scale, Tables};
+use shop_text::{Listed, Memory};
+use std::alloc::Global;
+
+/// The tables that a shop of this scale opens with, each row drawn from the seed and its own id.
+///
+/// The tables are sound, and have room for 1,000,001 log entries. Only want of memory is refused.
+#[tactic(auto, unfolding(shop_model::specs::Population::populated))]
+pub fn populate(alloc: Global, seed: u32, scale: &Scale) -> Result<Tables, Memory>
+    ensures value { IfOk result (λ tables. tables ≡ spec.populated seed scale.now) }
+    ensures sound { IfOk result Sound }
+    ensures room { IfOk result (λ tables. Room tables 1_000_001) }
+{
+    let countries = countries_table(alloc)?;
+    let addresses = addresses_table(alloc, seed, scale)?;
+    let customers = customers_table(alloc, seed, scale)?;
+    let authors = authors_table(alloc, seed, scale)?;
+    let items = items_table(alloc, seed, scale)?;
+    let orders = orders_table(
+        alloc,
+        seed,
+        scale,
+        customers.as_slice(),
+        addresses.as_slice(),
+        items.as_slice(),
+    )?;
+    let last = last_orders_table(alloc, scale.customers, orders.as_slice())?;
+    Ok(Tables {
+        countries,
+        addresses,
+        customers,
+        authors,
+        items,
+        orders,
+        carts: Listed::new(alloc),
+        born_orders: scale.orders,
+        last,
+    })
+}
