@@ -41,7 +41,8 @@ impl AuthId {
 
     /// The ASCII codes of the digits.
     pub fn bytes(&self) -> &[u8]
-        ensures { result.now ≡ self.now }
+        ensures value { result.now ≡ self.now }
+        ensures form { spec.IsAuthId self.now }
     {
         &self.digits
     }
