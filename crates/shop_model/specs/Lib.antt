@@ -16,4 +16,8 @@ pub mod Money
 pub mod Sound
 pub mod Population
 pub mod PageText
+pub mod Targets
+pub mod Refusals
+pub mod Lookups
+pub mod Products
 pub mod Show

@@ -1,88 +1,85 @@
--- The pages that reading requests show, all this project's own.
-use Rattle.std.specs.Prelude.{ℕ, ◌-◌, ◌==◌, List, [], ◌∷◌, ◌++◌, slice_get, Option, Some, None, codes, decimal, unwrap_or, if◌then◌else◌}
-use Rattle.shop_text.specs.Texts.{cents_text, day_text}
-use Rattle.shop_model.specs.declared.author.Author.{Author}
-use Rattle.shop_model.specs.declared.tables.Tables.{Tables}
+-- What each request shows, this project's own wording of the TPC-W specification's interactions.
+use Rattle.std.specs.Prelude.{ℕ, ◌+◌, ◌%◌, List, [], ◌∷◌, ◌++◌, length, map, Option, Some, None, codes}
 use Rattle.shop_model.specs.declared.page.Block.{Block}
-use Rattle.shop_model.specs.declared.page.Block.TheVariants.{Heading, Para, Link, Picture}
+use Rattle.shop_model.specs.declared.page.Block.TheVariants.{Heading, Para, Form}
 use Rattle.shop_model.specs.declared.page.Page.{Page}
-use Rattle.shop_model.specs.Rows.{ItemRow}
-use Rattle.shop_model.specs.Subjects.{subject_name, backing_name}
+use Rattle.shop_model.specs.declared.requests.IdsAsked.{IdsAsked}
+use Rattle.shop_model.specs.declared.requests.Request.{Request}
+use Rattle.shop_model.specs.declared.requests.Request.TheVariants.{Home, ProductDetail, SearchRequest}
+use Rattle.shop_model.specs.declared.subject.Subject.{Subject}
+use Rattle.shop_model.specs.declared.subject.Subject.TheVariants.{Arts}
+use Rattle.shop_model.specs.declared.tables.Tables.{Tables}
+use Rattle.shop_model.specs.Lookups.{row_numbered, title_of, related_of}
+use Rattle.shop_model.specs.Products.{product_detail}
+use Rattle.shop_model.specs.Refusals.{not_found}
+use Rattle.shop_model.specs.Rows.{CustomerRow}
+use Rattle.shop_model.specs.Subjects.{subjects, subject_name}
+use Rattle.shop_model.specs.Targets.{id_fields, item_link, subject_link, nav}
+use Rattle.shop_model.specs.Words.{entry}
 
--- the row with an id, where ids run from 1
-abbrev pub row_numbered : {A : Type 0} → List A → ℕ → Option A
-row_numbered rows id = if id == 0 then None else slice_get rows (id - 1)
+-- a link to the page of an item, labelled with its title
+unfoldable pub promoted : Tables → IdsAsked → ℕ → Block
+promoted tables ids item = item_link (codes "/product_detail") item ids (title_of tables item)
 
--- the links that end each page
-unfoldable pub nav : List Block
-nav =
-    Link (codes "/home") (codes "Home")
-    ∷ Link (codes "/search_request") (codes "Search")
-    ∷ Link (codes "/shopping_cart") (codes "Cart")
+-- the promotion: the items that are related to a drawn one
+unfoldable pub promo : Tables → IdsAsked → ℕ → List Block
+promo tables ids draw = map (promoted tables ids) (related_of tables (1 + draw % length tables.items))
+
+-- the ways to the new and the best sold items of a subject
+unfoldable pub subject_links : Subject → IdsAsked → List Block
+subject_links subject ids =
+    subject_link (codes "/new_products") subject ids (codes "New " ++ subject_name subject)
+    ∷ subject_link (codes "/best_sellers") subject ids (codes "Best " ++ subject_name subject)
     ∷ []
 
--- a refusal says why in one paragraph, under the reason phrase of its status
-unfoldable pub refusal_page : ℕ → List ℕ → List ℕ → Page
-refusal_page status phrase text = record { status = status; title = phrase; blocks = Para text ∷ [] }
+-- the greeting of a customer
+unfoldable pub greeting : CustomerRow → List ℕ
+greeting customer = codes "Hello " ++ customer.first ++ codes " " ++ customer.last
 
-abbrev pub no_item_page : Page
-no_item_page = refusal_page 404 (codes "Not Found") (codes "No item has this number.")
-
--- the author of an item; where it has none, which sound tables rule out, one without a name
-abbrev pub author_of : Tables → ItemRow → Author
-author_of tables item =
-    unwrap_or (row_numbered tables.authors item.author) (record { id = 0; first = []; last = [] })
-
-unfoldable pub author_line : Author → List ℕ
-author_line author = codes "By " ++ author.first ++ codes " " ++ author.last
-
-unfoldable pub subject_line : ItemRow → List ℕ
-subject_line item =
-    codes "Subject " ++ subject_name item.subject
-    ++ codes ", published " ++ day_text item.published
-    ++ codes " by " ++ item.publisher
-
-unfoldable pub pages_line : ItemRow → List ℕ
-pages_line item = backing_name item.backing ++ codes ", " ++ decimal item.pages ++ codes " pages"
-
-unfoldable pub price_line : ItemRow → List ℕ
-price_line item =
-    codes "List " ++ cents_text item.srp
-    ++ codes ", our price " ++ cents_text item.cost
-    ++ codes ", in stock " ++ decimal item.stock
-
--- where one unit of an item is put into the cart
-unfoldable pub cart_target : ℕ → List ℕ
-cart_target id = codes "/shopping_cart?item=" ++ decimal id
-
--- the picture, the pages, the prices and the way into the cart
-unfoldable pub details : ItemRow → List Block
-details item =
-    Picture item.image item.title
-    ∷ Para (pages_line item)
-    ∷ Para (price_line item)
-    ∷ Link (cart_target item.id) (codes "Add to cart")
-    ∷ []
-
--- the page of an item and its author (TPC-W specification, Product Detail)
-unfoldable pub product_page : ItemRow → Author → Page
-product_page item author = record {
+-- the page of Home, with a greeting or none
+unfoldable pub home_page : Tables → IdsAsked → ℕ → List Block → Page
+home_page tables ids draw greetings = record {
   status = 200;
-  title = codes "Product Detail";
+  title = codes "Home";
   blocks =
-      Heading item.title
-      ∷ Para (author_line author)
-      ∷ Para (subject_line item)
-      ∷ Para item.about
-      ∷ details item
-      ++ nav;
+      Heading (codes "Welcome")
+      ∷ greetings
+      ++ promo tables ids draw
+      ++ subject_links (entry Arts subjects draw) ids
+      ++ nav ids;
 }
 
--- the page of an item, if there is one
-abbrev pub product_or_refusal : Tables → Option ItemRow → Page
-product_or_refusal tables None = no_item_page
-product_or_refusal tables (Some item) = product_page item (author_of tables item)
+-- the page of Home for a customer, if there is one
+abbrev pub home_or_refusal : Tables → IdsAsked → ℕ → Option CustomerRow → Page
+home_or_refusal tables ids draw None = not_found (codes "No customer has this number.")
+home_or_refusal tables ids draw (Some customer) =
+    home_page tables ids draw (Para (greeting customer) ∷ [])
 
--- what a request for the item with an id shows
-abbrev pub product_detail : Tables → ℕ → Page
-product_detail tables id = product_or_refusal tables (row_numbered tables.items id)
+-- Home greets the customer whose number was given
+abbrev pub home : Tables → IdsAsked → ℕ → Option ℕ → Page
+home tables ids draw None = home_page tables ids draw []
+home tables ids draw (Some c) =
+    home_or_refusal tables ids draw (row_numbered tables.customers c)
+
+-- the form of a search by title
+unfoldable pub search_form : IdsAsked → Block
+search_form ids =
+    Form
+    (codes "/search_results")
+    (record { name = codes "kind"; value = codes "title" }
+    ∷ record { name = codes "text"; value = [] }
+    ∷ id_fields ids)
+
+-- Search Request doesn't look at the customer
+unfoldable pub search_request : Tables → IdsAsked → ℕ → Page
+search_request tables ids draw = record {
+  status = 200;
+  title = codes "Search Request";
+  blocks = Heading (codes "Search") ∷ promo tables ids draw ++ search_form ids ∷ nav ids;
+}
+
+-- what a request shows by the tables, with the word that was drawn for it
+abbrev pub show : Tables → Request → ℕ → Page
+show tables (Home asked) draw = home tables asked.ids draw asked.ids.c
+show tables (ProductDetail asked) draw = product_detail tables asked.item asked.ids
+show tables (SearchRequest asked) draw = search_request tables asked.ids draw
