@@ -1,75 +1,75 @@
 -- How what a connection has met goes on by one message, and what it comes to at the end.
 use Rattle.std.proofs.Common.{◌≡◌, ℕ, ◌≤◌, List, [], ◌∷◌, ◌++◌, append_assoc, append-nil, refl, sym, ap, ◌∙◌, arith, subst, Some, None}
-use Rattle.std.specs.List.{flat_map}
 use Rattle.std.specs.Option.{IfSome}
 use Rattle.std.specs.declared.option.Option.{Option}
-use Rattle.std.proofs.lemmas.Grind.{flat_map-append}
 use Rattle.shop_edges.specs.Clocks.{Tells}
 use Rattle.shop_edges.proofs.Known.{Appends-more, Consumes-more}
 use Rattle.shop_model.specs.declared.tables.Tables.{Tables}
-use Rattle.shop_engine.specs.declared.messages.Stop.{Stop}
+use Rattle.shop_model.specs.declared.requests.Request.{Request}
+use Rattle.shop_http.specs.declared.messages.Stop.{Stop}
 use Rattle.shop_engine.specs.declared.report.Point.{Point}
-use Rattle.shop_engine.specs.Messages.{Messages, messages, no_more, prepend}
-use Rattle.shop_engine.specs.Nexts.{Asks, Stops}
+use Rattle.shop_http.specs.Messages.{AreMessages}
+use Rattle.shop_http.specs.Nexts.{GivesRequest, Stops}
 use Rattle.shop_engine.specs.Replies.{answer}
-use Rattle.shop_engine.specs.Served.{Streams, Served, after_one, point_at, PointsFor, Ran}
-use Rattle.shop_engine.specs.Steps.{Answered, Finished, SoFar, Serves, prepend_all}
+use Rattle.shop_engine.specs.Served.{Streams, Served, after_one, answers, point_at, PointsFor, Ran}
+use Rattle.shop_engine.specs.Steps.{Answered, Finished, SoFar, Serves}
 use Rattle.shop_engine.specs.Workers.{Caller, Progress, WorkerState}
 
 -- one more message behind the others
-
-prepend_all-more : (items : List ℕ) (item : ℕ) (rest : Messages) → prepend_all (items ++ item ∷ []) rest ≡ prepend_all items (prepend item rest)
-prepend_all-more [] item rest = refl
-prepend_all-more (first ∷ items) item rest = ap (prepend first) (prepend_all-more items item rest)
-
-prepend_all-stop : (items : List ℕ) (stop : Stop) → prepend_all items (no_more stop) ≡ record { items = items; stop = stop }
-prepend_all-stop [] stop = refl
-prepend_all-stop (first ∷ items) stop = ap (prepend first) (prepend_all-stop items stop)
 
 Ran-more : (a b c : Option (List ℕ)) (readings : List ℕ) (reading : ℕ) → Ran a readings b → Tells b c reading → Ran a (readings ++ reading ∷ []) c
 Ran-more a b c [] reading ran told = let P : Option (List ℕ) → Type 0 = λ x. Tells x c reading in (c, subst P ran told, refl)
 Ran-more a b c (first ∷ readings) reading ran told = (ran.0, ran.1, Ran-more ran.0 b c readings reading ran.2 told)
 
-PointsFor-more : (caller : Caller) (before mid : Progress) (items readings : List ℕ) (points : List Point) (item reading : ℕ) → PointsFor caller before items readings points mid
-    → PointsFor caller before (items ++ item ∷ []) (readings ++ reading ∷ []) (points ++ point_at caller mid reading ∷ []) (after_one mid reading)
-PointsFor-more caller before mid [] [] [] item reading each = rw each (refl, refl)
-PointsFor-more caller before mid (i ∷ items) (r ∷ readings) (p ∷ points) item reading each =
-    (each.0, PointsFor-more caller (after_one before r) mid items readings points item reading each.1)
-PointsFor-more caller before mid [] [] (p ∷ points) item reading each = absurd each
-PointsFor-more caller before mid [] (r ∷ readings) points item reading each = absurd each
-PointsFor-more caller before mid (i ∷ items) [] points item reading each = absurd each
-PointsFor-more caller before mid (i ∷ items) (r ∷ readings) [] item reading each = absurd each
+PointsFor-more : (caller : Caller) (before mid : Progress) (requests : List Request) (readings : List ℕ) (points : List Point) (request : Request) (reading : ℕ) → PointsFor caller before requests readings points mid
+    → PointsFor caller before (requests ++ request ∷ []) (readings ++ reading ∷ []) (points ++ point_at caller mid reading ∷ []) (after_one mid reading)
+PointsFor-more caller before mid [] [] [] request reading each = rw each (refl, refl)
+PointsFor-more caller before mid (q ∷ requests) (r ∷ readings) (p ∷ points) request reading each =
+    (each.0, PointsFor-more caller (after_one before r) mid requests readings points request reading each.1)
+PointsFor-more caller before mid [] [] (p ∷ points) request reading each = absurd each
+PointsFor-more caller before mid [] (r ∷ readings) points request reading each = absurd each
+PointsFor-more caller before mid (q ∷ requests) [] points request reading each = absurd each
+PointsFor-more caller before mid (q ∷ requests) (r ∷ readings) [] request reading each = absurd each
 
-answers-more : (tables : Tables) (items : List ℕ) (item : ℕ) → flat_map (answer tables) (items ++ item ∷ []) ≡ flat_map (answer tables) items ++ answer tables item
-answers-more tables items item = flat_map-append (answer tables) items (item ∷ []) ∙ ap (λ xs. flat_map (answer tables) items ++ xs) (append-nil (answer tables item))
+answers-more : (tables : Tables) (caller : Caller) (before mid : Progress) (requests : List Request) (readings : List ℕ) (points : List Point) (request : Request) (point : Point) → PointsFor caller before requests readings points mid
+    → answers tables (requests ++ request ∷ []) (points ++ point ∷ []) ≡ answers tables requests points ++ answer tables request point.draw
+answers-more tables caller before mid [] [] [] request point each = append-nil (answer tables request point.draw)
+answers-more tables caller before mid (q ∷ requests) (r ∷ readings) (p ∷ points) request point each =
+    ap (λ xs. answer tables q p.draw ++ xs) (answers-more tables caller (after_one before r) mid requests readings points request point each.1)
+    ∙ sym (append_assoc (answer tables q p.draw) (answers tables requests points) (answer tables request point.draw))
+answers-more tables caller before mid [] [] (p ∷ points) request point each = absurd each
+answers-more tables caller before mid [] (r ∷ readings) points request point each = absurd each
+answers-more tables caller before mid (q ∷ requests) [] points request point each = absurd each
+answers-more tables caller before mid (q ∷ requests) (r ∷ readings) [] request point each = absurd each
 
 -- the bytes that came before, those that are held and those to come
 regrouped : (held piece more : List ℕ) → held ++ (piece ++ more) ≡ held ++ piece ++ more
 regrouped held piece more = sym (append_assoc held piece more)
 
-SoFar-item : (worker : WorkerState) (mid after : Progress) (old now : Streams) (held rest : List ℕ) (points points' : List Point) (item : ℕ) (left' held' clock' : Option (List ℕ))
-    → SoFar worker mid old now held points → Asks now.left left' held rest item → Answered (record worker { progress = mid }) after now.clock clock' now.held held' item points points'
+SoFar-request : (worker : WorkerState) (mid after : Progress) (old now : Streams) (held rest : List ℕ) (points points' : List Point) (request : Request) (left' held' clock' : Option (List ℕ))
+    → SoFar worker mid old now held points → GivesRequest now.left left' held rest request → Answered (record worker { progress = mid }) after now.clock clock' now.held held' request points points'
     → SoFar worker after old (record { left = left'; held = held'; clock = clock' }) rest points'
-SoFar-item worker mid after old now held rest points points' item left' held' clock' so_far asks one = record {
+SoFar-request worker mid after old now held rest points points' request left' held' clock' so_far asks one = record {
   given = so_far.given ++ asks.piece;
-  items = so_far.items ++ item ∷ [];
+  requests = so_far.requests ++ request ∷ [];
   readings = so_far.readings ++ one.reading ∷ [];
   taken = Consumes-more _ _ _ _ _ so_far.taken asks.taken;
-  cut = λ more.
-      ap messages (append_assoc so_far.given asks.piece more) ∙ so_far.cut (asks.piece ++ more)
-      ∙ ap (λ xs. prepend_all so_far.items (messages xs)) (regrouped held asks.piece more)
-      ∙ ap (prepend_all so_far.items) (asks.first more) ∙ sym (prepend_all-more so_far.items item (messages (rest ++ more)));
+  cut = λ more others stop are.
+      let all : AreMessages (held ++ (asks.piece ++ more)) (request ∷ others) stop = rw regrouped (rest ++ more, asks.first more, are) in
+      rw (append_assoc so_far.given asks.piece more, append_assoc so_far.requests (request ∷ []) others) (so_far.cut (asks.piece ++ more) (request ∷ others) stop all);
   ran = Ran-more _ _ _ so_far.readings one.reading so_far.ran one.told;
-  each = rw (one.point, one.progress) (PointsFor-more worker.caller worker.progress mid so_far.items so_far.readings points item one.reading so_far.each);
-  written = rw answers-more (Appends-more _ _ _ _ _ so_far.written one.written);
+  each = rw (one.point, one.progress) (PointsFor-more worker.caller worker.progress mid so_far.requests so_far.readings points request one.reading so_far.each);
+  written =
+      rw (one.point, answers-more worker.tables worker.caller worker.progress mid so_far.requests so_far.readings points request (point_at worker.caller mid one.reading) so_far.each)
+      (Appends-more _ _ _ _ _ so_far.written one.written);
 }
 
-pub Serves-item : (worker w1 w2 : WorkerState) (old now : Streams) (r r' r'' w w' w'' : ℕ) (held rest : List ℕ) (points points' : List Point) (item : ℕ) (left' held' clock' : Option (List ℕ))
-    → Serves worker w1 old now r r' w w' held points → Asks now.left left' held rest item → Answered w1 w2.progress now.clock clock' now.held held' item points points'
+pub Serves-request : (worker w1 w2 : WorkerState) (old now : Streams) (r r' r'' w w' w'' : ℕ) (held rest : List ℕ) (points points' : List Point) (request : Request) (left' held' clock' : Option (List ℕ))
+    → Serves worker w1 old now r r' w w' held points → GivesRequest now.left left' held rest request → Answered w1 w2.progress now.clock clock' now.held held' request points points'
     → w2 ≡ record w1 { progress = w2.progress } → r' ≤ r'' → w' ≤ w''
     → Serves worker w2 old (record { left = left'; held = held'; clock = clock' }) r r'' w w'' rest points'
-Serves-item worker w1 w2 old now r r' r'' w w' w'' held rest points points' item left' held' clock' serves asks one same reads writes = record {
-  so_far = SoFar-item worker w1.progress w2.progress old now held rest points points' item left' held' clock' serves.so_far asks (rw serves.same at one);
+Serves-request worker w1 w2 old now r r' r'' w w' w'' held rest points points' request left' held' clock' serves asks one same reads writes = record {
+  so_far = SoFar-request worker w1.progress w2.progress old now held rest points points' request left' held' clock' serves.so_far asks (rw serves.same at one);
   same = same ∙ ap (λ (x : WorkerState). record x { progress = w2.progress }) serves.same;
   read_faults = omega (arith, serves.read_faults, reads);
   write_faults = omega (arith, serves.write_faults, writes);
@@ -82,12 +82,14 @@ Served-finished : (worker : WorkerState) (after : Progress) (old now : Streams) 
     → Served worker after old (record { left = left'; held = held'; clock = now.clock }) stop points'
 Served-finished worker after old now held points points' left' held' stop so_far stops done = record {
   given = so_far.given ++ stops.piece;
-  items = so_far.items;
+  requests = so_far.requests;
   readings = so_far.readings;
   answered = points;
   taken = Consumes-more _ _ _ _ _ so_far.taken stops.taken;
   ended = stops.ended;
-  cut = so_far.cut stops.piece ∙ ap (prepend_all so_far.items) stops.none ∙ prepend_all-stop so_far.items stop;
+  cut =
+      let none : AreMessages (held ++ stops.piece) [] stop = stops.none in
+      rw (← append-nil so_far.requests) (so_far.cut stops.piece [] stop none);
   ran = so_far.ran;
   each = so_far.each;
   all = done.point;

@@ -1,8 +1,3 @@
-pub mod Messages
-pub mod Buffers
-pub mod Pieces
-pub mod Looks
-pub mod Nexts
 pub mod Workers
 pub mod WorkerView
 pub mod Replies

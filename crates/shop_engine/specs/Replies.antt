@@ -3,9 +3,11 @@ use Rattle.std.specs.Prelude.{◌==◌, ℕ, List, [], ◌++◌, length, Bool, t
 use Rattle.shop_model.specs.declared.page.Page.{Page}
 use Rattle.shop_model.specs.declared.tables.Tables.{Tables}
 use Rattle.shop_model.specs.PageText.{page_text}
-use Rattle.shop_model.specs.Show.{product_detail, refusal_page}
-use Rattle.shop_engine.specs.declared.messages.Stop.{Stop}
-use Rattle.shop_engine.specs.declared.messages.Stop.TheVariants.{Between, Inside, Refusing}
+use Rattle.shop_model.specs.declared.requests.Request.{Request}
+use Rattle.shop_model.specs.Refusals.{refusal_page}
+use Rattle.shop_model.specs.Show.{show}
+use Rattle.shop_http.specs.declared.messages.Stop.{Stop}
+use Rattle.shop_http.specs.declared.messages.Stop.TheVariants.{Between, Inside, Refusing}
 
 -- the reason phrase of a page's status, which is the title of a refusal's page
 abbrev pub phrase_of : Page → List ℕ
@@ -24,16 +26,18 @@ reply_head page len close =
 unfoldable pub reply : Page → Bool → List ℕ
 reply page close = reply_head page (length (page_text page)) close ++ page_text page
 
--- the answer to a message that asks for an item
-unfoldable pub answer : Tables → ℕ → List ℕ
-answer tables item = reply (product_detail tables item) false
+-- the answer to a request, with the word that was drawn for it
+unfoldable pub answer : Tables → Request → ℕ → List ℕ
+answer tables request draw = reply (show tables request draw) false
 
--- the page of a message that isn't served; this project's own
-abbrev pub not_served_page : ℕ → Page
-not_served_page status = refusal_page status (codes "Not Implemented") (codes "Not served yet.")
+-- the page of a message that is refused: no head, or one that isn't served; this project's own
+unfoldable pub refused_page : ℕ → Page
+refused_page status =
+    if status == 400 then refusal_page 400 (codes "Bad Request") (codes "Bad request.")
+    else refusal_page 501 (codes "Not Implemented") (codes "Not served yet.")
 
 -- what is written where the messages stop
 unfoldable pub last_words : Stop → List ℕ
 last_words Between = []
 last_words Inside = []
-last_words (Refusing status) = reply (not_served_page status) true
+last_words (Refusing status) = reply (refused_page status) true

@@ -1,17 +1,19 @@
 -- What one connection met, and what it left.
 use Rattle.std.specs.Prelude.{◌≡◌, ◌≢◌, ℕ, ◌+◌, ◌-◌, ◌^◌, min, max, List, [], ◌∷◌, ◌++◌, Option, Some, None}
-use Rattle.std.specs.List.{flat_map}
 use Rattle.std.specs.Io.KnownBytes.{Appends, Consumes, IsAtEnd}
 use Rattle.shop_edges.specs.Clocks.{Tells}
 use Rattle.shop_model.specs.Limits.{stamp_limit}
 use Rattle.shop_model.specs.Words.{word}
-use Rattle.shop_engine.specs.declared.messages.Stop.{Stop}
-use Rattle.shop_engine.specs.declared.messages.Stop.TheVariants.{Between, Inside, Refusing}
+use Rattle.shop_model.specs.declared.requests.Request.{Request}
+use Rattle.shop_model.specs.declared.tables.Tables.{Tables}
+use Rattle.shop_http.specs.declared.messages.Stop.{Stop}
+use Rattle.shop_http.specs.declared.messages.Stop.TheVariants.{Between, Inside, Refusing}
 use Rattle.shop_engine.specs.declared.report.Ended.{Ended}
 use Rattle.shop_engine.specs.declared.report.Ended.TheVariants as ended
 use Rattle.shop_engine.specs.declared.report.PointKind.TheVariants.{At, Plain}
 use Rattle.shop_engine.specs.declared.report.Point.{Point}
-use Rattle.shop_engine.specs.Messages.{messages}
+use Rattle.shop_http.specs.Messages.{AreMessages}
+use Rattle.shop_http.specs.Nexts.{IsDrained}
 use Rattle.shop_engine.specs.Replies.{answer, last_words}
 use Rattle.shop_engine.specs.Workers.{Caller, Progress, WorkerState}
 
@@ -46,16 +48,21 @@ abbrev pub plain_point : Point
 plain_point = record { kind = Plain; front = 0; moment = 0; call = 0; draw = 0; tries = 0 }
 
 -- each message has its point, by one reading of the clock, and progress goes on
-abbrev pub PointsFor : Caller → Progress → List ℕ → List ℕ → List Point → Progress → Type 0
+abbrev pub PointsFor : Caller → Progress → List Request → List ℕ → List Point → Progress → Type 0
 PointsFor caller before [] [] [] after = after ≡ before
-PointsFor caller before (item ∷ items) (reading ∷ readings) (point ∷ points) after =
-    (point ≡ point_at caller before reading) × PointsFor caller (after_one before reading) items readings points after
+PointsFor caller before (request ∷ requests) (reading ∷ readings) (point ∷ points) after =
+    (point ≡ point_at caller before reading) × PointsFor caller (after_one before reading) requests readings points after
 PointsFor caller before _ _ _ after = ⊥
 
 -- the clock gave these readings, one after another
 abbrev pub Ran : Option (List ℕ) → List ℕ → Option (List ℕ) → Type 0
 Ran old [] new = new ≡ old
 Ran old (reading ∷ readings) new = (next : Option (List ℕ)) × Tells old next reading × Ran next readings new
+
+-- the answers to requests, each with the word of its point
+abbrev pub answers : Tables → List Request → List Point → List ℕ
+answers tables (request ∷ requests) (point ∷ points) = answer tables request point.draw ++ answers tables requests points
+answers tables _ _ = []
 
 -- a refusal has a point too
 abbrev pub last_points : Stop → List Point
@@ -81,18 +88,18 @@ pub record Streams : Type 0 where
 -- a worker served a connection until its messages stopped so, and left these points
 pub record Served (worker : WorkerState) (after : Progress) (old new : Streams) (stop : Stop) (points : List Point) : Type 0 where
   pub given : List ℕ
-  pub items : List ℕ
+  pub requests : List Request
   pub readings : List ℕ
   pub answered : List Point
   -- the source gave these bytes, and has none left, but where a message was refused
   pub taken : Consumes old.left new.left given
-  pub ended : stop ≢ Refusing 501 → IsAtEnd new.left
-  -- they are these messages, and stop so
-  pub cut : messages given ≡ record { items = items; stop = stop }
+  pub ended : IsDrained stop new.left
+  -- their messages ask for these, in order, and stop so
+  pub cut : AreMessages given requests stop
   -- the clock was read once for each message
   pub ran : Ran old.clock readings new.clock
   -- each message has its point, in order, and a refusal one more
-  pub each : PointsFor worker.caller worker.progress items readings answered after
+  pub each : PointsFor worker.caller worker.progress requests readings answered after
   pub all : points ≡ answered ++ last_points stop
   -- each message was answered, in order, then a refusal was told, and nothing else was written
-  pub written : Appends old.held new.held (flat_map (answer worker.tables) items ++ last_words stop)
+  pub written : Appends old.held new.held (answers worker.tables requests answered ++ last_words stop)

@@ -3,13 +3,13 @@ ghost use Rattle.shop_edges.specs.Causes.{Rose};
 ghost use Rattle.shop_engine.specs.Served.{Served, stop_of, after_one, point_at};
 ghost use Rattle.shop_engine.specs.Steps.{Answered, Finished};
 
-use crate::buffer::Buffer;
-use crate::messages::{Next, Stop, next_item};
-use crate::product::{product_detail, refusal_page};
+use crate::replies::refused_page;
 use crate::report::{Ended, Point, PointKind, Report};
 use crate::worker::Worker;
+use shop_browse::show;
 use shop_edges::{Clock, Sink, Source, write_all};
-use shop_model::{STAMP_LIMIT, word};
+use shop_http::{Buffer, Next, Stop, next_request};
+use shop_model::{Request, STAMP_LIMIT, word};
 use shop_text::Listed;
 use std::alloc::Global;
 
@@ -42,9 +42,9 @@ pub fn serve_connection<S: Source, K: Sink, C: Clock>(
         };
     };
     loop {
-        match next_item(source, &mut buffer) {
-            Next::Item(item) => {
-                let ended = serve_item(alloc, worker, sink, clock, &mut points, item);
+        match next_request(alloc, source, &mut buffer) {
+            Next::Request(request) => {
+                let ended = serve_request(alloc, worker, sink, clock, &mut points, &request);
                 if let Some(end) = ended {
                     return Report { end, points };
                 }
@@ -59,22 +59,28 @@ pub fn serve_connection<S: Source, K: Sink, C: Clock>(
                     points,
                 };
             }
+            Next::Memory => {
+                return Report {
+                    end: Ended::Memory,
+                    points,
+                };
+            }
         }
     }
 }
 
-/// Answers a message; the end of the connection, where it is one.
-fn serve_item<K: Sink, C: Clock>(
+/// Answers a request; the end of the connection, where it is one.
+fn serve_request<K: Sink, C: Clock>(
     alloc: Global,
     worker: &mut Worker,
     sink: &mut K,
     clock: &mut C,
     points: &mut Listed<Point>,
-    item: u32,
+    request: &Request,
 ) -> Option<Ended>
     ensures answered { IsNone result → Answered worker.old worker.new.progress
         (C.readings clock.old) (C.readings clock.new) (K.held sink.old) (K.held sink.new)
-        item points.old points.new }
+        request.now points.old points.new }
     ensures ends { IfSome result (λ end. stop_of end ≡ None) }
     ensures sound { IfSome result (λ end. end ≢ Ended.ReadFault) }
     ensures write_fault { IfSome result (λ end. end ≡ Ended.WriteFault → Rose (K.faults sink.old) (K.faults sink.new)) }
@@ -82,7 +88,7 @@ fn serve_item<K: Sink, C: Clock>(
     ensures worker { worker.new ≡ record worker.old { progress = worker.new.progress } }
 {
     let point = accept(worker, clock.now());
-    let Ok(page) = product_detail(alloc, &worker.tables, item) else {
+    let Ok(page) = show(alloc, &worker.tables, request, point.draw) else {
         return Some(Ended::Memory);
     };
     let Ok(()) = worker.reply.make(&page, false) else {
@@ -152,7 +158,7 @@ fn refuse<K: Sink>(
     ensures writes { K.faults sink.old ≤ K.faults sink.new }
     ensures worker { worker.new ≡ worker.old }
 {
-    let Ok(page) = refusal_page(alloc, status, b"Not Implemented", b"Not served yet.") else {
+    let Ok(page) = refused_page(alloc, status) else {
         return Ended::Memory;
     };
     let plain = Point {

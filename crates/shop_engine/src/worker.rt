@@ -1,5 +1,5 @@
 ghost use Rattle.std.specs.Prelude.{◌≡◌, IfOk};
-ghost use Rattle.shop_model.specs.Sound.{AuthorsExist};
+ghost use Rattle.shop_model.specs.Sound.{Sound};
 ghost use Rattle.shop_engine.specs.Workers.{at_first};
 
 use crate::replies::Reply;
@@ -25,12 +25,12 @@ impl Model for Worker {
 
     ghost Value = { WorkerState };
 
-    ghost use Rattle.shop_model.specs.Sound.{AuthorsExist};
+    ghost use Rattle.shop_model.specs.Sound.{Sound};
     ghost use Rattle.shop_engine.specs.WorkerView.{state_of};
 
     ghost view = { state_of };
 
-    ghost invariant = { λ i. AuthorsExist i.tables };
+    ghost invariant = { λ i. Sound i.tables };
 }
 
 impl Worker {
@@ -42,7 +42,7 @@ impl Worker {
         seed: u32,
         scale: Scale,
     ) -> Result<Worker, Memory>
-        requires { AuthorsExist tables }
+        requires { Sound tables }
         ensures { IfOk result (λ worker. worker ≡ record {
           tables = tables;
           caller = record { number = caller; seed = seed; scale = scale };

@@ -1,15 +1,18 @@
 use Rattle.std.proofs.Common.{[], ◌∷◌, ◌++◌, false, ap, ◌∙◌}
 use Rattle.shop_model.specs.declared.page.Page.{Page}
-use Rattle.shop_model.specs.Show.{product_detail}
+use Rattle.shop_model.specs.Show.{show}
+use Rattle.shop_engine.specs.declared.report.Point.{Point}
 use Rattle.shop_engine.specs.Replies.{answer, reply}
 use Rattle.shop_engine.specs.Workers.{WorkerState}
-use Rattle.shop_engine.proofs.serve.serve_item.Goals as goal
+use Rattle.shop_engine.proofs.serve.serve_request.Goals as goal
 
 pub returns-then-write_all-clause-answered : goal.returns-then-write_all-clause-answered
 unfolding answer
 returns-then-write_all-clause-answered g c _ =
     let worker = c.worker.view_is ∙ c.accept-point.ensures.worker in
-    let page = c.in-Ok.ensures ∙ ap (λ (w : WorkerState). product_detail w.tables c.args.item) worker in
+    let page =
+        c.in-Ok.ensures ∙ ap (λ (w : WorkerState). show w.tables c.args.request.now c.accept-point.result.draw) worker
+        ∙ ap (λ (point : Point). show c.args.worker.now.tables c.args.request.now point.draw) c.accept-point.ensures.point in
     let bytes = c.bytes.ensures ∙ c.in-Ok-make.ensures ∙ ap (λ (shown : Page). reply shown false) page in
     record {
       reading = c.now.result;
