@@ -4,6 +4,7 @@
 mod buffer;
 mod heads;
 mod messages;
+mod numbers;
 mod requests;
 
 pub use buffer::Buffer;

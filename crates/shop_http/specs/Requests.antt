@@ -1,0 +1,69 @@
+-- What a target asks for. The paths and the parameters are this project's own, the syntax of a
+-- query is that of the URL Standard, section 5.
+use Rattle.std.specs.Prelude.{ℕ, ◌||◌, ◌==◌, List, map, Option, Some, None, codes, if◌then◌else◌}
+use Rattle.std.specs.List.{before_first, after_first, find}
+use Rattle.std.specs.Option.{option_map, option_and_then}
+use Rattle.std.specs.Str.{bytes_eq}
+use Rattle.std.specs.Str.Lossy.{utf8_lossy}
+use Rattle.form_urlencoded.specs.Form.{parse}
+use Rattle.shop_model.specs.declared.requests.IdsAsked.{IdsAsked}
+use Rattle.shop_model.specs.declared.requests.Request.{Request}
+use Rattle.shop_model.specs.declared.requests.Request.TheVariants as request
+use Rattle.shop_http.specs.Numbers.{number_of}
+
+-- a name and a value
+abbrev pub Pair : Type 0
+Pair = List ℕ × List ℕ
+
+-- what stands before the first `?`, and what follows it
+abbrev pub path_of : List ℕ → List ℕ
+path_of target = before_first (λ byte. byte == 63) target
+
+abbrev pub query_of : List ℕ → List ℕ
+query_of target = after_first (λ byte. byte == 63) target
+
+-- the decoded pairs of a query, as texts: what isn't UTF-8 in them is replaced
+abbrev pub pairs : List ℕ → List Pair
+pairs query = map (λ pair. (utf8_lossy pair.0, utf8_lossy pair.1)) (parse query)
+
+-- the value of the first pair that has the name
+abbrev pub parameter : List Pair → List ℕ → Option (List ℕ)
+parameter pairs name = option_map (λ pair. pair.1) (find (λ pair. bytes_eq pair.0 name) pairs)
+
+-- a number that may be absent; none where it is there and not in its form
+abbrev pub optional_number : Option (List ℕ) → Option (Option ℕ)
+optional_number None = Some None
+optional_number (Some digits) = option_map (λ number. Some number) (number_of digits)
+
+-- a number that has to be there, in its form
+abbrev pub required_number : Option (List ℕ) → Option ℕ
+required_number value = option_and_then number_of value
+
+-- the ids that a request carries along
+abbrev pub ids_asked : List Pair → Option IdsAsked
+ids_asked pairs =
+    option_and_then (λ c. option_map (λ cart. record { c = c; cart = cart }) (optional_number (parameter pairs (codes "cart"))))
+    (optional_number (parameter pairs (codes "c")))
+
+-- the requests of the interactions
+abbrev pub home : List Pair → Option Request
+home pairs = option_map (λ ids. request.Home (record { ids = ids })) (ids_asked pairs)
+
+abbrev pub product_detail : List Pair → Option Request
+product_detail pairs =
+    option_and_then (λ item. option_map (λ ids. request.ProductDetail (record { item = item; ids = ids })) (ids_asked pairs))
+    (required_number (parameter pairs (codes "item")))
+
+abbrev pub search_request : List Pair → Option Request
+search_request pairs = option_map (λ ids. request.SearchRequest (record { ids = ids })) (ids_asked pairs)
+
+-- the request of a path with these pairs; none where the path isn't served
+abbrev pub request_at : List ℕ → List Pair → Option Request
+request_at path pairs =
+    if bytes_eq path (codes "/") || bytes_eq path (codes "/home") then home pairs else
+    (if bytes_eq path (codes "/product_detail") then product_detail pairs else
+    (if bytes_eq path (codes "/search_request") then search_request pairs else None))
+
+-- what a target asks for
+unfoldable pub request_of : List ℕ → Option Request
+request_of target = request_at (path_of target) (pairs (query_of target))
