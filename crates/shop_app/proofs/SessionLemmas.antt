@@ -3,7 +3,7 @@ use Rattle.std.proofs.Common.{◌≡◌, ℕ, ◌<◌, ◌≤◌, List, [], ◌�
 use Rattle.std.specs.Option.{IfSome}
 use Rattle.std.specs.Bool.{Decides, IsTrue}
 use Rattle.shop_edges.specs.Causes.{Rose}
-use Rattle.shop_engine.specs.declared.messages.Stop.TheVariants.{Inside, Refusing}
+use Rattle.shop_http.specs.declared.messages.Stop.TheVariants.{Inside, Refusing}
 use Rattle.shop_engine.specs.declared.report.Ended.{Ended}
 use Rattle.shop_engine.specs.declared.report.Ended.TheVariants as ended
 use Rattle.shop_engine.specs.declared.report.Point.{Point}

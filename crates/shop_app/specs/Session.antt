@@ -4,8 +4,8 @@ use Rattle.std.specs.Io.KnownBytes.{Appends}
 use Rattle.shop_edges.specs.Causes.{Rose}
 use Rattle.shop_model.specs.Population.{populated}
 use Rattle.shop_model.specs.Scales.{desk}
-use Rattle.shop_engine.specs.declared.messages.Stop.{Stop}
-use Rattle.shop_engine.specs.declared.messages.Stop.TheVariants.{Between}
+use Rattle.shop_http.specs.declared.messages.Stop.{Stop}
+use Rattle.shop_http.specs.declared.messages.Stop.TheVariants.{Between}
 use Rattle.shop_engine.specs.declared.report.Point.{Point}
 use Rattle.shop_engine.specs.Served.{Served, Streams}
 use Rattle.shop_engine.specs.Workers.{Progress, WorkerState, at_first}

@@ -1,11 +1,10 @@
 use Rattle.std.proofs.Common.{◌∙◌}
-use Rattle.shop_model.proofs.SoundFacts.{authors_exist}
 use Rattle.shop_app.specs.Session.{first_worker}
 use Rattle.shop_app.proofs.SessionLemmas.{session-by-end}
 use Rattle.shop_app.proofs.alone.session.Goals as goal
 
 pub new-requires : goal.new-requires
-new-requires g c = authors_exist _ c.in-Ok.ensures.sound
+new-requires g c = c.in-Ok.ensures.sound
 
 pub returns : goal.returns
 unfolding first_worker
