@@ -2,9 +2,10 @@
 #![tactic(auto)]
 
 mod blocks;
+mod lengths;
 mod page;
 
-pub use page::{page_bytes, push_page};
+pub use page::{page_bytes, page_len, push_page};
 
 #[cfg(test)]
 mod tests;

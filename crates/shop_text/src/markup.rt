@@ -1,4 +1,4 @@
-ghost use Rattle.std.specs.Prelude.{◌≡◌, ◌++◌, ◌∷◌, [], IfOk, OnOk, OnErr, MatchOption};
+ghost use Rattle.std.specs.Prelude.{◌≡◌, ◌<◌, ◌++◌, ◌∷◌, [], length, min, IfOk, OnOk, OnErr, IfSome, MatchOption};
 ghost use Rattle.shop_text.specs.Escape as spec;
 ghost use Rattle.shop_text.specs.Extends.{Extends};
 
@@ -7,7 +7,8 @@ use std::alloc::Global;
 
 /// The entity for a byte that does not stand for itself.
 fn entity(byte: u8) -> Option<&'static [u8]>
-    ensures { MatchOption result (spec.escape_byte byte ≡ byte ∷ []) (λ name. spec.escape_byte byte ≡ name.now) }
+    ensures value { MatchOption result (spec.escape_byte byte ≡ byte ∷ []) (λ name. spec.escape_byte byte ≡ name.now) }
+    ensures long { IfSome result (λ name. 0 < length name.now) }
 {
     match byte {
         b'&' => Some(b"&amp;"),
@@ -59,4 +60,18 @@ pub fn escape(alloc: Global, bytes: &[u8]) -> Result<Text, Memory>
     let mut text = Text::new(alloc);
     text.push_escaped(bytes)?;
     Ok(text)
+}
+
+/// The number of bytes with which these stand in the text of a page; takes no memory. `usize::MAX`
+/// stands for every larger number, and for none that memory could hold.
+pub fn escaped_len(bytes: &[u8]) -> usize
+    ensures { result ≡ min (length (spec.escape bytes.now)) usize.MAX }
+{
+    let mut len = bytes.len();
+    for byte in bytes {
+        if let Some(name) = entity(*byte) {
+            len = len.saturating_add(name.len() - 1);
+        }
+    }
+    len
 }

@@ -17,13 +17,13 @@ loop-at-preserved c =
             order = omega arith;
             text = rw w.start-is
                 (entity_step _ before.text name _ _ before.start before.at so_far.order (omega arith)
-                w.in-Some.ensures now so_far.text);
+                w.in-Some.ensures.value now so_far.text);
             front = rw now (Extends-append _ _ name (Extends-append _ _ _ so_far.front));
           }
       | in_default w ↦ record {
         order = omega arith;
         text = rw (w.text-is, w.start-is)
-            (plain_step _ _ _ _ _ so_far.order (omega arith) w.in_default.ensures so_far.text);
+            (plain_step _ _ _ _ _ so_far.order (omega arith) w.in_default.ensures.value so_far.text);
         front = rw w.text-is so_far.front;
       }
     ]
