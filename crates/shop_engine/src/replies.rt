@@ -1,59 +1,27 @@
-ghost use Rattle.std.specs.Prelude.{◌≡◌, ◌++◌, [], IfOk, OnOk, if◌then◌else◌};
+ghost use Rattle.std.specs.Prelude.{◌≡◌, ◌++◌, IfOk, OnOk, if◌then◌else◌};
 ghost use Rattle.shop_model.specs.Refusals.{refusal_page};
 ghost use Rattle.shop_engine.specs.Replies as spec;
 
 use shop_model::{Block, Page};
-use shop_pages::push_page;
+use shop_pages::{page_len, push_page};
 use shop_text::{Listed, Memory, Text};
 use std::alloc::Global;
-use std::marker::Model;
 
-/// The bytes for which a page makes room at first, and those of a reply's head.
-const PAGE_ROOM: usize = 1_024;
-
+/// The bytes for which the head of a reply makes room.
 const HEAD_ROOM: usize = 160;
 
-/// The bytes of a reply. Its room serves one request after another.
-#[derive(Drop)]
-pub(crate) struct Reply {
-    page: Text,
-    bytes: Text,
-}
-
-impl Model for Reply {
-    ghost use Rattle.std.specs.Prelude.{List, ℕ};
-
-    ghost Value = { List ℕ };
-
-    ghost view = { λ r. r.bytes };
-}
-
-impl Reply {
-    pub(crate) fn new(alloc: Global) -> Result<Reply, Memory>
-        ensures { IfOk result (λ reply. reply ≡ []) }
-    {
-        Ok(Reply {
-            page: Text::with_capacity(alloc, PAGE_ROOM)?,
-            bytes: Text::with_capacity(alloc, HEAD_ROOM + PAGE_ROOM)?,
-        })
-    }
-
-    pub(crate) fn bytes(&self) -> &[u8]
-        ensures { result.now ≡ self.now }
-    {
-        self.bytes.bytes()
-    }
-
-    /// Makes the reply around a page, in place of the one before; a refusal may leave a part of it.
-    pub(crate) fn make(&mut self, page: &Page, close: bool) -> Result<(), Memory>
-        ensures { OnOk result (self.new ≡ spec.reply page.now close) }
-    {
-        self.page.clear();
-        push_page(&mut self.page, page)?;
-        self.bytes.clear();
-        push_head(&mut self.bytes, page, self.page.len(), close)?;
-        self.bytes.push(self.page.bytes())
-    }
+/// Makes the reply around a page, in place of what the text was. A refusal leaves some front of it,
+/// or none.
+pub(crate) fn make_reply(reply: &mut Text, page: &Page, close: bool) -> Result<(), Memory>
+    ensures { OnOk result (reply.new ≡ spec.reply page.now close) }
+{
+    reply.clear();
+    let Some(len) = page_len(page) else {
+        return Err(Memory);
+    };
+    reply.reserve(len.saturating_add(HEAD_ROOM))?;
+    push_head(reply, page, len, close)?;
+    push_page(reply, page)
 }
 
 /// Adds the head of a reply around a page of so many bytes.

@@ -3,7 +3,7 @@ ghost use Rattle.shop_edges.specs.Causes.{Rose};
 ghost use Rattle.shop_engine.specs.Served.{Served, stop_of, after_one, point_at};
 ghost use Rattle.shop_engine.specs.Steps.{Answered, Finished};
 
-use crate::replies::refused_page;
+use crate::replies::{make_reply, refused_page};
 use crate::report::{Ended, Point, PointKind, Report};
 use crate::worker::Worker;
 use shop_browse::show;
@@ -91,7 +91,7 @@ fn serve_request<K: Sink, C: Clock>(
     let Ok(page) = show(alloc, &worker.tables, request, point.draw) else {
         return Some(Ended::Memory);
     };
-    let Ok(()) = worker.reply.make(&page, false) else {
+    let Ok(()) = make_reply(&mut worker.reply, &page, false) else {
         return Some(Ended::Memory);
     };
     let Ok(()) = points.push(point) else {
@@ -169,7 +169,7 @@ fn refuse<K: Sink>(
         draw: 0,
         tries: 0,
     };
-    let Ok(()) = worker.reply.make(&page, true) else {
+    let Ok(()) = make_reply(&mut worker.reply, &page, true) else {
         return Ended::Memory;
     };
     let Ok(()) = points.push(plain) else {

@@ -2,11 +2,13 @@ ghost use Rattle.std.specs.Prelude.{◌≡◌, IfOk};
 ghost use Rattle.shop_model.specs.Sound.{Sound};
 ghost use Rattle.shop_engine.specs.Workers.{at_first};
 
-use crate::replies::Reply;
 use shop_model::{Scale, Tables};
-use shop_text::Memory;
+use shop_text::{Memory, Text};
 use std::alloc::Global;
 use std::marker::Model;
+
+/// The bytes for which a worker makes room at first: those of most replies.
+const REPLY_ROOM: usize = 2_048;
 
 /// Serves the requests of one caller, over one connection after another.
 #[derive(Drop)]
@@ -17,7 +19,8 @@ pub struct Worker {
     pub(crate) scale: Scale,
     pub(crate) accepted: u64,
     pub(crate) last: u64,
-    pub(crate) reply: Reply,
+    /// The reply that is being made. Its room serves one request after another.
+    pub(crate) reply: Text,
 }
 
 impl Model for Worker {
@@ -56,7 +59,7 @@ impl Worker {
             scale,
             accepted: 0,
             last: 0,
-            reply: Reply::new(alloc)?,
+            reply: Text::with_capacity(alloc, REPLY_ROOM)?,
         })
     }
 }

@@ -1,0 +1,14 @@
+use Rattle.std.proofs.Common.{◌≡◌, ℕ, List, [], ◌++◌, Bool, length, ap, ◌∙◌}
+use Rattle.std.proofs.lemmas.Result.{on_ok_weaker}
+use Rattle.shop_model.specs.declared.page.Page.{Page}
+use Rattle.shop_model.specs.PageText.{page_text}
+use Rattle.shop_engine.specs.Replies.{reply, reply_head}
+use Rattle.shop_engine.proofs.replies.make_reply.Goals as goal
+
+-- a head around a page, and the page
+made : (page : Page) (close : Bool) (head now : List ℕ) (len : ℕ) → len ≡ length (page_text page) → head ≡ reply_head page len close → now ≡ head ++ page_text page → now ≡ reply page close
+unfolding reply
+made page close head now len size first all = rw (all, first, size)
+
+pub returns : goal.returns
+returns c = on_ok_weaker c.push_page.result (λ pushed. made c.args.page.now c.args.close c.push_head.new.text c.push_page.new.text c.in-Some.len c.in-Some.ensures (rw c.in_ok-reserve.ensures ? ) pushed) c.push_page.ensures.ok
