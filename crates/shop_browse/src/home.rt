@@ -65,7 +65,8 @@ fn home_blocks(
     customer: Option<&Customer>,
 ) -> Result<Listed<Block>, Memory>
     requires { Sound tables.now }
-    ensures { IfOk result (λ blocks. blocks ≡ (spec.home_page tables.now ids draw (option_copied customer.entry)).blocks) }
+    ensures { IfOk result (λ blocks.
+        blocks ≡ (spec.home_page tables.now ids draw (option_copied customer.entry)).blocks) }
 {
     let mut blocks = Listed::with_capacity(alloc, BLOCKS)?;
     blocks.push(Block::Heading(Text::copy(alloc, b"Welcome")?))?;
@@ -85,7 +86,8 @@ fn home_page(
     customer: Option<&Customer>,
 ) -> Result<Page, Memory>
     requires { Sound tables.now }
-    ensures { IfOk result (λ page. page ≡ spec.home_page tables.now ids draw (option_copied customer.entry)) }
+    ensures { IfOk result (λ page.
+        page ≡ spec.home_page tables.now ids draw (option_copied customer.entry)) }
 {
     Ok(Page {
         status: 200,

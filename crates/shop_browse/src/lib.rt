@@ -11,3 +11,6 @@ mod requests;
 mod search_request;
 
 pub use requests::show;
+
+#[cfg(test)]
+mod tests;

@@ -9,8 +9,8 @@ use shop_model::{Page, Request, Tables};
 use shop_text::Memory;
 use std::alloc::Global;
 
-/// What a request shows, also where it is refused. The word that was drawn for it picks the items that
-/// are promoted and the subject of Home.
+/// What a request shows, also where it is refused. The word that was drawn for it picks the items
+/// that are promoted and the subject of Home.
 pub fn show(alloc: Global, tables: &Tables, request: &Request, draw: u32) -> Result<Page, Memory>
     requires { Sound tables.now }
     ensures { IfOk result (λ page. page ≡ spec.show tables.now request.now draw) }
