@@ -13,7 +13,7 @@ use Rattle.shop_model.specs.Lookups.{row_numbered, title_of, related_of}
 use Rattle.shop_model.specs.Products.{product_detail}
 use Rattle.shop_model.specs.Refusals.{not_found}
 use Rattle.shop_model.specs.Rows.{CustomerRow}
-use Rattle.shop_model.specs.Subjects.{subjects, subject_name}
+use Rattle.shop_model.specs.Subjects.{subjects}
 use Rattle.shop_model.specs.Targets.{id_fields, item_link, subject_link, nav}
 use Rattle.shop_model.specs.Words.{entry}
 
@@ -28,22 +28,27 @@ promo tables ids draw = map (promoted tables ids) (related_of tables (1 + draw %
 -- the ways to the new and the best sold items of a subject
 unfoldable pub subject_links : Subject → IdsAsked → List Block
 subject_links subject ids =
-    subject_link (codes "/new_products") subject ids (codes "New " ++ subject_name subject)
-    ∷ subject_link (codes "/best_sellers") subject ids (codes "Best " ++ subject_name subject)
+    subject_link (codes "/new_products") subject ids (codes "New ")
+    ∷ subject_link (codes "/best_sellers") subject ids (codes "Best ")
     ∷ []
 
 -- the greeting of a customer
 unfoldable pub greeting : CustomerRow → List ℕ
 greeting customer = codes "Hello " ++ customer.first ++ codes " " ++ customer.last
 
--- the page of Home, with a greeting or none
-unfoldable pub home_page : Tables → IdsAsked → ℕ → List Block → Page
-home_page tables ids draw greetings = record {
+-- the greeting, where a customer is known
+abbrev pub greetings : Option CustomerRow → List Block
+greetings None = []
+greetings (Some customer) = Para (greeting customer) ∷ []
+
+-- the page of Home, for a customer or for anyone
+unfoldable pub home_page : Tables → IdsAsked → ℕ → Option CustomerRow → Page
+home_page tables ids draw customer = record {
   status = 200;
   title = codes "Home";
   blocks =
       Heading (codes "Welcome")
-      ∷ greetings
+      ∷ greetings customer
       ++ promo tables ids draw
       ++ subject_links (entry Arts subjects draw) ids
       ++ nav ids;
@@ -52,14 +57,13 @@ home_page tables ids draw greetings = record {
 -- the page of Home for a customer, if there is one
 abbrev pub home_or_refusal : Tables → IdsAsked → ℕ → Option CustomerRow → Page
 home_or_refusal tables ids draw None = not_found (codes "No customer has this number.")
-home_or_refusal tables ids draw (Some customer) =
-    home_page tables ids draw (Para (greeting customer) ∷ [])
+home_or_refusal tables ids draw (Some customer) = home_page tables ids draw (Some customer)
 
--- Home greets the customer whose number was given
+-- what a request for Home shows, with the number of a customer if it gives one
 abbrev pub home : Tables → IdsAsked → ℕ → Option ℕ → Page
-home tables ids draw None = home_page tables ids draw []
-home tables ids draw (Some c) =
-    home_or_refusal tables ids draw (row_numbered tables.customers c)
+home tables ids draw None = home_page tables ids draw None
+home tables ids draw (Some number) =
+    home_or_refusal tables ids draw (row_numbered tables.customers number)
 
 -- the form of a search by title
 unfoldable pub search_form : IdsAsked → Block

@@ -30,21 +30,27 @@ pairs sign (field ∷ fields) =
 abbrev pub target : List ℕ → List Field → List ℕ
 target path parameters = path ++ pairs (codes "?") parameters
 
+-- a path with an item, and the ids
+abbrev pub item_target : List ℕ → ℕ → IdsAsked → List ℕ
+item_target path item ids = target path (number_field (codes "item") item ∷ id_fields ids)
+
+-- a path with the name of a subject, and the ids
+abbrev pub subject_target : List ℕ → Subject → IdsAsked → List ℕ
+subject_target path subject ids =
+    target path (record { name = codes "subject"; value = subject_name subject } ∷ id_fields ids)
+
 -- a link with no parameters but the ids
 abbrev pub plain_link : List ℕ → IdsAsked → List ℕ → Block
 plain_link path ids label = Link (target path (id_fields ids)) label
 
 -- a link about an item
 abbrev pub item_link : List ℕ → ℕ → IdsAsked → List ℕ → Block
-item_link path item ids label =
-    Link (target path (number_field (codes "item") item ∷ id_fields ids)) label
+item_link path item ids label = Link (item_target path item ids) label
 
--- a link about a subject
+-- a link about a subject, whose name ends the label
 abbrev pub subject_link : List ℕ → Subject → IdsAsked → List ℕ → Block
 subject_link path subject ids label =
-    Link
-    (target path (record { name = codes "subject"; value = subject_name subject } ∷ id_fields ids))
-    label
+    Link (subject_target path subject ids) (label ++ subject_name subject)
 
 -- the links that end each page
 unfoldable pub nav : IdsAsked → List Block

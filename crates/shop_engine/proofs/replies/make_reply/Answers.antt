@@ -5,10 +5,10 @@ use Rattle.shop_model.specs.PageText.{page_text}
 use Rattle.shop_engine.specs.Replies.{reply, reply_head}
 use Rattle.shop_engine.proofs.replies.make_reply.Goals as goal
 
--- a head around a page, and the page
-made : (page : Page) (close : Bool) (head now : List ℕ) (len : ℕ) → len ≡ length (page_text page) → head ≡ reply_head page len close → now ≡ head ++ page_text page → now ≡ reply page close
+-- a head around a page, and the page, in a text that was emptied
+made : (page : Page) (close : Bool) (cleared room head now : List ℕ) (len : ℕ) → len ≡ length (page_text page) → cleared ≡ [] → room ≡ cleared → head ≡ room ++ reply_head page len close → now ≡ head ++ page_text page → now ≡ reply page close
 unfolding reply
-made page close head now len size first all = rw (all, first, size)
+made page close cleared room head now len size empty same first all = rw (all, first, same, empty, size)
 
 pub returns : goal.returns
-returns c = on_ok_weaker c.push_page.result (λ pushed. made c.args.page.now c.args.close c.push_head.new.text c.push_page.new.text c.in-Some.len c.in-Some.ensures (rw c.in_ok-reserve.ensures ? ) pushed) c.push_page.ensures.ok
+returns c = on_ok_weaker c.push_page.result (made c.args.page.now c.args.close c.clear.new.self c.reserve.new.self c.push_head.new.text c.push_page.new.text c.in-Some.len c.in-Some.ensures c.clear.ensures ? ?) c.push_page.ensures.ok

@@ -1,0 +1,16 @@
+//! What a request shows: the page of each interaction, from the tables and a drawn word.
+#![tactic(auto)]
+
+mod home;
+mod links;
+mod lookups;
+mod product_detail;
+mod promotion;
+mod refusals;
+mod requests;
+mod search_request;
+
+pub use requests::show;
+
+#[cfg(test)]
+mod tests;
