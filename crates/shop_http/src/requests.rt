@@ -54,10 +54,8 @@ fn product_detail(alloc: Global, query: &[u8]) -> Result<Option<Request>, Memory
     let Some(item) = required_number(alloc, query, b"item")? else {
         return Ok(None);
     };
-    let Some(ids) = ids_asked(alloc, query)? else {
-        return Ok(None);
-    };
-    Ok(Some(Request::ProductDetail(ProductDetail { item, ids })))
+    let ids = ids_asked(alloc, query)?;
+    Ok(ids.map(|ids| Request::ProductDetail(ProductDetail { item, ids })))
 }
 
 fn search_request(alloc: Global, query: &[u8]) -> Result<Option<Request>, Memory>
