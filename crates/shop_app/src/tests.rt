@@ -7,6 +7,8 @@ use shop_text::{Listed, Text};
 use std::alloc::{AllocError, Global};
 use std::test::Fail;
 
+mod interactions;
+
 const REQUEST: &[u8] = b"GET /product_detail?item=1 HTTP/1.1\r\nHost: shop\r\n\r\n";
 
 const REPLY: &[u8] =
@@ -40,13 +42,6 @@ Content-Length: 94\r\nConnection: close\r\n\r\n\
 <p>Not served yet.</p>
 </body></html>
 ";
-
-const BROWSER: &[u8] = b"GET /product_detail?item=1 HTTP/1.1\r\nHost: shop\r\n\
-Connection: keep-alive\r\nCache-Control: max-age=0\r\nSec-Ch-Ua: \"Browser\"\r\n\
-Sec-Ch-Ua-Mobile: ?0\r\nSec-Ch-Ua-Platform: \"Linux\"\r\nUpgrade-Insecure-Requests: 1\r\n\
-User-Agent: Browser\r\nAccept: text/html\r\nSec-Fetch-Site: none\r\nSec-Fetch-Mode: navigate\r\n\
-Sec-Fetch-User: ?1\r\nSec-Fetch-Dest: document\r\nAccept-Encoding: gzip\r\n\
-Accept-Language: en\r\n\r\n";
 
 /// What a source is made of, and how a sink takes.
 #[derive(Clone, Copy)]
@@ -156,7 +151,6 @@ fn a_connection_ends_as_its_input_does(rt: HostRuntime) -> Result<(), Fail> {
         (b"GET /pro".as_slice(), Ended::Cut, b"".as_slice()),
         (shorter.bytes(), Ended::Cut, b"".as_slice()),
         (long.bytes(), Ended::Refused(501), NOT_SERVED),
-        (BROWSER, Ended::Refused(501), NOT_SERVED),
         (too_large, Ended::Refused(501), NOT_SERVED),
         (no_number, Ended::Refused(501), NOT_SERVED),
     ] {
@@ -265,7 +259,7 @@ fn a_session_tells_its_status(rt: HostRuntime) -> Result<(), Fail> {
             b"tpcw: input cut or refused\n".as_slice(),
         ),
         (
-            whole(BROWSER),
+            whole(b"POST /home HTTP/1.1\r\n\r\n"),
             Status::Unserved,
             1,
             NOT_SERVED,
