@@ -77,3 +77,40 @@ fn each_block_as_html(rt: HostRuntime) -> Result<(), Fail> {
     );
     Ok(())
 }
+
+#[test]
+fn refusals_as_pages(rt: HostRuntime) -> Result<(), Fail> {
+    let alloc = rt.alloc();
+    let cases = [
+        (
+            Refusal::CardStolen,
+            402,
+            "<html><head><title>Payment Required</title></head><body>\n\
+            <p>The card was refused: stolen.</p>\n</body></html>\n",
+        ),
+        (
+            Refusal::NoItem,
+            404,
+            "<html><head><title>Not Found</title></head><body>\n\
+            <p>No item has this number.</p>\n</body></html>\n",
+        ),
+        (
+            Refusal::LargeHead,
+            431,
+            "<html><head><title>Request Header Fields Too Large</title></head><body>\n\
+            <p>The head is too large.</p>\n</body></html>\n",
+        ),
+        (
+            Refusal::NotServedYet,
+            501,
+            "<html><head><title>Not Implemented</title></head><body>\n\
+            <p>Not served yet.</p>\n</body></html>\n",
+        ),
+    ];
+    for (refusal, status, want) in cases {
+        let page = refusal_page(alloc, refusal)?;
+        assert_eq!(rt; page.status, status);
+        assert_eq!(rt; page_bytes(alloc, &page)?.bytes(), want.as_bytes());
+    }
+    Ok(())
+}
