@@ -5,8 +5,8 @@ ghost use Rattle.shop_model.specs.Sound.{Sound};
 use crate::links::{push_nav, subject_link};
 use crate::lookups::row_numbered;
 use crate::promotion::push_promo;
-use crate::refusals::not_found;
 use shop_model::{Block, Customer, IdsAsked, Page, Subject, Tables};
+use shop_pages::{Refusal, refusal_page};
 use shop_text::{Listed, Memory, Text};
 use std::alloc::Global;
 
@@ -104,7 +104,7 @@ pub(crate) fn home(alloc: Global, tables: &Tables, ids: IdsAsked, draw: u32) -> 
     match ids.c {
         None => home_page(alloc, tables, ids, draw, None),
         Some(number) => match row_numbered(tables.customers.as_slice(), number) {
-            None => not_found(alloc, b"No customer has this number."),
+            None => refusal_page(alloc, Refusal::NoCustomer),
             Some(customer) => home_page(alloc, tables, ids, draw, Some(customer)),
         },
     }

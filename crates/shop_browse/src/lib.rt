@@ -6,7 +6,6 @@ mod links;
 mod lookups;
 mod product_detail;
 mod promotion;
-mod refusals;
 mod requests;
 mod search_request;
 

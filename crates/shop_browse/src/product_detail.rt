@@ -4,8 +4,8 @@ ghost use Rattle.shop_model.specs.Sound.{Sound};
 
 use crate::links::{item_link, push_nav};
 use crate::lookups::row_numbered;
-use crate::refusals::not_found;
 use shop_model::{Author, Block, IdsAsked, Item, Page, Tables};
+use shop_pages::{Refusal, refusal_page};
 use shop_text::{Listed, Memory, Text};
 use std::alloc::Global;
 
@@ -126,7 +126,7 @@ pub(crate) fn product_detail(
     ensures { IfOk result (λ page. page ≡ spec.product_detail tables.now number ids) }
 {
     match row_numbered(tables.items.as_slice(), number) {
-        None => not_found(alloc, b"No item has this number."),
+        None => refusal_page(alloc, Refusal::NoItem),
         Some(item) => match row_numbered(tables.authors.as_slice(), item.author) {
             None => unreachable!(),
             Some(author) => product_page(alloc, item, author, ids),

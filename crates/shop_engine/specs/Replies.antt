@@ -4,8 +4,9 @@ use Rattle.shop_model.specs.declared.page.Page.{Page}
 use Rattle.shop_model.specs.declared.tables.Tables.{Tables}
 use Rattle.shop_model.specs.PageText.{page_text}
 use Rattle.shop_model.specs.declared.requests.Request.{Request}
-use Rattle.shop_model.specs.Refusals.{refusal_page}
 use Rattle.shop_model.specs.Show.{show}
+use Rattle.shop_pages.specs.Refusals.{page_of}
+use Rattle.shop_pages.specs.declared.refusal.Refusal.TheVariants.{BadRequest, NotServedYet}
 use Rattle.shop_http.specs.declared.messages.Stop.{Stop}
 use Rattle.shop_http.specs.declared.messages.Stop.TheVariants.{Between, Inside, Refusing}
 
@@ -30,11 +31,9 @@ reply page close = reply_head page (length (page_text page)) close ++ page_text 
 unfoldable pub answer : Tables → Request → ℕ → List ℕ
 answer tables request draw = reply (show tables request draw) false
 
--- the page of a message that is refused: no head, or one that isn't served; this project's own
-unfoldable pub refused_page : ℕ → Page
-refused_page status =
-    if status == 400 then refusal_page 400 (codes "Bad Request") (codes "Bad request.")
-    else refusal_page 501 (codes "Not Implemented") (codes "Not served yet.")
+-- the page of a message that is refused: no head, or one that isn't served
+abbrev pub refused_page : ℕ → Page
+refused_page status = if status == 400 then page_of BadRequest else page_of NotServedYet
 
 -- what is written where the messages stop
 unfoldable pub last_words : Stop → List ℕ

@@ -1,10 +1,9 @@
 ghost use Rattle.std.specs.Prelude.{◌≡◌, ◌++◌, IfOk, OnOk, if◌then◌else◌};
-ghost use Rattle.shop_model.specs.Refusals.{refusal_page};
 ghost use Rattle.shop_engine.specs.Replies as spec;
 
-use shop_model::{Block, Page};
-use shop_pages::{page_len, push_page};
-use shop_text::{Listed, Memory, Text};
+use shop_model::Page;
+use shop_pages::{Refusal, page_len, push_page, refusal_page};
+use shop_text::{Memory, Text};
 use std::alloc::Global;
 
 /// The bytes for which the head of a reply makes room.
@@ -61,27 +60,12 @@ fn head_end(close: bool) -> &'static [u8]
 }
 
 /// The page of a message that is refused.
-#[tactic(auto, unfolding(crate::specs::Replies::refused_page))]
 pub(crate) fn refused_page(alloc: Global, status: u16) -> Result<Page, Memory>
     ensures { IfOk result (λ page. page ≡ spec.refused_page status) }
 {
     if status == 400 {
-        refusal_page(alloc, 400, b"Bad Request", b"Bad request.")
+        refusal_page(alloc, Refusal::BadRequest)
     } else {
-        refusal_page(alloc, 501, b"Not Implemented", b"Not served yet.")
+        refusal_page(alloc, Refusal::NotServedYet)
     }
-}
-
-/// A refusal says why in one paragraph, under the reason phrase of its status.
-#[tactic(auto, unfolding(shop_model::specs::Refusals::refusal_page))]
-fn refusal_page(alloc: Global, status: u16, phrase: &[u8], text: &[u8]) -> Result<Page, Memory>
-    ensures { IfOk result (λ page. page ≡ refusal_page status phrase.now text.now) }
-{
-    let mut blocks = Listed::with_capacity(alloc, 1)?;
-    blocks.push(Block::Para(Text::copy(alloc, text)?))?;
-    Ok(Page {
-        status,
-        title: Text::copy(alloc, phrase)?,
-        blocks,
-    })
 }

@@ -3,7 +3,7 @@
 -- RFC 6585, section 5, and 507 of RFC 4918, section 11.5. The texts are this project's own.
 use Rattle.std.specs.Prelude.{ℕ, List, codes}
 use Rattle.shop_model.specs.declared.page.Page.{Page}
-use Rattle.shop_model.specs.Show.{refusal_page}
+use Rattle.shop_model.specs.Refusals.{refusal_page}
 use Rattle.shop_pages.specs.declared.refusal.Refusal.{Refusal}
 use Rattle.shop_pages.specs.declared.refusal.Refusal.TheVariants.{BadRequest, EmptyCart, FullCart, FullLine, CardReused, CardStolen, CardOverLimit, WrongPassword, NoPage, NoItem, NoCart, NoCustomer, NoUserName, NotGetOrPost, LargeBody, LargeHead, TransferEncoding, NotServedYet, GatewayFailed, RowsKeptChanging, FullLog}
 

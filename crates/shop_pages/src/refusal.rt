@@ -117,7 +117,7 @@ impl Refusal {
 }
 
 /// The page of a refusal: the reason phrase as its title, and why.
-#[tactic(auto, unfolding(shop_model::specs::Show::refusal_page))]
+#[tactic(auto, unfolding(shop_model::specs::Refusals::refusal_page))]
 pub fn refusal_page(alloc: Global, refusal: Refusal) -> Result<Page, Memory>
     ensures { IfOk result (λ page. page ≡ spec.page_of refusal) }
 {
