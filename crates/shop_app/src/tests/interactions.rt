@@ -30,8 +30,7 @@ image/apng,*/*;q=0.8,application/signed-exchange;v=b3;q=0.7\r\nSec-Fetch-Site: n
 Sec-Fetch-Mode: navigate\r\nSec-Fetch-User: ?1\r\nSec-Fetch-Dest: document\r\n\
 Accept-Encoding: gzip, deflate, br, zstd\r\nAccept-Language: en-US,en;q=0.9\r\n\r\n";
 
-const BAD_REQUEST: &[u8] =
-    b"HTTP/1.1 400 Bad Request\r\nContent-Type: text/html; charset=utf-8\r\n\
+const BAD_REQUEST: &[u8] = b"HTTP/1.1 400 Bad Request\r\nContent-Type: text/html; charset=utf-8\r\n\
 Content-Length: 87\r\nConnection: close\r\n\r\n\
 <html><head><title>Bad Request</title></head><body>
 <p>Bad request.</p>
@@ -142,8 +141,7 @@ fn ok_reply(alloc: Global, html: &str) -> Result<Text, Fail> {
         b"HTTP/1.1 200 OK\r\nContent-Type: text/html; charset=utf-8\r\nContent-Length: ",
     )
     .map_err(|_| "memory")?;
-    text.push_decimal(html.len() as u64)
-        .map_err(|_| "memory")?;
+    text.push_decimal(html.len() as u64).map_err(|_| "memory")?;
     text.push(b"\r\n\r\n").map_err(|_| "memory")?;
     text.push(html.as_bytes()).map_err(|_| "memory")?;
     Ok(text)

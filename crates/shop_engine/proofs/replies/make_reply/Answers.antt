@@ -1,4 +1,4 @@
-use Rattle.std.proofs.Common.{◌≡◌, ℕ, List, [], ◌++◌, Bool, length, ap, ◌∙◌}
+use Rattle.std.proofs.Common.{◌≡◌, ℕ, List, [], ◌++◌, Bool, length}
 use Rattle.std.proofs.lemmas.Result.{on_ok_weaker}
 use Rattle.shop_model.specs.declared.page.Page.{Page}
 use Rattle.shop_model.specs.PageText.{page_text}
@@ -11,4 +11,4 @@ unfolding reply
 made page close cleared room head now len size empty same first all = rw (all, first, same, empty, size)
 
 pub returns : goal.returns
-returns c = on_ok_weaker c.push_page.result (made c.args.page.now c.args.close c.clear.new.self c.reserve.new.self c.push_head.new.text c.push_page.new.text c.in-Some.len c.in-Some.ensures c.clear.ensures ? ?) c.push_page.ensures.ok
+returns c = on_ok_weaker c.push_page.result (made c.args.page.now c.args.close c.clear.new.self c.reserve.new.self c.push_head.new.text c.push_page.new.text c.in-Some.len c.in-Some.ensures c.clear.ensures c.reserve.ensures c.in_ok-push_head.ensures) c.push_page.ensures.ok
