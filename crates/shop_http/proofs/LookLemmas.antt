@@ -1,11 +1,10 @@
 -- What stands at a message's place decides the first message of all the bytes.
-use Rattle.std.proofs.Common.{◌≡◌, ℕ, ◌+◌, ◌<◌, ◌≤◌, List, [], ◌∷◌, ◌++◌, take, drop, length, sym, ap, ◌∙◌, arith, Some, None}
+use Rattle.std.proofs.Common.{◌≡◌, ℕ, ◌<◌, ◌≤◌, List, ◌++◌, take, drop, length, sym, ap, ◌∙◌, arith, Some, None}
 use Rattle.std.proofs.lemmas.List.{take-append-le, drop-append-le, length-drop}
-use Rattle.httparse.specs.Grammar.{ReadsRequest}
 use Rattle.shop_model.specs.declared.requests.Request.{Request}
 use Rattle.shop_http.specs.Asked.{Asks}
 use Rattle.shop_http.specs.Looks.{TakesFirst, LeavesPart}
-use Rattle.shop_http.specs.Messages.{HEAD_LIMIT, IsFirst, BeginsWithHead, after_line_ends, head_len}
+use Rattle.shop_http.specs.Messages.{HEAD_LIMIT, BeginsWithHead, after_line_ends, head_len}
 use Rattle.shop_http.proofs.HeadLemmas.{head_len-within, head_len-front}
 use Rattle.shop_http.proofs.LineEnds.{after_line_ends-shorter, after_line_ends-twice, after_line_ends-front}
 

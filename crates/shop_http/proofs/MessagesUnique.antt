@@ -1,12 +1,12 @@
 -- All the bytes of a connection have one list of messages, and one way to stop.
-use Rattle.std.proofs.Common.{◌≡◌, ℕ, ◌<◌, ◌≤◌, List, [], ◌∷◌, take, drop, length, refl, sym, ap, ◌∙◌, arith, Some, None, inl, inr}
+use Rattle.std.proofs.Common.{◌≡◌, ℕ, List, [], ◌∷◌, take, drop, length, refl, sym, ap, ◌∙◌, arith, Some, inl, inr}
 use Rattle.httparse.specs.Grammar.{RequestHead, ReadsRequest}
 use Rattle.httparse.proofs.GrammarLemmas.{request_unique}
 use Rattle.shop_model.specs.declared.requests.Request.{Request}
 use Rattle.shop_http.specs.declared.messages.Stop.{Stop}
 use Rattle.shop_http.specs.declared.messages.Stop.TheVariants.{Between, Inside, Refusing}
 use Rattle.shop_http.specs.Heads.{asked_by}
-use Rattle.shop_http.specs.Messages.{HEAD_LIMIT, LINES_LIMIT, BeginsWithHead, IsFirst, IsPart, IsOversized, IsBroken, IsUnserved, IsRefused, StopsAt, AreMessages, after_line_ends, head_len, line_feeds}
+use Rattle.shop_http.specs.Messages.{BeginsWithHead, IsFirst, IsPart, IsOversized, IsBroken, IsUnserved, IsRefused, StopsAt, AreMessages, after_line_ends, head_len, line_feeds}
 use Rattle.shop_http.proofs.HeadLemmas.{head_len-nil}
 
 one_len : (bytes : List ℕ) (len len' : ℕ) → BeginsWithHead bytes len → BeginsWithHead bytes len' → len ≡ len'

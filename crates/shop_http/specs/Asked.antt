@@ -1,5 +1,5 @@
 -- What the bytes of a head say.
-use Rattle.std.specs.Prelude.{◌≡◌, ℕ, ◌<◌, ◌≤◌, ◌⊎◌, List, [], Some, None}
+use Rattle.std.specs.Prelude.{◌≡◌, ℕ, ◌<◌, ◌≤◌, List, [], Some, None}
 use Rattle.httparse.specs.Grammar.{RequestHead, ReadsRequest}
 use Rattle.shop_http.specs.declared.heads.Asked.{Asked}
 use Rattle.shop_http.specs.declared.heads.Asked.TheVariants as asked

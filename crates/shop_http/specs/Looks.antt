@@ -1,11 +1,11 @@
 -- What a look at the front of the bytes says of the messages of all the bytes.
-use Rattle.std.specs.Prelude.{◌≡◌, ℕ, ◌≤◌, ◌<◌, List, [], ◌++◌, length, None}
+use Rattle.std.specs.Prelude.{◌≡◌, ℕ, ◌<◌, List, [], ◌++◌, length, None}
 use Rattle.shop_model.specs.declared.requests.Request.{Request}
 use Rattle.shop_http.specs.declared.messages.Look.{Look}
 use Rattle.shop_http.specs.declared.messages.Look.TheVariants as look
 use Rattle.shop_http.specs.declared.messages.Stop.{Stop}
 use Rattle.shop_http.specs.declared.messages.Stop.TheVariants.{Between, Inside, Refusing}
-use Rattle.shop_http.specs.Messages.{HEAD_LIMIT, IsFirst, IsRefused, StopsAt, after_line_ends, head_len}
+use Rattle.shop_http.specs.Messages.{HEAD_LIMIT, IsFirst, IsRefused, after_line_ends, head_len}
 
 -- the first message asks for this, and the rest of the bytes follows it, whatever comes behind
 pub record TakesFirst (before after : List ℕ) (request : Request) : Type 0 where

@@ -15,6 +15,7 @@ use std::alloc::Global;
 
 /// The most header lines, and the most line feeds, of a head.
 const HEADERS_LIMIT: usize = 64;
+
 const LINES_LIMIT: usize = 66;
 
 /// What a head asks for.

@@ -1,4 +1,4 @@
-use Rattle.std.proofs.Common.{◌≡◌, List, ℕ, true, false, Some, None, ap, ◌∙◌, sym, arith}
+use Rattle.std.proofs.Common.{◌≡◌, List, ℕ, true, false, Some, None, ◌∙◌, sym, arith}
 use Rattle.std.specs.declared.option.Option.{Option}
 use Rattle.httparse.specs.Grammar.{RequestHead}
 use Rattle.shop_model.specs.declared.requests.Request.{Request}

@@ -1,4 +1,4 @@
-use Rattle.std.proofs.Common.{◌≡◌, ap, ◌∙◌, sym, arith}
+use Rattle.std.proofs.Common.{ap, ◌∙◌, sym, arith}
 use Rattle.shop_http.specs.Messages.{head_len}
 use Rattle.shop_http.proofs.LookLemmas.{part-at, first-at}
 use Rattle.shop_http.proofs.messages.look_at.Goals as goal

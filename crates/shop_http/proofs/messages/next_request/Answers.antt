@@ -1,6 +1,6 @@
-use Rattle.std.proofs.Common.{◌≡◌, arith, subst, List, ℕ}
+use Rattle.std.proofs.Common.{arith, subst, List, ℕ}
 use Rattle.shop_http.specs.Looks.{IsUnfinished}
-use Rattle.shop_http.proofs.NextLemmas.{Gathers-piece, Gives-first, Stops-refused, Stops-ended}
+use Rattle.shop_http.proofs.NextLemmas.{Gathers-piece, Stops-refused, Stops-ended}
 use Rattle.shop_http.proofs.messages.next_request.Goals as goal
 
 pub returns-in-Refused-clause-next : goal.returns-in-Refused-clause-next
