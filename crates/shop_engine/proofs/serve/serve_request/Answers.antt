@@ -11,8 +11,8 @@ unfolding answer
 returns-then-write_all-clause-answered g c _ =
     let worker = c.worker.view_is ∙ c.accept-point.ensures.worker in
     let page =
-        c.in-Ok.ensures ∙ ap (λ (w : WorkerState). show w.tables c.args.request.now c.accept-point.result.draw) worker
-        ∙ ap (λ (point : Point). show c.args.worker.now.tables c.args.request.now point.draw) c.accept-point.ensures.point in
+    c.in-Ok.ensures ∙ ap (λ (w : WorkerState). show w.tables c.args.request.now c.accept-point.result.draw) worker
+    ∙ ap (λ (point : Point). show c.args.worker.now.tables c.args.request.now point.draw) c.accept-point.ensures.point in
     let bytes = c.bytes.ensures ∙ c.in-Ok-make_reply.ensures ∙ ap (λ (shown : Page). reply shown false) page in
     record {
       reading = c.now.result;
