@@ -176,7 +176,7 @@ fn a_connection_ends_as_its_input_does(rt: HostRuntime) -> Result<(), Fail> {
 /// So many bytes without the end of a head.
 fn filled(alloc: Global, len: usize) -> Result<Text, Fail> {
     let mut text = Text::copy(alloc, b"GET /").map_err(|_| "memory")?;
-    while text.len() < len {
+    for _ in text.len()..len {
         text.push(b"a").map_err(|_| "memory")?;
     }
     Ok(text)
