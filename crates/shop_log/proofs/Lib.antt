@@ -1,0 +1,4 @@
+pub mod ByEnd
+pub mod Extending
+pub mod Versions
+pub mod Shortest
