@@ -2,3 +2,4 @@ pub mod ByEnd
 pub mod Extending
 pub mod Versions
 pub mod Shortest
+pub mod Legality

@@ -53,3 +53,8 @@ pub record IsTrueOf {State Entry Key Row : Type 0} (history : History State Entr
   pub within : version ≤ length log
   pub version_is : version_of history state (take version log) key ≡ version
   pub row_is : row_after history state log version key ≡ row
+
+-- a log in which each entry may follow those before it
+pub data Legal {Entry : Type 0} (MayFollow : List Entry → Entry → Type 0) : List Entry → Type 0 where
+  nothing : Legal MayFollow []
+  push : {log : List Entry} (entry : Entry) → Legal MayFollow log → MayFollow log entry → Legal MayFollow (log ++ entry ∷ [])
