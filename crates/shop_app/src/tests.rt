@@ -1,5 +1,5 @@
 use super::*;
-use shop_edges::{BytesIn, BytesOut, ListClock};
+use shop_edges::{BytesIn, BytesOut, Clock, ListClock};
 use shop_engine::{Ended, Point, PointKind, Report, Worker, serve_connection};
 use shop_model::Scale;
 use shop_populate::populate;
@@ -208,6 +208,17 @@ GET /product_detail?item=0000000001 HTTP/1.1\r\nHost: shop\r\n\r\n";
         ]
         .as_slice()
     );
+    Ok(())
+}
+
+/// A twin goes on where the clock stands, and neither moves the other.
+#[test]
+fn twins_read_the_same_list(rt: HostRuntime) -> Result<(), Fail> {
+    let mut clock = clock_of(rt.alloc(), &[5, 9, 7])?;
+    assert_eq!(rt; clock.now(), 5);
+    let mut twin = clock.twin();
+    assert_eq!(rt; [twin.now(), twin.now(), twin.now()], [9, 7, 7]);
+    assert_eq!(rt; [clock.now(), clock.now(), clock.now()], [9, 7, 7]);
     Ok(())
 }
 

@@ -10,6 +10,3 @@ mod requests;
 mod search_request;
 
 pub use requests::show;
-
-#[cfg(test)]
-mod tests;

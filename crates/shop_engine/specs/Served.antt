@@ -1,6 +1,7 @@
 -- What one connection met, and what it left.
 use Rattle.std.specs.Prelude.{◌≡◌, ℕ, ◌+◌, ◌-◌, ◌^◌, min, max, List, [], ◌∷◌, ◌++◌, Option, Some, None}
 use Rattle.std.specs.Io.KnownBytes.{Appends, Consumes}
+use Rattle.shop_edges.specs.Causes.{count_up}
 use Rattle.shop_edges.specs.Clocks.{Tells}
 use Rattle.shop_model.specs.Limits.{stamp_limit}
 use Rattle.shop_model.specs.Words.{word}
@@ -17,17 +18,13 @@ use Rattle.shop_http.specs.Nexts.{IsDrained}
 use Rattle.shop_engine.specs.Replies.{answer, last_words}
 use Rattle.shop_engine.specs.Workers.{Caller, Progress, WorkerState}
 
--- a stored count that rises by one, and stands still at its end
-abbrev pub counted : ℕ → ℕ
-counted count = min (count + 1) (2 ^ 64 - 1)
-
 -- the moment of a request: never before the last one, and within what a date can show
 abbrev pub moment_of : ℕ → ℕ → ℕ
 moment_of last reading = max last (min reading stamp_limit)
 
 -- the progress after one more request, at a reading of the clock
 abbrev pub after_one : Progress → ℕ → Progress
-after_one progress reading = record { accepted = counted progress.accepted; last = moment_of progress.last reading }
+after_one progress reading = record { accepted = count_up progress.accepted; last = moment_of progress.last reading }
 
 -- the table of drawn words that belongs to workers; a row of it is a caller's
 abbrev pub WORKERS : ℕ
@@ -39,8 +36,8 @@ point_at caller before reading = record {
   kind = At;
   front = 0;
   moment = moment_of before.last reading;
-  call = counted before.accepted;
-  draw = word caller.seed caller.scale WORKERS caller.number (counted before.accepted - 1);
+  call = count_up before.accepted;
+  draw = word caller.seed caller.scale WORKERS caller.number (count_up before.accepted - 1);
   tries = 1;
 }
 

@@ -78,39 +78,43 @@ fn each_block_as_html(rt: HostRuntime) -> Result<(), Fail> {
     Ok(())
 }
 
+const NO_ITEM: &str = "<html><head><title>Not Found</title></head><body>\n\
+    <p>No item has this number.</p>\n</body></html>\n";
+
 #[test]
-fn refusals_as_pages(rt: HostRuntime) -> Result<(), Fail> {
-    let alloc = rt.alloc();
+fn refusals_say_why(rt: HostRuntime) -> Result<(), Fail> {
+    use Refusal::*;
     let cases = [
-        (
-            Refusal::CardStolen,
-            402,
-            "<html><head><title>Payment Required</title></head><body>\n\
-            <p>The card was refused: stolen.</p>\n</body></html>\n",
-        ),
-        (
-            Refusal::NoItem,
-            404,
-            "<html><head><title>Not Found</title></head><body>\n\
-            <p>No item has this number.</p>\n</body></html>\n",
-        ),
-        (
-            Refusal::LargeHead,
-            431,
-            "<html><head><title>Request Header Fields Too Large</title></head><body>\n\
-            <p>The head is too large.</p>\n</body></html>\n",
-        ),
-        (
-            Refusal::NotServedYet,
-            501,
-            "<html><head><title>Not Implemented</title></head><body>\n\
-            <p>Not served yet.</p>\n</body></html>\n",
-        ),
+        (BadRequest, 400, "Bad Request", "Bad request."),
+        (EmptyCart, 400, "Bad Request", "The cart is empty."),
+        (FullCart, 400, "Bad Request", "A cart holds at most 100 lines."),
+        (FullLine, 400, "Bad Request", "A line holds at most 999."),
+        (CardReused, 402, "Payment Required", "The card was refused: reused."),
+        (CardStolen, 402, "Payment Required", "The card was refused: stolen."),
+        (CardOverLimit, 402, "Payment Required", "The card was refused: limit."),
+        (WrongPassword, 403, "Forbidden", "Wrong password."),
+        (NoPage, 404, "Not Found", "No such page."),
+        (NoItem, 404, "Not Found", "No item has this number."),
+        (NoCart, 404, "Not Found", "No cart has this number."),
+        (NoCustomer, 404, "Not Found", "No customer has this number."),
+        (NoUserName, 404, "Not Found", "No customer has this name."),
+        (NotGetOrPost, 405, "Method Not Allowed", "Use GET or POST."),
+        (LargeBody, 413, "Payload Too Large", "The body is too large."),
+        (LargeHead, 431, "Request Header Fields Too Large", "The head is too large."),
+        (TransferEncoding, 501, "Not Implemented", "Transfer-Encoding is not served."),
+        (NotServedYet, 501, "Not Implemented", "Not served yet."),
+        (GatewayFailed, 502, "Bad Gateway", "The payment gateway failed."),
+        (RowsKeptChanging, 503, "Service Unavailable", "The rows kept changing."),
+        (FullLog, 507, "Insufficient Storage", "The log is full."),
     ];
-    for (refusal, status, want) in cases {
-        let page = refusal_page(alloc, refusal)?;
-        assert_eq!(rt; page.status, status);
-        assert_eq!(rt; page_bytes(alloc, &page)?.bytes(), want.as_bytes());
+    for (refusal, status, phrase, sentence) in cases {
+        assert_eq!(rt; refusal.status(), status);
+        assert_eq!(rt; refusal.phrase(), phrase.as_bytes());
+        assert_eq!(rt; refusal.text(), sentence.as_bytes());
     }
+    let alloc = rt.alloc();
+    let page = refusal_page(alloc, NoItem)?;
+    assert_eq!(rt; page.status, 404);
+    assert_eq!(rt; page_bytes(alloc, &page)?.bytes(), NO_ITEM.as_bytes());
     Ok(())
 }

@@ -70,7 +70,11 @@ fn address_row(alloc: Global, seed: u32, scale: &Scale, id: u32) -> Result<Addre
 
 /// The addresses of a shop.
 #[tactic(auto, using(shop_model::proofs::Lists::rows_push), unfolding(shop_model::specs::Population::addresses_table))]
-pub fn addresses_table(alloc: Global, seed: u32, scale: &Scale) -> Result<Listed<Address>, Memory>
+pub(crate) fn addresses_table(
+    alloc: Global,
+    seed: u32,
+    scale: &Scale,
+) -> Result<Listed<Address>, Memory>
     ensures { IfOk result (λ table. table ≡ spec.addresses_table seed scale.now) }
 {
     let mut table = Listed::with_capacity(alloc, scale.addresses as usize)?;

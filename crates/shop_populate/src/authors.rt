@@ -24,7 +24,11 @@ fn author_row(alloc: Global, seed: u32, scale: &Scale, id: u32) -> Result<Author
 
 /// The authors of a shop.
 #[tactic(auto, using(shop_model::proofs::Lists::rows_push), unfolding(shop_model::specs::Population::authors_table))]
-pub fn authors_table(alloc: Global, seed: u32, scale: &Scale) -> Result<Listed<Author>, Memory>
+pub(crate) fn authors_table(
+    alloc: Global,
+    seed: u32,
+    scale: &Scale,
+) -> Result<Listed<Author>, Memory>
     ensures { IfOk result (λ table. table ≡ spec.authors_table seed scale.now) }
 {
     let mut table = Listed::with_capacity(alloc, scale.authors as usize)?;

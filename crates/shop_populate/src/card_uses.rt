@@ -44,7 +44,7 @@ fn number_text(alloc: Global, number: u64) -> Result<Text, Memory>
 
 /// The moment at which an order is placed, in milliseconds since 1970-01-01.
 #[tactic(auto, unfolding(shop_model::specs::Population::placed))]
-pub fn placed(day: u32) -> u64
+pub(crate) fn placed(day: u32) -> u64
     ensures value { result ≡ spec.placed day }
     ensures bound { result ≤ 1_000_000_000_000 }
 {
@@ -53,7 +53,7 @@ pub fn placed(day: u32) -> u64
 
 /// The card transaction of an order.
 #[tactic(auto, unfolding(shop_model::specs::Population::card_of, shop_model::specs::Population::card_number))]
-pub fn card_of(
+pub(crate) fn card_of(
     alloc: Global,
     customer: &Customer,
     address: &Address,

@@ -33,7 +33,7 @@ fn country_row(alloc: Global, id: u32) -> Result<Country, Memory>
 
 /// All countries.
 #[tactic(auto, using(shop_model::proofs::Lists::rows_push), unfolding(shop_model::specs::Population::countries_table))]
-pub fn countries_table(alloc: Global) -> Result<Listed<Country>, Memory>
+pub(crate) fn countries_table(alloc: Global) -> Result<Listed<Country>, Memory>
     ensures { IfOk result (λ table. table ≡ spec.countries_table) }
 {
     let mut table = Listed::with_capacity(alloc, COUNTRIES as usize)?;

@@ -77,7 +77,11 @@ fn customer_row(alloc: Global, seed: u32, scale: &Scale, id: u32) -> Result<Cust
 
 /// The customers of a shop.
 #[tactic(auto, using(shop_model::proofs::Lists::rows_push), unfolding(shop_model::specs::Population::customers_table))]
-pub fn customers_table(alloc: Global, seed: u32, scale: &Scale) -> Result<Listed<Customer>, Memory>
+pub(crate) fn customers_table(
+    alloc: Global,
+    seed: u32,
+    scale: &Scale,
+) -> Result<Listed<Customer>, Memory>
     ensures { IfOk result (λ table. table ≡ spec.customers_table seed scale.now) }
 {
     let mut table = Listed::with_capacity(alloc, scale.customers as usize)?;

@@ -141,7 +141,7 @@ fn item_row(alloc: Global, seed: u32, scale: &Scale, id: u32) -> Result<Item, Me
 
 /// The items of a shop.
 #[tactic(auto, using(shop_model::proofs::Lists::rows_push), unfolding(shop_model::specs::Population::items_table))]
-pub fn items_table(alloc: Global, seed: u32, scale: &Scale) -> Result<Listed<Item>, Memory>
+pub(crate) fn items_table(alloc: Global, seed: u32, scale: &Scale) -> Result<Listed<Item>, Memory>
     ensures { IfOk result (λ table. table ≡ spec.items_table seed scale.now) }
 {
     let mut table = Listed::with_capacity(alloc, scale.items as usize)?;

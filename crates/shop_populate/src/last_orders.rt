@@ -7,7 +7,7 @@ use shop_text::{Listed, Memory};
 use std::alloc::Global;
 
 /// The last order of each of so many customers, in one pass over the orders.
-pub fn last_orders_table(
+pub(crate) fn last_orders_table(
     alloc: Global,
     customers: u32,
     orders: &[Order],

@@ -9,7 +9,7 @@ use std::alloc::Global;
 
 /// How many lines an order has.
 #[tactic(auto, unfolding(shop_model::specs::Population::size))]
-pub fn size(word: u32) -> u32
+pub(crate) fn size(word: u32) -> u32
     ensures value { result ≡ spec.size word }
     ensures few { result ≤ 5 }
 {
@@ -61,7 +61,7 @@ fn order_line(
 
 /// So many lines of an order.
 #[tactic(auto, using(shop_model::proofs::Lists::rows_push))]
-pub fn order_lines(
+pub(crate) fn order_lines(
     alloc: Global,
     seed: u32,
     scale: &Scale,

@@ -6,7 +6,12 @@ use shop_model::{Address, Customer, Item, Scale};
 
 /// The customer with this id among those of the shop.
 #[tactic(auto, using(shop_model::proofs::Lists::id_within, shop_model::proofs::Lists::row_at), unfolding(shop_model::specs::Population::customers_table))]
-pub fn customer_at<'a>(seed: u32, scale: &Scale, customers: &'a [Customer], id: u32) -> &'a Customer
+pub(crate) fn customer_at<'a>(
+    seed: u32,
+    scale: &Scale,
+    customers: &'a [Customer],
+    id: u32,
+) -> &'a Customer
     requires table { customers.now ≡ spec.customers_table seed scale.now }
     requires has { Has scale.now.customers id }
     ensures value { result.now ≡ spec.customer_row seed scale.now id }
@@ -18,7 +23,12 @@ pub fn customer_at<'a>(seed: u32, scale: &Scale, customers: &'a [Customer], id: 
 
 /// The address with this id among those of the shop.
 #[tactic(auto, using(shop_model::proofs::Lists::id_within, shop_model::proofs::Lists::row_at), unfolding(shop_model::specs::Population::addresses_table))]
-pub fn address_at<'a>(seed: u32, scale: &Scale, addresses: &'a [Address], id: u32) -> &'a Address
+pub(crate) fn address_at<'a>(
+    seed: u32,
+    scale: &Scale,
+    addresses: &'a [Address],
+    id: u32,
+) -> &'a Address
     requires table { addresses.now ≡ spec.addresses_table seed scale.now }
     requires has { Has scale.now.addresses id }
     ensures { result.now ≡ spec.address_row seed scale.now id }
@@ -28,7 +38,7 @@ pub fn address_at<'a>(seed: u32, scale: &Scale, addresses: &'a [Address], id: u3
 
 /// The item with this id among those of the shop.
 #[tactic(auto, using(shop_model::proofs::Lists::id_within, shop_model::proofs::Lists::row_at), unfolding(shop_model::specs::Population::items_table))]
-pub fn item_at<'a>(seed: u32, scale: &Scale, items: &'a [Item], id: u32) -> &'a Item
+pub(crate) fn item_at<'a>(seed: u32, scale: &Scale, items: &'a [Item], id: u32) -> &'a Item
     requires table { items.now ≡ spec.items_table seed scale.now }
     requires has { Has scale.now.items id }
     ensures { result.now ≡ spec.item_row seed scale.now id }

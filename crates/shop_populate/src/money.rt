@@ -50,7 +50,7 @@ fn units_of(lines: &[Line]) -> u64
 
 /// The charge for lines at a discount, in per cent.
 #[tactic(auto, unfolding(shop_model::specs::Money::money, shop_model::specs::Money::sub_of, shop_model::specs::Money::tax_of, shop_model::specs::Money::ship_of))]
-pub fn charged(lines: &[Line], discount: u32) -> Charge
+pub(crate) fn charged(lines: &[Line], discount: u32) -> Charge
     requires few { length lines.now ≤ 100 }
     requires discount { discount ≤ 50 }
     ensures value { result ≡ spec.totals lines.now discount }

@@ -14,8 +14,6 @@ use shop_text::{Listed, Memory};
 use std::alloc::Global;
 
 /// The tables that a shop of this scale opens with, each row drawn from the seed and its own id.
-///
-/// The tables are sound, and have room for 1,000,001 log entries. Only want of memory is refused.
 #[tactic(auto, unfolding(shop_model::specs::Population::populated))]
 pub fn populate(alloc: Global, seed: u32, scale: &Scale) -> Result<Tables, Memory>
     ensures value { IfOk result (λ tables. tables ≡ spec.populated seed scale.now) }

@@ -89,6 +89,16 @@ fn check_item(rt: &impl Abort, tables: &Tables) -> Result<(), Fail> {
     Ok(())
 }
 
+/// Compares the ids of the items of a subject with what they should be.
+fn check_subject(rt: &impl Abort, tables: &Tables, subject: Subject, wanted: &[u32]) {
+    let items = tables.items.as_slice().iter();
+    let mut found = items.filter(|item| item.subject == subject);
+    for id in wanted {
+        assert_eq!(rt; found.next().map(|item| item.id), Some(*id));
+    }
+    assert_eq!(rt; found.next().map(|item| item.id), None);
+}
+
 fn check_address(rt: &impl Abort, tables: &Tables) -> Result<(), Fail> {
     let address = tables.addresses.as_slice().get(28).ok_or("no address 29")?;
     let country = tables.countries.as_slice().get(44).ok_or("no country 45")?;
@@ -137,6 +147,7 @@ fn desk_scale_seed_0(rt: HostRuntime) -> Result<(), Fail> {
     let tables = populate(rt.alloc(), 0, &Scale::desk())?;
     check_customer(&rt, &tables)?;
     check_item(&rt, &tables)?;
+    check_subject(&rt, &tables, Subject::NonFiction, &[1, 25, 49, 73, 97]);
     check_address(&rt, &tables)?;
     check_order(&rt, tables.orders.as_slice().get(19).ok_or("no order 20")?);
     let last = tables.last.as_slice();
@@ -145,11 +156,43 @@ fn desk_scale_seed_0(rt: HostRuntime) -> Result<(), Fail> {
     Ok(())
 }
 
+/// The last item, customer and address of 1000x1, by the model below.
+fn check_last_rows(rt: &impl Abort, tables: &Tables) -> Result<(), Fail> {
+    let item = tables.items.as_slice().last().ok_or("no item")?;
+    let numbers = [item.id, item.author, item.stock, item.published, item.pages];
+    assert_eq!(rt; numbers, [1000, 250, 14, 5345, 8236]);
+    assert_eq!(rt; [item.srp, item.cost], [4793, 4217]);
+    assert_eq!(rt; item.related, [1, 2, 3, 4, 5]);
+    assert_eq!(rt; item.subject.number(), 2);
+    assert_eq!(rt; item.backing, Backing::Paperback);
+    let customer = tables.customers.as_slice().last().ok_or("no customer")?;
+    let numbers = [customer.id, customer.discount, customer.address];
+    assert_eq!(rt; numbers, [2880, 48, 2531]);
+    let address = tables.addresses.as_slice().last().ok_or("no address")?;
+    assert_eq!(rt; [address.id, address.text.country], [5760, 16]);
+    let texts = [
+        (&item.title, "Amber Castle OGBABABA"),
+        (&item.publisher, "Fir Press"),
+        (&item.about, "About a Kind Castle."),
+        (&customer.user, "ALININBA"),
+        (&customer.first, "Dan"),
+        (&customer.last, "Baker"),
+        (&customer.phone, "2447447523"),
+        (&address.text.street1, "122 Harbour Street"),
+        (&address.text.city, "Elliston"),
+        (&address.text.state, "Iron"),
+        (&address.text.zip, "13105"),
+    ];
+    check_texts(rt, &texts);
+    Ok(())
+}
+
 /// The values are those of a model in Python, with a PCG32 of its own.
 #[test]
 fn larger_scale_seed_0(rt: HostRuntime) -> Result<(), Fail> {
     let scale = Scale::of(1000, 1).ok_or("no such scale")?;
     let tables = populate(rt.alloc(), 0, &scale)?;
+    check_last_rows(&rt, &tables)?;
     let order = tables.orders.as_slice().get(2591).ok_or("no order 2592")?;
     check_numbers(&rt, order, [2592, 559, 41, 2956, 11_055, 60]);
     let stamp = 954_547_200_000;
