@@ -15,6 +15,10 @@ get_push (z ∷ xs) y zero x is = inl is
 get_push (z ∷ xs) y (suc n) x is =
     elim (get_push xs y n x is) as (λ _. (slice_get xs n ≡ Some x) ⊎ ((suc n ≡ suc (length xs)) × (y ≡ x))) [ inl there ↦ inl there | inr last ↦ inr (ap suc last.0, last.1) ]
 
+get_last : {A : Type 0} (xs : List A) (y : A) → slice_get (xs ++ y ∷ []) (length xs) ≡ Some y
+get_last [] y = refl
+get_last (z ∷ xs) y = get_last xs y
+
 module _ {Entry : Type 0} (MayFollow : List Entry → Entry → Type 0) where
   -- what holds of no entries, and is kept by each that may follow, holds
   pub along : (P : List Entry → Type 0) → P [] → ((log : List Entry) (entry : Entry) → MayFollow log entry → P log → P (log ++ entry ∷ [])) → (log : List Entry) → Legal MayFollow log → P log
@@ -45,6 +49,12 @@ module _ {Entry : Type 0} (MayFollow : List Entry → Entry → Type 0) where
       let front : take count (log ++ last ∷ []) ≡ log = ap (λ n. take n (log ++ last ∷ [])) end.0 ∙ take-append-le (length log) log (last ∷ []) (omega arith) ∙ take_all (length log) log (omega arith) in
       subst (λ (e : Entry). MayFollow (take count (log ++ last ∷ [])) e) end.1 (subst (λ (l : List Entry). MayFollow l last) (sym front) follows))
       (get_push log last count entry is))
+
+  -- the last entry of a legal log may follow those before it
+  pub legal_last : (log : List Entry) (entry : Entry) → Legal MayFollow (log ++ entry ∷ []) → MayFollow log entry
+  legal_last log entry legal =
+      let front : take (length log) (log ++ entry ∷ []) ≡ log = take-append-le (length log) log (entry ∷ []) (omega arith) ∙ take_all (length log) log (omega arith) in
+      subst (λ (l : List Entry). MayFollow l entry) front (legal_at (log ++ entry ∷ []) legal (length log) entry (get_last log entry))
 
 -- What is good with so much room stays good along a legal log, where each entry uses one of the room.
 pub good_after : {State Entry Key Row : Type 0} (history : History State Entry Key Row) (MayFollow : List Entry → Entry → Type 0) (Good : State → ℕ → Type 0) (state : State)

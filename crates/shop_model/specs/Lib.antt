@@ -7,6 +7,8 @@ pub mod LineView
 pub mod CardUseView
 pub mod OrderView
 pub mod CartView
+pub mod CartAsked
+pub mod CartRequestView
 pub mod AuthIds
 pub mod Scales
 pub mod ScaleView
@@ -20,4 +22,9 @@ pub mod Targets
 pub mod Refusals
 pub mod Lookups
 pub mod Products
+pub mod Rankings
+pub mod Kinds
+pub mod Catalogues
+pub mod Lines
 pub mod Show
+pub mod Carts

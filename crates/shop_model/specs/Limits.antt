@@ -17,6 +17,22 @@ quantity_limit = 999
 abbrev pub lines_limit : ℕ
 lines_limit = 100
 
+-- the items of a list that is shown
+abbrev pub list_limit : ℕ
+list_limit = 50
+
+-- the latest orders that best sellers are counted over
+abbrev pub counted_orders : ℕ
+counted_orders = 3_333
+
+-- the quantities that one request for the cart sets
+abbrev pub sets_limit : ℕ
+sets_limit = 100
+
+-- the bytes of a parameter that is a text
+abbrev pub text_limit : ℕ
+text_limit = 100
+
 -- the units in stock
 abbrev pub stock_limit : ℕ
 stock_limit = 1_000_000

@@ -21,3 +21,7 @@ title_of tables id = unwrap_or (option_map (λ i. i.title) (row_numbered tables.
 -- the items that are related to the item with an id
 abbrev pub related_of : Tables → ℕ → List ℕ
 related_of tables id = unwrap_or (option_map (λ i. i.related) (row_numbered tables.items id)) []
+
+-- the cost of one unit of the item with an id
+abbrev pub cost_of : Tables → ℕ → ℕ
+cost_of tables id = unwrap_or (option_map (λ i. i.cost) (row_numbered tables.items id)) 0

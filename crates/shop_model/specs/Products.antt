@@ -5,10 +5,11 @@ use Rattle.shop_model.specs.declared.author.Author.{Author}
 use Rattle.shop_model.specs.declared.page.Block.{Block}
 use Rattle.shop_model.specs.declared.page.Block.TheVariants.{Heading, Para, Picture}
 use Rattle.shop_model.specs.declared.page.Page.{Page}
+use Rattle.shop_model.specs.declared.refusal.Refusal.TheVariants.{NoItem}
 use Rattle.shop_model.specs.declared.requests.IdsAsked.{IdsAsked}
 use Rattle.shop_model.specs.declared.tables.Tables.{Tables}
 use Rattle.shop_model.specs.Lookups.{row_numbered, author_of}
-use Rattle.shop_model.specs.Refusals.{not_found}
+use Rattle.shop_model.specs.Refusals.{page_of}
 use Rattle.shop_model.specs.Rows.{ItemRow}
 use Rattle.shop_model.specs.Subjects.{subject_name, backing_name}
 use Rattle.shop_model.specs.Targets.{item_link, nav}
@@ -56,7 +57,7 @@ product_page item author ids = record {
 
 -- the page of an item, if there is one
 abbrev pub product_or_refusal : Tables → IdsAsked → Option ItemRow → Page
-product_or_refusal tables ids None = not_found (codes "No item has this number.")
+product_or_refusal tables ids None = page_of NoItem
 product_or_refusal tables ids (Some item) = product_page item (author_of tables item) ids
 
 -- what a request for the item with a number shows

@@ -3,15 +3,17 @@ use Rattle.std.specs.Prelude.{ℕ, ◌+◌, ◌%◌, List, [], ◌∷◌, ◌++�
 use Rattle.shop_model.specs.declared.page.Block.{Block}
 use Rattle.shop_model.specs.declared.page.Block.TheVariants.{Heading, Para, Form}
 use Rattle.shop_model.specs.declared.page.Page.{Page}
+use Rattle.shop_model.specs.declared.refusal.Refusal.TheVariants.{NoCustomer}
 use Rattle.shop_model.specs.declared.requests.IdsAsked.{IdsAsked}
 use Rattle.shop_model.specs.declared.requests.Request.{Request}
-use Rattle.shop_model.specs.declared.requests.Request.TheVariants.{Home, ProductDetail, SearchRequest}
+use Rattle.shop_model.specs.declared.requests.Request.TheVariants.{Home, NewProducts, BestSellers, ProductDetail, SearchRequest, SearchResults}
 use Rattle.shop_model.specs.declared.subject.Subject.{Subject}
 use Rattle.shop_model.specs.declared.subject.Subject.TheVariants.{Arts}
 use Rattle.shop_model.specs.declared.tables.Tables.{Tables}
+use Rattle.shop_model.specs.Lines.{new_products, best_sellers, search_results}
 use Rattle.shop_model.specs.Lookups.{row_numbered, title_of, related_of}
 use Rattle.shop_model.specs.Products.{product_detail}
-use Rattle.shop_model.specs.Refusals.{not_found}
+use Rattle.shop_model.specs.Refusals.{page_of}
 use Rattle.shop_model.specs.Rows.{CustomerRow}
 use Rattle.shop_model.specs.Subjects.{subjects}
 use Rattle.shop_model.specs.Targets.{id_fields, item_link, subject_link, nav}
@@ -56,7 +58,7 @@ home_page tables ids draw customer = record {
 
 -- the page of Home for a customer, if there is one
 abbrev pub home_or_refusal : Tables → IdsAsked → ℕ → Option CustomerRow → Page
-home_or_refusal tables ids draw None = not_found (codes "No customer has this number.")
+home_or_refusal tables ids draw None = page_of NoCustomer
 home_or_refusal tables ids draw (Some customer) = home_page tables ids draw (Some customer)
 
 -- what a request for Home shows, with the number of a customer if it gives one
@@ -85,5 +87,8 @@ search_request tables ids draw = record {
 -- what a request shows by the tables, with the word that was drawn for it
 abbrev pub show : Tables → Request → ℕ → Page
 show tables (Home asked) draw = home tables asked.ids draw asked.ids.c
+show tables (NewProducts asked) draw = new_products tables asked.subject asked.ids
+show tables (BestSellers asked) draw = best_sellers tables asked.subject asked.ids
 show tables (ProductDetail asked) draw = product_detail tables asked.item asked.ids
 show tables (SearchRequest asked) draw = search_request tables asked.ids draw
+show tables (SearchResults asked) draw = search_results tables asked.kind asked.text asked.ids

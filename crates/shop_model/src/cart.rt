@@ -1,4 +1,6 @@
-use shop_text::Listed;
+ghost use Rattle.std.specs.Prelude.{◌≡◌, IfOk};
+
+use shop_text::{Listed, Memory};
 use std::marker::Model;
 
 /// A shopping cart.
@@ -19,4 +21,16 @@ impl Model for Cart {
     ghost view = { row_of };
 
     ghost invariant = { λ i. IsCart (row_of i) };
+}
+
+impl Cart {
+    /// A copy of the row, from the allocator of its lines.
+    pub fn copy(&self) -> Result<Cart, Memory>
+        ensures { IfOk result (λ copy. copy ≡ self.now) }
+    {
+        Ok(Cart {
+            id: self.id,
+            lines: self.lines.copy()?,
+        })
+    }
 }

@@ -14,9 +14,11 @@ mod drawing;
 mod item;
 mod limits;
 mod line;
+mod lookups;
 mod order;
 mod order_state;
 mod page;
+mod refusal;
 mod requests;
 mod scale;
 mod ship_type;
@@ -36,14 +38,19 @@ pub use customer::Customer;
 pub use drawing::{Words, drawn, word};
 pub use item::Item;
 pub use limits::{
-    DAY_LIMIT, DISCOUNT_LIMIT, LINES_LIMIT, PRICE_LIMIT, QUANTITY_LIMIT, SESSION_TIME, STAMP_LIMIT,
-    STOCK_LIMIT,
+    DAY_LIMIT, DISCOUNT_LIMIT, LINES_LIMIT, PRICE_LIMIT, QUANTITY_LIMIT, SESSION_TIME, SETS_LIMIT,
+    STAMP_LIMIT, STOCK_LIMIT, TEXT_LIMIT,
 };
 pub use line::Line;
+pub use lookups::row_numbered;
 pub use order::Order;
 pub use order_state::OrderState;
 pub use page::{Block, Field, Page};
-pub use requests::{Home, IdsAsked, ProductDetail, Request, SearchRequest};
+pub use refusal::{Refusal, refusal_page};
+pub use requests::{
+    BestSellers, CartRequest, Home, IdsAsked, NewProducts, ProductDetail, Request, SearchKind,
+    SearchRequest, SearchResults,
+};
 pub use scale::Scale;
 pub use ship_type::ShipType;
 pub use subject::Subject;

@@ -12,6 +12,12 @@ pub const QUANTITY_LIMIT: u32 = 999;
 /// The most lines of an order or a cart.
 pub const LINES_LIMIT: usize = 100;
 
+/// The most quantities that one request for the cart sets.
+pub const SETS_LIMIT: usize = 100;
+
+/// The most bytes of a parameter that is a text.
+pub const TEXT_LIMIT: usize = 100;
+
 /// The most units of an item in stock.
 pub const STOCK_LIMIT: u32 = 1_000_000;
 

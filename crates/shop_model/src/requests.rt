@@ -1,3 +1,10 @@
+ghost use Rattle.std.specs.Prelude.{◌≡◌};
+ghost use Rattle.shop_model.specs.Kinds.{kind_of, kind_name};
+
+use crate::Subject;
+use shop_text::{Listed, Text};
+use std::marker::Model;
+
 /// The ids that a request carries along: of a customer and of a cart.
 #[derive(Clone, Copy, Debug, PartialEq, Eq)]
 pub struct IdsAsked {
@@ -7,6 +14,18 @@ pub struct IdsAsked {
 
 #[derive(Clone, Copy, Debug, PartialEq, Eq)]
 pub struct Home {
+    pub ids: IdsAsked,
+}
+
+#[derive(Clone, Copy, Debug, PartialEq, Eq)]
+pub struct NewProducts {
+    pub subject: Subject,
+    pub ids: IdsAsked,
+}
+
+#[derive(Clone, Copy, Debug, PartialEq, Eq)]
+pub struct BestSellers {
+    pub subject: Subject,
     pub ids: IdsAsked,
 }
 
@@ -21,10 +40,83 @@ pub struct SearchRequest {
     pub ids: IdsAsked,
 }
 
-/// What a message asks for: one of the web interactions, with its parameters.
+/// What a search compares its text with.
 #[derive(Clone, Copy, Debug, PartialEq, Eq)]
+pub enum SearchKind {
+    /// The words of titles.
+    Title,
+    /// The fronts of authors' last names.
+    Author,
+    /// The names of subjects.
+    Subject,
+}
+
+impl SearchKind {
+    /// The kind with this name.
+    pub fn of(name: &[u8]) -> Option<SearchKind>
+        ensures { result ≡ kind_of name.now }
+    {
+        if name == b"title".as_slice() {
+            Some(SearchKind::Title)
+        } else if name == b"author".as_slice() {
+            Some(SearchKind::Author)
+        } else if name == b"subject".as_slice() {
+            Some(SearchKind::Subject)
+        } else {
+            None
+        }
+    }
+
+    /// The name, in small letters.
+    pub fn name(&self) -> &'static [u8]
+        ensures { result.now ≡ kind_name self.now }
+    {
+        match self {
+            SearchKind::Title => b"title",
+            SearchKind::Author => b"author",
+            SearchKind::Subject => b"subject",
+        }
+    }
+}
+
+#[derive(Debug, Drop)]
+pub struct SearchResults {
+    pub kind: SearchKind,
+    /// 1 to 100 bytes.
+    pub text: Text,
+    pub ids: IdsAsked,
+}
+
+/// What a request for the shopping cart asks for.
+#[derive(Debug, Drop)]
+pub struct CartRequest {
+    /// The item of which one more unit is to come into the cart.
+    pub item: Option<u32>,
+    /// Pairs of an item's id and the quantity that its line is to have, 999 at most, in the order
+    /// in which they came; 100 at most.
+    pub sets: Listed<(u32, u32)>,
+    pub ids: IdsAsked,
+}
+
+impl Model for CartRequest {
+    ghost use Rattle.shop_model.specs.CartAsked.{CartAsked, IsCartAsked};
+
+    ghost Value = { CartAsked };
+
+    ghost use Rattle.shop_model.specs.CartRequestView.{asked_of};
+
+    ghost view = { asked_of };
+
+    ghost invariant = { λ i. IsCartAsked (asked_of i) };
+}
+
+/// What a message asks for: one of the web interactions, with its parameters.
+#[derive(Debug, Drop)]
 pub enum Request {
     Home(Home),
+    NewProducts(NewProducts),
+    BestSellers(BestSellers),
     ProductDetail(ProductDetail),
     SearchRequest(SearchRequest),
+    SearchResults(SearchResults),
 }

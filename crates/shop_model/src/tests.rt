@@ -1,4 +1,6 @@
 use crate::*;
+use shop_text::{Listed, Memory, Text};
+use std::alloc::Global;
 use std::test::Fail;
 
 /// The names in the order of the numbers.
@@ -122,4 +124,158 @@ fn authorisations_have_fifteen_digits(rt: HostRuntime) {
         AuthId::of(999_999_999_999_999).bytes(),
         b"999999999999999".as_slice()
     );
+}
+
+#[test]
+fn refusals_say_why(rt: HostRuntime) -> Result<(), Fail> {
+    use Refusal::*;
+    let cases = [
+        (BadRequest, 400, "Bad Request", "Bad request."),
+        (EmptyCart, 400, "Bad Request", "The cart is empty."),
+        (
+            FullCart,
+            400,
+            "Bad Request",
+            "A cart holds at most 100 lines.",
+        ),
+        (FullLine, 400, "Bad Request", "A line holds at most 999."),
+        (
+            CardReused,
+            402,
+            "Payment Required",
+            "The card was refused: reused.",
+        ),
+        (
+            CardStolen,
+            402,
+            "Payment Required",
+            "The card was refused: stolen.",
+        ),
+        (
+            CardOverLimit,
+            402,
+            "Payment Required",
+            "The card was refused: limit.",
+        ),
+        (WrongPassword, 403, "Forbidden", "Wrong password."),
+        (NoPage, 404, "Not Found", "No such page."),
+        (NoItem, 404, "Not Found", "No item has this number."),
+        (NoCart, 404, "Not Found", "No cart has this number."),
+        (NoCustomer, 404, "Not Found", "No customer has this number."),
+        (NoUserName, 404, "Not Found", "No customer has this name."),
+        (NotGetOrPost, 405, "Method Not Allowed", "Use GET or POST."),
+        (
+            LargeBody,
+            413,
+            "Payload Too Large",
+            "The body is too large.",
+        ),
+        (
+            LargeHead,
+            431,
+            "Request Header Fields Too Large",
+            "The head is too large.",
+        ),
+        (
+            TransferEncoding,
+            501,
+            "Not Implemented",
+            "Transfer-Encoding is not served.",
+        ),
+        (NotServedYet, 501, "Not Implemented", "Not served yet."),
+        (
+            GatewayFailed,
+            502,
+            "Bad Gateway",
+            "The payment gateway failed.",
+        ),
+        (
+            RowsKeptChanging,
+            503,
+            "Service Unavailable",
+            "The rows kept changing.",
+        ),
+        (FullLog, 507, "Insufficient Storage", "The log is full."),
+    ];
+    for (refusal, status, phrase, sentence) in cases {
+        assert_eq!(rt; refusal.status(), status);
+        assert_eq!(rt; refusal.phrase(), phrase.as_bytes());
+        assert_eq!(rt; refusal.text(), sentence.as_bytes());
+    }
+    let page = refusal_page(rt.alloc(), NoItem)?;
+    assert_eq!(rt; page.status, 404);
+    assert_eq!(rt; page.title.bytes(), b"Not Found".as_slice());
+    match page.blocks.as_slice() {
+        [Block::Para(text)] => assert_eq!(rt; text.bytes(), b"No item has this number.".as_slice()),
+        _ => assert!(rt; false),
+    }
+    Ok(())
+}
+
+fn an_item(alloc: Global) -> Result<Item, Memory> {
+    Ok(Item {
+        id: 7,
+        title: Text::copy(alloc, b"Clear River UL")?,
+        author: 2,
+        subject: Subject::Sports,
+        published: 8837,
+        publisher: Text::copy(alloc, b"Alder Press")?,
+        about: Text::copy(alloc, b"About a Small Lamp.")?,
+        related: [8, 9, 10, 11, 12],
+        thumb: Text::copy(alloc, b"/img/thumb_7.gif")?,
+        image: Text::copy(alloc, b"/img/image_7.gif")?,
+        srp: 2776,
+        cost: 1943,
+        stock: 21,
+        restocks: 1,
+        first_stock: 12,
+        pages: 320,
+        backing: Backing::Audio,
+    })
+}
+
+fn a_customer(alloc: Global) -> Result<Customer, Memory> {
+    Ok(Customer {
+        id: 4,
+        user: Text::copy(alloc, b"RE")?,
+        password: Text::copy(alloc, b"re")?,
+        first: Text::copy(alloc, b"Dan")?,
+        last: Text::copy(alloc, b"Foster")?,
+        address: 5,
+        discount: 50,
+        phone: Text::copy(alloc, b"2000000004")?,
+        email: Text::copy(alloc, b"re@shop.example")?,
+        login: 1000,
+        expiry: 7_201_000,
+    })
+}
+
+#[test]
+fn an_item_is_copied(rt: HostRuntime) -> Result<(), Fail> {
+    let alloc = rt.alloc();
+    let item = an_item(alloc)?.copy(alloc)?;
+    assert_eq!(rt; item.title.bytes(), b"Clear River UL".as_slice());
+    assert_eq!(rt; item.stock, 21);
+    Ok(())
+}
+
+#[test]
+fn a_customer_is_copied(rt: HostRuntime) -> Result<(), Fail> {
+    let alloc = rt.alloc();
+    let customer = a_customer(alloc)?.copy(alloc)?;
+    assert_eq!(rt; customer.email.bytes(), b"re@shop.example".as_slice());
+    assert_eq!(rt; customer.expiry, 7_201_000);
+    Ok(())
+}
+
+#[test]
+fn a_cart_is_copied(rt: HostRuntime) -> Result<(), Fail> {
+    let mut lines = Listed::new(rt.alloc());
+    lines.push((7, 2))?;
+    lines.push((3, 999))?;
+    let cart = Cart { id: 9, lines };
+    let again = cart.copy()?;
+    assert_eq!(rt; again.id, 9);
+    assert_eq!(rt; again.lines.as_slice(), cart.lines.as_slice());
+    Ok(())
 }

@@ -1,13 +1,11 @@
-//! The text of a page, written into one buffer, its length, and the pages of refusals.
+//! The text of a page, written into one buffer, and its length.
 #![tactic(auto)]
 
 mod blocks;
 mod lengths;
 mod page;
-mod refusal;
 
 pub use page::{page_bytes, page_len, push_page};
-pub use refusal::{Refusal, refusal_page};
 
 #[cfg(test)]
 mod tests;

@@ -176,6 +176,10 @@ module _ (seed : ℕ) (scale : ScaleRow) (it : IsScale scale) where
             (row.restocks_low seed scale);
       }
 
+  pub all_born : (populated seed scale).born_orders ≡ length (populated seed scale).orders
+  unfolding populated orders_table
+  all_born = sym (length-map-range_with_len (order_row seed scale) 1 scale.orders)
+
   -- what the table of the last orders asks of the orders
 
   pub orders_run : Runs (map (λ o. o.id) (orders_table seed scale))

@@ -1,38 +1,17 @@
 ghost use Rattle.std.specs.Prelude.{◌≡◌, ◌≤◌, ◌++◌, IfOk};
 ghost use Rattle.shop_model.specs.Population as spec;
-ghost use Rattle.shop_text.specs.Texts.{digsyl, digsyl_lower};
 
 use shop_model::words::{first_name, last_name};
 use shop_model::{Customer, Scale, drawn};
-use shop_text::{Listed, Memory, Text};
+use shop_text::{Listed, Memory, Text, digsyl, digsyl_lower};
 use std::alloc::Global;
 
 /// The table's number in the drawn words.
 const CUSTOMERS: u64 = 3;
 
-const LONGEST_USER: usize = b"ALINNGNGNG".len();
-
 const LONGEST_EMAIL: usize = b"alinngngng@shop.example".len();
 
 const PHONE: usize = 10;
-
-/// The syllables of the id.
-fn user_name(alloc: Global, id: u32) -> Result<Text, Memory>
-    ensures { IfOk result (λ text. text ≡ digsyl id) }
-{
-    let mut text = Text::with_capacity(alloc, LONGEST_USER)?;
-    text.push_digsyl(id)?;
-    Ok(text)
-}
-
-/// The user name in lower case.
-fn password(alloc: Global, id: u32) -> Result<Text, Memory>
-    ensures { IfOk result (λ text. text ≡ digsyl_lower id) }
-{
-    let mut text = Text::with_capacity(alloc, LONGEST_USER)?;
-    text.push_digsyl_lower(id)?;
-    Ok(text)
-}
 
 /// Ten digits.
 #[tactic(auto, unfolding(shop_model::specs::Population::phone))]
@@ -62,8 +41,8 @@ fn customer_row(alloc: Global, seed: u32, scale: &Scale, id: u32) -> Result<Cust
     let [first, last, address, discount, number] = drawn::<5>(seed, scale, CUSTOMERS, id);
     Ok(Customer {
         id,
-        user: user_name(alloc, id)?,
-        password: password(alloc, id)?,
+        user: digsyl(alloc, id)?,
+        password: digsyl_lower(alloc, id)?,
         first: Text::copy(alloc, first_name(first))?,
         last: Text::copy(alloc, last_name(last))?,
         address: 1 + address % scale.addresses,

@@ -1,4 +1,4 @@
-ghost use Rattle.std.specs.Prelude.{◌≡◌, IfOk};
+ghost use Rattle.std.specs.Prelude.{◌≡◌, IfOk, length};
 ghost use Rattle.shop_model.specs.Population as spec;
 ghost use Rattle.shop_model.specs.Sound.{Room, Sound};
 
@@ -19,6 +19,7 @@ pub fn populate(alloc: Global, seed: u32, scale: &Scale) -> Result<Tables, Memor
     ensures value { IfOk result (λ tables. tables ≡ spec.populated seed scale.now) }
     ensures sound { IfOk result Sound }
     ensures room { IfOk result (λ tables. Room tables 1_000_001) }
+    ensures born { IfOk result (λ tables. tables.born_orders ≡ length tables.orders) }
 {
     let countries = countries_table(alloc)?;
     let addresses = addresses_table(alloc, seed, scale)?;

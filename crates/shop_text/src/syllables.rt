@@ -24,13 +24,15 @@ fn syllable(digit: u8) -> &'static [u8]
     }
 }
 
-/// Adds the syllable of each digit; a refusal may come after some of them.
+/// Makes room, and adds the syllable of each digit; a refusal may come after some of them.
 fn add_syllables(text: &mut Text, number: u32) -> Result<(), Memory>
     ensures ok { OnOk result (text.new ≡ text.old ++ spec.digsyl number) }
     ensures err { OnErr result (Extends text.old text.new) }
 {
     let mut buffer = Buffer::new();
-    for code in buffer.format(number).as_bytes() {
+    let digits = buffer.format(number).as_bytes();
+    text.reserve(digits.len().saturating_mul(2))?;
+    for code in digits {
         text.push(syllable(code.saturating_sub(b'0')))?;
     }
     Ok(())

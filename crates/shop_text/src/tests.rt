@@ -109,6 +109,7 @@ fn a_list_keeps_its_order(rt: HostRuntime) -> Result<(), Fail> {
     for number in [3u32, 1, 2] {
         list.push(number)?;
     }
+    assert_eq!(rt; list.copy()?.as_slice(), list.as_slice());
     let again = Listed::from_vec(list.into_vec());
     assert_eq!(rt; again.as_slice(), [3, 1, 2].as_slice());
     Ok(())

@@ -1,5 +1,7 @@
+use Rattle.std.proofs.Common.{◌≡◌, length, subst, sym}
+use Rattle.shop_model.specs.declared.tables.Tables.{Tables}
 use Rattle.shop_model.specs.Population as spec
-use Rattle.shop_populate.proofs.Opening.{is_sound, has_room, orders_run, buyers_exist}
+use Rattle.shop_populate.proofs.Opening.{is_sound, has_room, all_born, orders_run, buyers_exist}
 use Rattle.shop_populate.proofs.population.populate.Goals as goal
 
 pub last_orders_table-requires-clause-run : goal.last_orders_table-requires-clause-run
@@ -35,3 +37,8 @@ returns-clause-sound c =
 pub returns-clause-room : goal.returns-clause-room
 returns-clause-room c =
     rw (returns-clause-value c, ← c.scale.view_is) (has_room c.args.seed _ c.scale.invariant)
+
+pub returns-clause-born : goal.returns-clause-born
+returns-clause-born c =
+    subst (λ (t : Tables). t.born_orders ≡ length t.orders) (sym (returns-clause-value c))
+    (rw (← c.scale.view_is) (all_born c.args.seed _ c.scale.invariant))

@@ -3,4 +3,4 @@ use Rattle.shop_text.specs.Syllables.{spelled}
 use Rattle.shop_text.proofs.syllables.add_syllables.Given as goal
 
 abbrev pub invariant-loop-code : goal.invariant-loop-code
-invariant-loop-code l = l.text ≡ l.initial.text ++ spelled (take l.code-index l.code-items)
+invariant-loop-code l = l.text ≡ l.initial.text ++ spelled (take l.code-index l.digits)

@@ -1,7 +1,7 @@
 ghost use Rattle.std.specs.Prelude.{◌≡◌, IfOk};
-ghost use Rattle.shop_pages.specs.Refusals as spec;
+ghost use Rattle.shop_model.specs.Refusals as spec;
 
-use shop_model::{Block, Page};
+use crate::{Block, Page};
 use shop_text::{Listed, Memory, Text};
 use std::alloc::Global;
 
@@ -117,7 +117,7 @@ impl Refusal {
 }
 
 /// The page of a refusal: the reason phrase as its title, and why.
-#[tactic(auto, unfolding(shop_model::specs::Refusals::refusal_page))]
+#[tactic(auto, unfolding(crate::specs::Refusals::refusal_page))]
 pub fn refusal_page(alloc: Global, refusal: Refusal) -> Result<Page, Memory>
     ensures { IfOk result (λ page. page ≡ spec.page_of refusal) }
 {

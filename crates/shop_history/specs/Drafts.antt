@@ -1,0 +1,60 @@
+-- The page that a draft becomes, with what the settle drew.
+use Rattle.std.specs.Prelude.{ℕ, ◌+◌, ◌/◌, min, List, [], map, Option, Some, None, decimal}
+use Rattle.std.specs.List.{flat_map}
+use Rattle.shop_text.specs.Texts.{digsyl, day_text}
+use Rattle.shop_model.specs.declared.page.Block as page_block
+use Rattle.shop_model.specs.declared.page.Block.{Block}
+use Rattle.shop_model.specs.declared.page.Field.{Field}
+use Rattle.shop_model.specs.declared.page.Page.{Page}
+use Rattle.shop_model.specs.Limits.{day_limit}
+use Rattle.shop_history.specs.declared.acts.Ids.{Ids}
+use Rattle.shop_history.specs.declared.drafts.Draft.{Draft}
+use Rattle.shop_history.specs.declared.drafts.Draft.TheVariants as draft
+use Rattle.shop_history.specs.declared.drafts.DraftBlock.{DraftBlock}
+use Rattle.shop_history.specs.declared.drafts.DraftBlock.TheVariants.{Heading, Para, Link, Picture, Table, Form}
+use Rattle.shop_history.specs.declared.drafts.DraftField.{DraftField}
+use Rattle.shop_history.specs.declared.drafts.Part.{Part}
+use Rattle.shop_history.specs.declared.drafts.Part.TheVariants.{Fixed, CartId, CustomerId, OrderId, User, Day}
+
+-- milliseconds
+abbrev pub day_length : ℕ
+day_length = 86_400_000
+
+-- a text of a drawn id; where none was drawn, no text
+abbrev pub id_text : (ℕ → List ℕ) → Option ℕ → List ℕ
+id_text text None = []
+id_text text (Some id) = text id
+
+-- a part, at a stamp and with the ids that were drawn
+abbrev pub part_text : ℕ → Ids → Part → List ℕ
+part_text stamp ids (Fixed text) = text
+part_text stamp ids CartId = id_text decimal ids.cart
+part_text stamp ids CustomerId = id_text decimal ids.customer
+part_text stamp ids OrderId = id_text decimal ids.order
+part_text stamp ids User = id_text digsyl ids.customer
+part_text stamp ids (Day later) = day_text (min (stamp / day_length + later) day_limit)
+
+abbrev pub filled_text : ℕ → Ids → List Part → List ℕ
+filled_text stamp ids parts = flat_map (part_text stamp ids) parts
+
+abbrev pub filled_field : ℕ → Ids → DraftField → Field
+filled_field stamp ids field =
+    record { name = filled_text stamp ids field.name; value = filled_text stamp ids field.value }
+
+abbrev pub filled_block : ℕ → Ids → DraftBlock → Block
+filled_block stamp ids (Heading text) = page_block.TheVariants.Heading (filled_text stamp ids text)
+filled_block stamp ids (Para text) = page_block.TheVariants.Para (filled_text stamp ids text)
+filled_block stamp ids (Link target label) =
+    page_block.TheVariants.Link (filled_text stamp ids target) (filled_text stamp ids label)
+filled_block stamp ids (Picture target label) =
+    page_block.TheVariants.Picture (filled_text stamp ids target) (filled_text stamp ids label)
+filled_block stamp ids (Table rows) =
+    page_block.TheVariants.Table (map (map (filled_text stamp ids)) rows)
+filled_block stamp ids (Form target fields) =
+    page_block.TheVariants.Form (filled_text stamp ids target) (map (filled_field stamp ids) fields)
+
+-- the page of a draft
+unfoldable pub filled : ℕ → Ids → Draft → Page
+filled stamp ids (draft.Fixed page) = page
+filled stamp ids (draft.Waiting page) =
+    record { status = page.status; title = page.title; blocks = map (filled_block stamp ids) page.blocks }

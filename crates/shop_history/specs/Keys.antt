@@ -1,0 +1,30 @@
+-- What keys show.
+use Rattle.std.specs.Prelude.{Option, Some, None}
+use Rattle.shop_model.specs.declared.tables.Tables.{Tables}
+use Rattle.shop_model.specs.Lookups.{row_numbered, author_of}
+use Rattle.shop_model.specs.Rankings.{newest, best}
+use Rattle.shop_model.specs.Rows.{ItemRow}
+use Rattle.shop_history.specs.declared.keys.Key as key
+use Rattle.shop_history.specs.declared.keys.Key.{Key}
+use Rattle.shop_history.specs.declared.keys.Label.{Label}
+use Rattle.shop_history.specs.declared.keys.Row as row
+use Rattle.shop_history.specs.declared.keys.Row.{Row}
+
+-- a row of this kind, where there is one
+abbrev pub shown : {A : Type 0} → (A → Row) → Option A → Row
+shown make None = row.TheVariants.Absent
+shown make (Some x) = make x
+
+-- how an item is named in lists
+abbrev pub label_of : Tables → ItemRow → Label
+label_of t item =
+    record { title = item.title; first = (author_of t item).first; last = (author_of t item).last }
+
+-- what a key shows
+abbrev pub row_of : Tables → Key → Row
+row_of t (key.TheVariants.Item id) = shown row.TheVariants.Item (row_numbered t.items id)
+row_of t (key.TheVariants.Label id) = shown (λ item. row.TheVariants.Label (label_of t item)) (row_numbered t.items id)
+row_of t (key.TheVariants.Customer id) = shown row.TheVariants.Customer (row_numbered t.customers id)
+row_of t (key.TheVariants.Cart id) = shown row.TheVariants.Cart (row_numbered t.carts id)
+row_of t (key.TheVariants.NewIn subject) = row.TheVariants.Items (newest t subject)
+row_of t (key.TheVariants.BestIn subject) = row.TheVariants.Items (best t subject)

@@ -1,0 +1,5 @@
+pub mod Keys
+pub mod Same
+pub mod Acts
+pub mod Logs
+pub mod Drafts

@@ -1,0 +1,54 @@
+ghost use Rattle.std.specs.Prelude.{◌≡◌};
+ghost use Rattle.shop_history.specs.Acts as spec;
+
+use shop_model::CartRequest;
+
+/// What an accepted request does.
+#[derive(Debug, Drop)]
+pub enum Act {
+    /// What Shopping Cart makes of a cart, with the word that was drawn for the request.
+    Cart(CartRequest, u32),
+}
+
+impl Act {
+    /// The cart that is named, if it is not to be a new one.
+    pub fn cart(&self) -> Option<u32>
+        ensures value { result ≡ spec.cart_named self.now }
+        ensures form { spec.IsInForm self.now }
+    {
+        match self {
+            Act::Cart(asked, _) => asked.ids.cart,
+        }
+    }
+}
+
+/// An accepted change.
+#[derive(Debug, Drop)]
+pub struct Entry {
+    /// The number of the caller, from 1.
+    pub caller: u32,
+    /// How many changes of this caller there are with this one.
+    pub number: u64,
+    /// The moment of the change, in milliseconds since 1970-01-01.
+    pub stamp: u64,
+    pub act: Act,
+}
+
+/// The ids of the rows that a settle made.
+#[derive(Clone, Copy, Debug, PartialEq, Eq)]
+pub struct Ids {
+    pub cart: Option<u32>,
+    pub customer: Option<u32>,
+    pub address: Option<u32>,
+    pub order: Option<u32>,
+}
+
+/// What a settle drew.
+#[derive(Clone, Copy, Debug, PartialEq, Eq)]
+pub struct Drawn {
+    /// How many entries the page is shown after.
+    pub front: u64,
+    /// In milliseconds since 1970-01-01.
+    pub stamp: u64,
+    pub ids: Ids,
+}

@@ -1,0 +1,11 @@
+//! What requests read and change: keys and what they show, acts and what they make of the tables,
+//! and the log of entries that a shop is.
+#![tactic(auto)]
+
+mod acts;
+mod drafts;
+mod keys;
+
+pub use acts::{Act, Drawn, Entry, Ids};
+pub use drafts::{Draft, DraftBlock, DraftField, Part, Waiting};
+pub use keys::{Key, Label, Row};
