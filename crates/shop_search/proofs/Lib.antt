@@ -1,0 +1,4 @@
+pub mod Words
+pub mod Matching
+pub mod Sorting
+pub mod Filling

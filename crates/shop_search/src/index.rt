@@ -1,0 +1,97 @@
+ghost use Rattle.std.specs.Prelude.{◌≡◌, IfOk};
+ghost use Rattle.shop_model.specs.declared.requests.SearchKind.TheVariants as kinds;
+ghost use Rattle.shop_model.specs.Catalogues.{catalogue, found};
+
+use crate::keys::key_of;
+use crate::lists::{at, lists_of};
+use crate::naming::{Named, copy_authors, namings};
+use crate::order::in_list_order;
+use shop_model::{Author, SearchKind, Tables};
+use shop_text::{Listed, Memory, Text};
+use std::alloc::Global;
+use std::collections::HashMap;
+use std::marker::Model;
+
+/// What searches find in a catalogue, by what they ask for: an answer takes no time over what it
+/// does not find.
+#[derive(Drop)]
+pub struct Index {
+    alloc: Global,
+    items: Listed<Named>,
+    authors: Listed<Author>,
+    /// By the words of titles, in small letters.
+    title_lists: HashMap<Text, Listed<u32>>,
+    /// By the fronts of authors' last names, in small letters.
+    author_lists: HashMap<Text, Listed<u32>>,
+    /// By the names of subjects.
+    subject_lists: HashMap<Text, Listed<u32>>,
+}
+
+impl Model for Index {
+    ghost use Rattle.shop_model.specs.Catalogues.{Catalogue};
+    ghost use Rattle.shop_search.specs.Lists.{IsIndex};
+
+    ghost Value = { Catalogue };
+
+    ghost view = { λ i. record { items = i.items; authors = i.authors } };
+
+    ghost invariant = { λ i. IsIndex (record { items = i.items; authors = i.authors }) i.title_lists i.author_lists i.subject_lists };
+}
+
+impl Index {
+    /// The index over the items and the authors of these tables.
+    pub fn build(alloc: Global, tables: &Tables) -> Result<Index, Memory>
+        ensures { IfOk result (λ index. index ≡ catalogue tables.now) }
+    {
+        let items = namings(alloc, tables.items.as_slice())?;
+        let authors = copy_authors(alloc, tables.authors.as_slice())?;
+        let listed = in_list_order(alloc, tables.items.as_slice())?;
+        let title_lists = lists_of(alloc, authors.as_slice(), SearchKind::Title, &listed)?;
+        let author_lists = lists_of(alloc, authors.as_slice(), SearchKind::Author, &listed)?;
+        let subject_lists = lists_of(alloc, authors.as_slice(), SearchKind::Subject, &listed)?;
+        Ok(Index {
+            alloc,
+            items,
+            authors,
+            title_lists,
+            author_lists,
+            subject_lists,
+        })
+    }
+
+    /// The ids of the first items, 50 at most, in the order of their titles, of whose titles some
+    /// word is the text, without the case of ASCII letters.
+    pub fn by_title(&self, text: &[u8]) -> Result<Listed<u32>, Memory>
+        ensures { IfOk result (λ ids. ids ≡ found self.now kinds.Title text.now) }
+    {
+        let key = key_of(self.alloc, SearchKind::Title, text)?;
+        at(self.alloc, &self.title_lists, &key)
+    }
+
+    /// The same of items whose author's last name begins with the text.
+    pub fn by_author(&self, text: &[u8]) -> Result<Listed<u32>, Memory>
+        ensures { IfOk result (λ ids. ids ≡ found self.now kinds.Author text.now) }
+    {
+        let key = key_of(self.alloc, SearchKind::Author, text)?;
+        at(self.alloc, &self.author_lists, &key)
+    }
+
+    /// The same of items whose subject has this name, with its case.
+    pub fn by_subject(&self, text: &[u8]) -> Result<Listed<u32>, Memory>
+        ensures { IfOk result (λ ids. ids ≡ found self.now kinds.Subject text.now) }
+    {
+        let key = key_of(self.alloc, SearchKind::Subject, text)?;
+        at(self.alloc, &self.subject_lists, &key)
+    }
+
+    /// What a search of this kind finds.
+    pub fn search(&self, kind: SearchKind, text: &[u8]) -> Result<Listed<u32>, Memory>
+        ensures { IfOk result (λ ids. ids ≡ found self.now kind text.now) }
+    {
+        match kind {
+            SearchKind::Title => self.by_title(text),
+            SearchKind::Author => self.by_author(text),
+            SearchKind::Subject => self.by_subject(text),
+        }
+    }
+}
