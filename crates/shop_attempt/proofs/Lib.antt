@@ -1,0 +1,3 @@
+pub mod Hinge
+pub mod Looks
+pub mod Simples

@@ -1,0 +1,53 @@
+use shop_history::{Act, Drawn, Key, Row};
+use shop_model::Cart;
+use shop_text::Listed;
+
+/// What a key showed, and the version that it had.
+#[derive(Debug, Drop)]
+pub struct ReadOf {
+    pub key: Key,
+    pub row: Row,
+    /// How many entries of the log had come when one last changed the row.
+    pub version: u64,
+}
+
+/// A row to be written.
+#[derive(Debug, Drop)]
+pub enum Write {
+    /// A cart in its place, or, where its id is 0, a new one that gets the next id.
+    PutCart(Cart),
+}
+
+/// What a request read, and what it would change.
+#[derive(Debug, Drop)]
+pub struct Attempt {
+    pub reads: Listed<ReadOf>,
+    /// In milliseconds since 1970-01-01.
+    pub moment: u64,
+    /// The word that was drawn for the request.
+    pub draw: u32,
+    /// There where the act is there.
+    pub writes: Option<Listed<Write>>,
+    pub act: Option<Act>,
+}
+
+/// A read whose row was changed since.
+#[derive(Debug, Drop)]
+pub struct Conflict {
+    pub key: Key,
+    /// The version that was read.
+    pub read: u64,
+    /// The version that was found.
+    pub found: u64,
+}
+
+/// What a settle answers.
+#[derive(Debug, Drop)]
+pub enum Settle {
+    Done(Drawn),
+    /// The first read that is not up to date.
+    Stale(Conflict),
+    /// The log has this many entries, and takes no more.
+    Full(u64),
+    Memory,
+}
