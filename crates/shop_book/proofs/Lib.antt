@@ -1,0 +1,10 @@
+pub mod Kept
+pub mod Puts
+pub mod Solos
+pub mod Opens
+pub mod Changing
+pub mod Versions
+pub mod Writes
+pub mod Counts
+pub mod Laws
+pub mod OldOrders

@@ -1,0 +1,10 @@
+pub mod Openings
+pub mod Books
+pub mod Laws
+pub mod BookView
+pub mod Keeping
+pub mod Changes
+pub mod Settles
+pub mod Summaries
+pub mod Solos
+pub mod SoloView

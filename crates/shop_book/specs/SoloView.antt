@@ -1,0 +1,5 @@
+use Rattle.shop_book.specs.declared.solo.Solo.TheInside.{Inside}
+use Rattle.shop_book.specs.Solos.{SoloValue}
+
+abbrev pub solo_of : Inside → SoloValue
+solo_of i = record { book = i.book; calls = i.calls; settles = i.settles; greatest = i.greatest }
