@@ -1,0 +1,10 @@
+pub mod Attempting
+pub mod Labelling
+pub mod Listing
+pub mod Within
+pub mod ListReads
+pub mod Items
+pub mod Products
+pub mod Promotions
+pub mod Pages
+pub mod Homes

@@ -1,0 +1,5 @@
+pub mod Footprints
+pub mod Attempts
+pub mod Lists
+pub mod Products
+pub mod Promotions

@@ -1,12 +1,18 @@
-ghost use Rattle.std.specs.Prelude.{◌≡◌, ◌++◌, IfOk, OnOk, option_copied};
+ghost use Rattle.std.specs.Prelude.{◌≡◌, ◌++◌, ℕ, Some, None, IfOk, OnOk, length, option_copied, [], ◌∷◌};
+ghost use Rattle.shop_model.specs.Catalogues.{catalogue};
 ghost use Rattle.shop_model.specs.Show as spec;
-ghost use Rattle.shop_model.specs.Sound.{Sound};
+ghost use Rattle.shop_attempt.specs.Marks.{StillMarked};
+ghost use Rattle.shop_attempt.specs.Seats.{Looked};
+ghost use Rattle.shop_browse.specs.Attempts.{AttemptedAs};
+ghost use Rattle.shop_browse.specs.Promotions.{IsShownBy};
 
+use crate::attempted::attempt_of;
 use crate::links::{push_nav, subject_link};
-use crate::lookups::row_numbered;
-use crate::promotion::push_promo;
-use shop_model::{Block, Customer, IdsAsked, Page, Subject, Tables};
-use shop_pages::{Refusal, refusal_page};
+use crate::promotion::{Promotion, push_promotion, read_promotion};
+use crate::{Ask, Attempted};
+use shop_attempt::{ReadOf, Store, read};
+use shop_history::{Key, Row};
+use shop_model::{Block, Customer, Home, IdsAsked, Page, Refusal, Request, Subject, refusal_page};
 use shop_text::{Listed, Memory, Text};
 use std::alloc::Global;
 
@@ -59,53 +65,133 @@ fn push_subject_links(
 #[tactic(auto, unfolding(shop_model::specs::Show::home_page))]
 fn home_blocks(
     alloc: Global,
-    tables: &Tables,
+    promotion: &Promotion,
     ids: IdsAsked,
     draw: u32,
     customer: Option<&Customer>,
-) -> Result<Listed<Block>, Memory>
-    requires { Sound tables.now }
-    ensures { IfOk result (λ blocks.
-        blocks ≡ (spec.home_page tables.now ids draw (option_copied customer.entry)).blocks) }
+) -> Result<Option<Listed<Block>>, Memory>
+    ensures { IfOk result (IsShownBy promotion.now draw (λ t. (spec.home_page t ids draw (option_copied customer.entry)).blocks)) }
 {
     let mut blocks = Listed::with_capacity(alloc, BLOCKS)?;
     blocks.push(Block::Heading(Text::copy(alloc, b"Welcome")?))?;
     push_greeting(alloc, &mut blocks, customer)?;
-    push_promo(alloc, &mut blocks, tables, ids, draw)?;
+    if !push_promotion(alloc, &mut blocks, promotion, ids)? {
+        return Ok(None);
+    }
     push_subject_links(alloc, &mut blocks, Subject::picked(draw), ids)?;
     push_nav(alloc, &mut blocks, ids)?;
-    Ok(blocks)
+    Ok(Some(blocks))
 }
 
+/// The page for a customer or for anyone; None where a row is of another kind than it was read for.
 #[tactic(auto, unfolding(shop_model::specs::Show::home_page))]
 fn home_page(
     alloc: Global,
-    tables: &Tables,
+    promotion: &Promotion,
     ids: IdsAsked,
     draw: u32,
     customer: Option<&Customer>,
-) -> Result<Page, Memory>
-    requires { Sound tables.now }
-    ensures { IfOk result (λ page.
-        page ≡ spec.home_page tables.now ids draw (option_copied customer.entry)) }
+) -> Result<Option<Page>, Memory>
+    ensures { IfOk result (IsShownBy promotion.now draw (λ t. spec.home_page t ids draw (option_copied customer.entry))) }
 {
-    Ok(Page {
-        status: 200,
-        title: Text::copy(alloc, b"Home")?,
-        blocks: home_blocks(alloc, tables, ids, draw, customer)?,
-    })
+    match home_blocks(alloc, promotion, ids, draw, customer)? {
+        None => Ok(None),
+        Some(blocks) => Ok(Some(Page {
+            status: 200,
+            title: Text::copy(alloc, b"Home")?,
+            blocks,
+        })),
+    }
+}
+
+/// One read.
+fn alone(alloc: Global, read: ReadOf) -> Result<Listed<ReadOf>, Memory>
+    ensures { IfOk result (λ reads. reads ≡ read ∷ []) }
+{
+    let mut reads = Listed::with_capacity(alloc, 1)?;
+    reads.push(read)?;
+    Ok(reads)
+}
+
+/// For anyone.
+fn welcome<St: Store>(
+    alloc: Global,
+    store: &mut St,
+    ask: &Ask,
+    asked: &Home,
+) -> Result<Attempted, Memory>
+    requires index { ask.now.index.now ≡ catalogue (St.seat store.old).opening }
+    requires scale { ask.now.scale.now.items ≡ length (St.seat store.old).opening.items }
+    requires anyone { asked.now.ids.c ≡ None }
+    ensures looked { Looked (St.seat store.old) (St.seat store.new) }
+    ensures marks { StillMarked (St.marked store.old) (St.marked store.new) }
+    ensures attempted { IfOk result (AttemptedAs (St.seat store.old) (St.seat store.new) (Request.Home asked.now) ask.now.moment ask.now.draw) }
+{
+    let promotion = read_promotion(alloc, store, ask)?;
+    let page = home_page(alloc, &promotion, asked.ids, ask.draw, None)?;
+    Ok(attempt_of(promotion.into_reads()?, ask, page))
+}
+
+/// For the customer with this number, if there is one.
+fn greet<St: Store>(
+    alloc: Global,
+    store: &mut St,
+    ask: &Ask,
+    asked: &Home,
+    number: u32,
+) -> Result<Attempted, Memory>
+    requires index { ask.now.index.now ≡ catalogue (St.seat store.old).opening }
+    requires scale { ask.now.scale.now.items ≡ length (St.seat store.old).opening.items }
+    requires number { asked.now.ids.c ≡ Some number }
+    ensures looked { Looked (St.seat store.old) (St.seat store.new) }
+    ensures marks { StillMarked (St.marked store.old) (St.marked store.new) }
+    ensures attempted { IfOk result (AttemptedAs (St.seat store.old) (St.seat store.new) (Request.Home asked.now) ask.now.moment ask.now.draw) }
+{
+    let known = read(store, Key::Customer(number))?;
+    match &known.row {
+        Row::Absent => {
+            let page = refusal_page(alloc, Refusal::NoCustomer)?;
+            Ok(attempt_of(alone(alloc, known)?, ask, Some(page)))
+        }
+        Row::Customer(customer) => {
+            let promotion = read_promotion(alloc, store, ask)?;
+            let page = home_page(alloc, &promotion, asked.ids, ask.draw, Some(customer))?;
+            let mut reads = promotion.into_reads()?;
+            reads.push(known)?;
+            Ok(attempt_of(reads, ask, page))
+        }
+        _ => Ok(attempt_of(alone(alloc, known)?, ask, None)),
+    }
+}
+
+fn answer<St: Store>(
+    alloc: Global,
+    store: &mut St,
+    ask: &Ask,
+    asked: &Home,
+) -> Result<Attempted, Memory>
+    requires index { ask.now.index.now ≡ catalogue (St.seat store.old).opening }
+    requires scale { ask.now.scale.now.items ≡ length (St.seat store.old).opening.items }
+    ensures looked { Looked (St.seat store.old) (St.seat store.new) }
+    ensures marks { StillMarked (St.marked store.old) (St.marked store.new) }
+    ensures attempted { IfOk result (AttemptedAs (St.seat store.old) (St.seat store.new) (Request.Home asked.now) ask.now.moment ask.now.draw) }
+{
+    match asked.ids.c {
+        None => welcome(alloc, store, ask, asked),
+        Some(number) => greet(alloc, store, ask, asked, number),
+    }
 }
 
 /// The promotion, and a greeting for the customer whose number was given.
-pub(crate) fn home(alloc: Global, tables: &Tables, ids: IdsAsked, draw: u32) -> Result<Page, Memory>
-    requires { Sound tables.now }
-    ensures { IfOk result (λ page. page ≡ spec.home tables.now ids draw ids.c) }
+pub(crate) fn home<St: Store>(alloc: Global, store: &mut St, ask: &Ask, asked: &Home) -> Attempted
+    requires index { ask.now.index.now ≡ catalogue (St.seat store.old).opening }
+    requires scale { ask.now.scale.now.items ≡ length (St.seat store.old).opening.items }
+    ensures looked { Looked (St.seat store.old) (St.seat store.new) }
+    ensures marks { StillMarked (St.marked store.old) (St.marked store.new) }
+    ensures attempted { AttemptedAs (St.seat store.old) (St.seat store.new) (Request.Home asked.now) ask.now.moment ask.now.draw result }
 {
-    match ids.c {
-        None => home_page(alloc, tables, ids, draw, None),
-        Some(number) => match row_numbered(tables.customers.as_slice(), number) {
-            None => refusal_page(alloc, Refusal::NoCustomer),
-            Some(customer) => home_page(alloc, tables, ids, draw, Some(customer)),
-        },
+    match answer(alloc, store, ask, asked) {
+        Ok(attempted) => attempted,
+        Err(Memory) => Attempted::Memory,
     }
 }

@@ -1,12 +1,19 @@
-//! What a request shows: the page of each interaction, from the tables and a drawn word.
+//! Attempts at the interactions that only read: each reads rows of a store one at a time, and makes
+//! the page from them.
 #![tactic(auto)]
 
+mod attempted;
+mod calls;
 mod home;
+mod labels;
+mod lines;
 mod links;
-mod lookups;
+mod list_pages;
 mod product_detail;
 mod promotion;
-mod requests;
+mod rankings;
 mod search_request;
+mod search_results;
 
-pub use requests::show;
+pub use attempted::{Ask, Attempted};
+pub use calls::attempt;

@@ -1,11 +1,18 @@
-ghost use Rattle.std.specs.Prelude.{◌≡◌, ◌++◌, IfOk, OnOk};
+ghost use Rattle.std.specs.Prelude.{◌≡◌, ◌++◌, IfOk, OnOk, length};
+ghost use Rattle.shop_model.specs.Catalogues.{catalogue};
 ghost use Rattle.shop_model.specs.Products as spec;
-ghost use Rattle.shop_model.specs.Sound.{Sound};
+ghost use Rattle.shop_attempt.specs.Marks.{StillMarked};
+ghost use Rattle.shop_attempt.specs.Seats.{Looked};
+ghost use Rattle.shop_attempt.specs.Simple.{is_item};
+ghost use Rattle.shop_browse.specs.Attempts.{AttemptedAs};
+ghost use Rattle.shop_browse.specs.Products.{AreOf, AreProductReads, IsProductPage, named, product_reads};
 
+use crate::attempted::attempt_of;
 use crate::links::{item_link, push_nav};
-use crate::lookups::row_numbered;
-use shop_model::{Author, Block, IdsAsked, Item, Page, Tables};
-use shop_pages::{Refusal, refusal_page};
+use crate::{Ask, Attempted};
+use shop_attempt::{ReadOf, Store, read};
+use shop_history::{Key, Label, Row};
+use shop_model::{Block, IdsAsked, Item, Page, ProductDetail, Refusal, Request, refusal_page};
 use shop_text::{Listed, Memory, Text};
 use std::alloc::Global;
 
@@ -15,9 +22,17 @@ const LINE_ROOM: usize = 64;
 /// How many blocks the page has.
 const BLOCKS: usize = 11;
 
+/// What was read of an item.
+#[derive(Drop)]
+struct ItemReads {
+    item: ReadOf,
+    /// There where the item is there.
+    label: Option<ReadOf>,
+}
+
 #[tactic(auto, unfolding(shop_model::specs::Products::author_line))]
-fn author_line(alloc: Global, author: &Author) -> Result<Text, Memory>
-    ensures { IfOk result (λ text. text ≡ spec.author_line author.now) }
+fn author_line(alloc: Global, author: &Label) -> Result<Text, Memory>
+    ensures { IfOk result (λ text. text ≡ spec.author_line (named author.now)) }
 {
     let mut text = Text::with_capacity(alloc, LINE_ROOM)?;
     text.push(b"By ")?;
@@ -89,10 +104,10 @@ fn push_details(
 fn product_blocks(
     alloc: Global,
     item: &Item,
-    author: &Author,
+    author: &Label,
     ids: IdsAsked,
 ) -> Result<Listed<Block>, Memory>
-    ensures { IfOk result (λ blocks. blocks ≡ (spec.product_page item.now author.now ids).blocks) }
+    ensures { IfOk result (λ blocks. blocks ≡ (spec.product_page item.now (named author.now) ids).blocks) }
 {
     let mut blocks = Listed::with_capacity(alloc, BLOCKS)?;
     blocks.push(Block::Heading(Text::copy(alloc, item.title.bytes())?))?;
@@ -105,8 +120,8 @@ fn product_blocks(
 }
 
 #[tactic(auto, unfolding(shop_model::specs::Products::product_page))]
-fn product_page(alloc: Global, item: &Item, author: &Author, ids: IdsAsked) -> Result<Page, Memory>
-    ensures { IfOk result (λ page. page ≡ spec.product_page item.now author.now ids) }
+fn product_page(alloc: Global, item: &Item, author: &Label, ids: IdsAsked) -> Result<Page, Memory>
+    ensures { IfOk result (λ page. page ≡ spec.product_page item.now (named author.now) ids) }
 {
     Ok(Page {
         status: 200,
@@ -115,21 +130,92 @@ fn product_page(alloc: Global, item: &Item, author: &Author, ids: IdsAsked) -> R
     })
 }
 
-/// The page of the item with this number.
-pub(crate) fn product_detail(
-    alloc: Global,
-    tables: &Tables,
-    number: u32,
-    ids: IdsAsked,
-) -> Result<Page, Memory>
-    requires { Sound tables.now }
-    ensures { IfOk result (λ page. page ≡ spec.product_detail tables.now number ids) }
+fn is_there(row: &Row) -> bool
+    ensures { result ≡ is_item row.now }
 {
-    match row_numbered(tables.items.as_slice(), number) {
-        None => refusal_page(alloc, Refusal::NoItem),
-        Some(item) => match row_numbered(tables.authors.as_slice(), item.author) {
-            None => unreachable!(),
-            Some(author) => product_page(alloc, item, author, ids),
+    matches!(row, Row::Item(_))
+}
+
+/// Reads the item, and its author's names if it is there.
+fn read_item<St: Store>(store: &mut St, asked: &ProductDetail) -> Result<ItemReads, Memory>
+    ensures looked { Looked (St.seat store.old) (St.seat store.new) }
+    ensures marks { StillMarked (St.marked store.old) (St.marked store.new) }
+    ensures keys { IfOk result (AreOf asked.now.item) }
+    ensures reads { IfOk result (AreProductReads (St.seat store.old) (St.seat store.new) asked.now) }
+{
+    let item = read(store, Key::Item(asked.item))?;
+    if !is_there(&item.row) {
+        return Ok(ItemReads { item, label: None });
+    }
+    let label = read(store, Key::Label(asked.item))?;
+    Ok(ItemReads {
+        item,
+        label: Some(label),
+    })
+}
+
+/// The page by what was read.
+fn page_of(alloc: Global, asked: &ProductDetail, reads: &ItemReads) -> Result<Option<Page>, Memory>
+    requires { AreOf asked.now.item reads.now }
+    ensures { IfOk result (IsProductPage asked.now reads.now) }
+{
+    match &reads.item.row {
+        Row::Absent => Ok(Some(refusal_page(alloc, Refusal::NoItem)?)),
+        Row::Item(item) => match &reads.label {
+            None => Ok(None),
+            Some(label) => match &label.row {
+                Row::Label(names) => Ok(Some(product_page(alloc, item, names, asked.ids)?)),
+                _ => Ok(None),
+            },
         },
+        _ => Ok(None),
+    }
+}
+
+/// What was read, in order.
+fn listed(alloc: Global, reads: ItemReads) -> Result<Listed<ReadOf>, Memory>
+    ensures { IfOk result (λ list. list ≡ product_reads reads) }
+{
+    let ItemReads { item, label } = reads;
+    let mut list = Listed::with_capacity(alloc, 2)?;
+    list.push(item)?;
+    if let Some(label) = label {
+        list.push(label)?;
+    }
+    Ok(list)
+}
+
+fn answer<St: Store>(
+    alloc: Global,
+    store: &mut St,
+    ask: &Ask,
+    asked: &ProductDetail,
+) -> Result<Attempted, Memory>
+    requires index { ask.now.index.now ≡ catalogue (St.seat store.old).opening }
+    ensures looked { Looked (St.seat store.old) (St.seat store.new) }
+    ensures marks { StillMarked (St.marked store.old) (St.marked store.new) }
+    ensures attempted { IfOk result (AttemptedAs (St.seat store.old) (St.seat store.new) (Request.ProductDetail asked.now) ask.now.moment ask.now.draw) }
+{
+    let reads = read_item(store, asked)?;
+    let page = page_of(alloc, asked, &reads)?;
+    Ok(attempt_of(listed(alloc, reads)?, ask, page))
+}
+
+/// The page of the item with this number.
+pub(crate) fn product_detail<St: Store>(
+    alloc: Global,
+    store: &mut St,
+    ask: &Ask,
+    asked: &ProductDetail,
+) -> Attempted
+    requires index { ask.now.index.now ≡ catalogue (St.seat store.old).opening }
+    requires scale { ask.now.scale.now.items ≡ length (St.seat store.old).opening.items }
+    ensures looked { Looked (St.seat store.old) (St.seat store.new) }
+    ensures marks { StillMarked (St.marked store.old) (St.marked store.new) }
+    ensures attempted { AttemptedAs (St.seat store.old) (St.seat store.new) (Request.ProductDetail asked.now) ask.now.moment ask.now.draw result }
+{
+    match answer(alloc, store, ask, asked) {
+        Ok(attempted) => attempted,
+        Err(Memory) => Attempted::Memory,
     }
 }

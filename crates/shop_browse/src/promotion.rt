@@ -1,57 +1,123 @@
-ghost use Rattle.std.specs.Prelude.{◌≡◌, ◌++◌, All, IfOk, OnOk, length, map};
-ghost use Rattle.shop_model.specs.Show as spec;
-ghost use Rattle.shop_model.specs.Sound.{Has, Sound};
+ghost use Rattle.std.specs.Prelude.{◌≡◌, ◌+◌, ◌%◌, IfOk, length};
+ghost use Rattle.shop_attempt.specs.Marks.{StillMarked};
+ghost use Rattle.shop_attempt.specs.Seats.{Looked};
+ghost use Rattle.shop_browse.specs.Promotions as spec;
 
+use crate::Ask;
+use crate::labels::read_labels;
 use crate::links::item_link;
-use crate::lookups::row_numbered;
-use shop_model::{Block, IdsAsked, Tables};
+use shop_attempt::{ReadOf, Store, read};
+use shop_history::{Key, Row};
+use shop_model::{Block, IdsAsked};
 use shop_text::{Listed, Memory};
 use std::alloc::Global;
 
-/// A link to the page of an item, labelled with its title.
-#[tactic(auto, unfolding(shop_model::specs::Show::promoted))]
-fn promoted(alloc: Global, tables: &Tables, ids: IdsAsked, item: u32) -> Result<Block, Memory>
-    requires { Has (length tables.now.items) item }
-    ensures { IfOk result (λ block. block ≡ spec.promoted tables.now ids item) }
+/// How many rows a promotion reads.
+const READS: usize = 6;
+
+/// What was read of a drawn item and of those that are related to it.
+#[derive(Drop)]
+pub(crate) struct Promotion {
+    item: ReadOf,
+    /// Of the related items, in order.
+    labels: Listed<ReadOf>,
+}
+
+/// The id of the item that the word picks.
+fn drawn(ask: &Ask) -> u32
+    ensures { result ≡ 1 + ask.now.draw % ask.now.scale.now.items }
 {
-    match row_numbered(tables.items.as_slice(), item) {
-        None => unreachable!(),
-        Some(row) => item_link(alloc, b"/product_detail", item, ids, row.title.bytes()),
+    let scale = ask.scale;
+    1 + ask.draw % scale.items
+}
+
+/// The ids of the items that are related to the one in a row.
+fn related(row: &Row) -> &[u32]
+    ensures { result.now ≡ spec.related_in row.now }
+{
+    match row {
+        Row::Item(item) => &item.related,
+        _ => &[],
     }
 }
 
-/// Adds a link to the page of each item.
+/// Reads the drawn item, and how those are named that are related to it.
+pub(crate) fn read_promotion<St: Store>(
+    alloc: Global,
+    store: &mut St,
+    ask: &Ask,
+) -> Result<Promotion, Memory>
+    requires scale { ask.now.scale.now.items ≡ length (St.seat store.old).opening.items }
+    ensures looked { Looked (St.seat store.old) (St.seat store.new) }
+    ensures marks { StillMarked (St.marked store.old) (St.marked store.new) }
+    ensures drawn { IfOk result (spec.IsPromotionOf (1 + ask.now.draw % ask.now.scale.now.items)) }
+    ensures reads { IfOk result (spec.ArePromotionReads (St.seat store.old) (St.seat store.new) ask.now.draw) }
+{
+    let item = read(store, Key::Item(drawn(ask)))?;
+    let mut labels = Listed::with_capacity(alloc, READS)?;
+    read_labels(store, &mut labels, related(&item.row))?;
+    Ok(Promotion { item, labels })
+}
+
+impl Promotion {
+    /// What was read.
+    pub(crate) fn into_reads(self) -> Result<Listed<ReadOf>, Memory>
+        ensures { IfOk result (λ reads. reads ≡ spec.promotion_reads self) }
+    {
+        let Promotion { item, mut labels } = self;
+        labels.push(item)?;
+        Ok(labels)
+    }
+}
+
+/// A link to the page of an item, labelled with its title; None for a row of another kind.
+fn promoted(alloc: Global, ids: IdsAsked, read: &ReadOf) -> Result<Option<Block>, Memory>
+    ensures { IfOk result (spec.IsLinkOf ids read.now) }
+{
+    match &read.key {
+        Key::Label(id) => match &read.row {
+            Row::Label(label) => Ok(Some(item_link(
+                alloc,
+                b"/product_detail",
+                *id,
+                ids,
+                label.title.bytes(),
+            )?)),
+            _ => Ok(None),
+        },
+        _ => Ok(None),
+    }
+}
+
+/// Adds a link to the page of each item; false where a row is of another kind.
 fn push_promoted(
     alloc: Global,
     blocks: &mut Listed<Block>,
-    tables: &Tables,
     ids: IdsAsked,
-    items: &[u32],
-) -> Result<(), Memory>
-    requires { All (Has (length tables.now.items)) items.now }
-    ensures { OnOk result (blocks.new ≡ blocks.old ++ map (spec.promoted tables.now ids) items.now) }
+    labels: &[ReadOf],
+) -> Result<bool, Memory>
+    ensures { IfOk result (spec.AddsLinks ids labels.now blocks.old blocks.new) }
 {
-    for item in items {
-        blocks.push(promoted(alloc, tables, ids, *item)?)?;
+    for read in labels {
+        match promoted(alloc, ids, read)? {
+            None => return Ok(false),
+            Some(link) => blocks.push(link)?,
+        }
     }
-    Ok(())
+    Ok(true)
 }
 
-/// Adds links to the items that are related to a drawn one.
-#[tactic(auto, unfolding(shop_model::specs::Show::promo))]
-pub(crate) fn push_promo(
+/// Adds links to the items that are related to a drawn one; false where a row is of another kind.
+pub(crate) fn push_promotion(
     alloc: Global,
     blocks: &mut Listed<Block>,
-    tables: &Tables,
+    promotion: &Promotion,
     ids: IdsAsked,
-    draw: u32,
-) -> Result<(), Memory>
-    requires { Sound tables.now }
-    ensures { OnOk result (blocks.new ≡ blocks.old ++ spec.promo tables.now ids draw) }
+) -> Result<bool, Memory>
+    ensures { IfOk result (spec.AddsPromotion ids promotion.now blocks.old blocks.new) }
 {
-    let items = tables.items.as_slice();
-    match items.get(draw as usize % items.len()) {
-        None => unreachable!(),
-        Some(item) => push_promoted(alloc, blocks, tables, ids, &item.related),
+    match &promotion.item.row {
+        Row::Item(_) => push_promoted(alloc, blocks, ids, promotion.labels.as_slice()),
+        _ => Ok(false),
     }
 }

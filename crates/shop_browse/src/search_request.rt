@@ -1,10 +1,17 @@
-ghost use Rattle.std.specs.Prelude.{◌≡◌, IfOk};
+ghost use Rattle.std.specs.Prelude.{◌≡◌, ◌+◌, ◌%◌, ℕ, IfOk, length};
+ghost use Rattle.shop_model.specs.Catalogues.{catalogue};
 ghost use Rattle.shop_model.specs.Show as spec;
-ghost use Rattle.shop_model.specs.Sound.{Sound};
+ghost use Rattle.shop_attempt.specs.Marks.{StillMarked};
+ghost use Rattle.shop_attempt.specs.Seats.{Looked};
+ghost use Rattle.shop_browse.specs.Attempts.{AttemptedAs};
+ghost use Rattle.shop_browse.specs.Promotions.{IsShownBy};
 
+use crate::attempted::attempt_of;
 use crate::links::{push_id_fields, push_nav};
-use crate::promotion::push_promo;
-use shop_model::{Block, Field, IdsAsked, Page, Tables};
+use crate::promotion::{Promotion, push_promotion, read_promotion};
+use crate::{Ask, Attempted};
+use shop_attempt::Store;
+use shop_model::{Block, Field, IdsAsked, Page, Request, SearchRequest};
 use shop_text::{Listed, Memory, Text};
 use std::alloc::Global;
 
@@ -40,35 +47,68 @@ fn search_form(alloc: Global, ids: IdsAsked) -> Result<Block, Memory>
 #[tactic(auto, unfolding(shop_model::specs::Show::search_request))]
 fn search_blocks(
     alloc: Global,
-    tables: &Tables,
+    promotion: &Promotion,
     ids: IdsAsked,
-    draw: u32,
-) -> Result<Listed<Block>, Memory>
-    requires { Sound tables.now }
-    ensures { IfOk result (λ blocks. blocks ≡ (spec.search_request tables.now ids draw).blocks) }
+) -> Result<Option<Listed<Block>>, Memory>
+    ensures { IfOk result (λ found. (draw : ℕ) → IsShownBy promotion.now draw (λ t. (spec.search_request t ids draw).blocks) found) }
 {
     let mut blocks = Listed::with_capacity(alloc, BLOCKS)?;
     blocks.push(Block::Heading(Text::copy(alloc, b"Search")?))?;
-    push_promo(alloc, &mut blocks, tables, ids, draw)?;
+    if !push_promotion(alloc, &mut blocks, promotion, ids)? {
+        return Ok(None);
+    }
     blocks.push(search_form(alloc, ids)?)?;
     push_nav(alloc, &mut blocks, ids)?;
-    Ok(blocks)
+    Ok(Some(blocks))
+}
+
+/// The promotion and a form to search with; None where a row is of another kind than it was read for.
+#[tactic(auto, unfolding(shop_model::specs::Show::search_request))]
+fn search_page(alloc: Global, promotion: &Promotion, ids: IdsAsked) -> Result<Option<Page>, Memory>
+    ensures { IfOk result (λ found. (draw : ℕ) → IsShownBy promotion.now draw (λ t. spec.search_request t ids draw) found) }
+{
+    match search_blocks(alloc, promotion, ids)? {
+        None => Ok(None),
+        Some(blocks) => Ok(Some(Page {
+            status: 200,
+            title: Text::copy(alloc, b"Search Request")?,
+            blocks,
+        })),
+    }
+}
+
+fn answer<St: Store>(
+    alloc: Global,
+    store: &mut St,
+    ask: &Ask,
+    asked: &SearchRequest,
+) -> Result<Attempted, Memory>
+    requires index { ask.now.index.now ≡ catalogue (St.seat store.old).opening }
+    requires scale { ask.now.scale.now.items ≡ length (St.seat store.old).opening.items }
+    ensures looked { Looked (St.seat store.old) (St.seat store.new) }
+    ensures marks { StillMarked (St.marked store.old) (St.marked store.new) }
+    ensures attempted { IfOk result (AttemptedAs (St.seat store.old) (St.seat store.new) (Request.SearchRequest asked.now) ask.now.moment ask.now.draw) }
+{
+    let promotion = read_promotion(alloc, store, ask)?;
+    let page = search_page(alloc, &promotion, asked.ids)?;
+    Ok(attempt_of(promotion.into_reads()?, ask, page))
 }
 
 /// The promotion and a form to search with; the customer isn't looked at.
-#[tactic(auto, unfolding(shop_model::specs::Show::search_request))]
-pub(crate) fn search_request(
+pub(crate) fn search_request<St: Store>(
     alloc: Global,
-    tables: &Tables,
-    ids: IdsAsked,
-    draw: u32,
-) -> Result<Page, Memory>
-    requires { Sound tables.now }
-    ensures { IfOk result (λ page. page ≡ spec.search_request tables.now ids draw) }
+    store: &mut St,
+    ask: &Ask,
+    asked: &SearchRequest,
+) -> Attempted
+    requires index { ask.now.index.now ≡ catalogue (St.seat store.old).opening }
+    requires scale { ask.now.scale.now.items ≡ length (St.seat store.old).opening.items }
+    ensures looked { Looked (St.seat store.old) (St.seat store.new) }
+    ensures marks { StillMarked (St.marked store.old) (St.marked store.new) }
+    ensures attempted { AttemptedAs (St.seat store.old) (St.seat store.new) (Request.SearchRequest asked.now) ask.now.moment ask.now.draw result }
 {
-    Ok(Page {
-        status: 200,
-        title: Text::copy(alloc, b"Search Request")?,
-        blocks: search_blocks(alloc, tables, ids, draw)?,
-    })
+    match answer(alloc, store, ask, asked) {
+        Ok(attempted) => attempted,
+        Err(Memory) => Attempted::Memory,
+    }
 }

@@ -1,6 +1,6 @@
 -- What a target asks for. The paths and the parameters are this project's own, the syntax of a
 -- query is that of the URL Standard, section 5.
-use Rattle.std.specs.Prelude.{ℕ, ◌||◌, ◌==◌, List, map, Option, Some, None, codes, if◌then◌else◌}
+use Rattle.std.specs.Prelude.{ℕ, ◌&&◌, ◌||◌, ◌==◌, nat_le, List, length, map, Option, Some, None, codes, if◌then◌else◌}
 use Rattle.std.specs.List.{before_first, after_first, find}
 use Rattle.std.specs.Option.{option_map, option_and_then}
 use Rattle.std.specs.Str.{bytes_eq}
@@ -9,6 +9,11 @@ use Rattle.form_urlencoded.specs.Form.{parse}
 use Rattle.shop_model.specs.declared.requests.IdsAsked.{IdsAsked}
 use Rattle.shop_model.specs.declared.requests.Request.{Request}
 use Rattle.shop_model.specs.declared.requests.Request.TheVariants as request
+use Rattle.shop_model.specs.declared.requests.SearchKind.{SearchKind}
+use Rattle.shop_model.specs.declared.subject.Subject.{Subject}
+use Rattle.shop_model.specs.Kinds.{kind_of}
+use Rattle.shop_model.specs.Limits.{text_limit}
+use Rattle.shop_model.specs.Subjects.{subject_of}
 use Rattle.shop_http.specs.Numbers.{number_of}
 
 -- a name and a value
@@ -39,6 +44,22 @@ optional_number (Some digits) = option_map (λ number. Some number) (number_of d
 abbrev pub required_number : Option (List ℕ) → Option ℕ
 required_number value = option_and_then number_of value
 
+-- a subject that has to be there, by its name
+abbrev pub required_subject : Option (List ℕ) → Option Subject
+required_subject value = option_and_then subject_of value
+
+-- what a search compares its text with, which has to be there, by its name
+abbrev pub required_kind : Option (List ℕ) → Option SearchKind
+required_kind value = option_and_then kind_of value
+
+-- a text that isn't empty, within the limit
+abbrev pub text_of : List ℕ → Option (List ℕ)
+text_of text = if nat_le 1 (length text) && nat_le (length text) text_limit then Some text else None
+
+-- such a text, which has to be there
+abbrev pub required_text : Option (List ℕ) → Option (List ℕ)
+required_text value = option_and_then text_of value
+
 -- the ids that a request carries along
 abbrev pub ids_asked : List Pair → Option IdsAsked
 ids_asked pairs =
@@ -49,6 +70,16 @@ ids_asked pairs =
 abbrev pub home : List Pair → Option Request
 home pairs = option_map (λ ids. request.Home (record { ids = ids })) (ids_asked pairs)
 
+abbrev pub new_products : List Pair → Option Request
+new_products pairs =
+    option_and_then (λ subject. option_map (λ ids. request.NewProducts (record { subject = subject; ids = ids })) (ids_asked pairs))
+    (required_subject (parameter pairs (codes "subject")))
+
+abbrev pub best_sellers : List Pair → Option Request
+best_sellers pairs =
+    option_and_then (λ subject. option_map (λ ids. request.BestSellers (record { subject = subject; ids = ids })) (ids_asked pairs))
+    (required_subject (parameter pairs (codes "subject")))
+
 abbrev pub product_detail : List Pair → Option Request
 product_detail pairs =
     option_and_then (λ item. option_map (λ ids. request.ProductDetail (record { item = item; ids = ids })) (ids_asked pairs))
@@ -57,12 +88,21 @@ product_detail pairs =
 abbrev pub search_request : List Pair → Option Request
 search_request pairs = option_map (λ ids. request.SearchRequest (record { ids = ids })) (ids_asked pairs)
 
+abbrev pub search_results : List Pair → Option Request
+search_results pairs =
+    option_and_then (λ kind. option_and_then (λ text. option_map (λ ids. request.SearchResults (record { kind = kind; text = text; ids = ids })) (ids_asked pairs))
+    (required_text (parameter pairs (codes "text"))))
+    (required_kind (parameter pairs (codes "kind")))
+
 -- the request of a path with these pairs; none where the path isn't served
 abbrev pub request_at : List ℕ → List Pair → Option Request
 request_at path pairs =
     if bytes_eq path (codes "/") || bytes_eq path (codes "/home") then home pairs else
+    (if bytes_eq path (codes "/new_products") then new_products pairs else
+    (if bytes_eq path (codes "/best_sellers") then best_sellers pairs else
     (if bytes_eq path (codes "/product_detail") then product_detail pairs else
-    (if bytes_eq path (codes "/search_request") then search_request pairs else None))
+    (if bytes_eq path (codes "/search_request") then search_request pairs else
+    (if bytes_eq path (codes "/search_results") then search_results pairs else None)))))
 
 -- what a target asks for
 unfoldable pub request_of : List ℕ → Option Request

@@ -19,7 +19,7 @@ const HEADERS_LIMIT: usize = 64;
 const LINES_LIMIT: usize = 66;
 
 /// What a head asks for.
-#[derive(Clone, Copy, Debug, PartialEq, Eq)]
+#[derive(Debug, Drop)]
 pub(crate) enum Asked {
     Request(Request),
     /// It has too many lines.

@@ -24,7 +24,7 @@ pub enum Stop {
 }
 
 /// What comes next of a connection.
-#[derive(Clone, Copy, Debug, PartialEq, Eq)]
+#[derive(Debug, Drop)]
 pub enum Next {
     /// A message that asks for this.
     Request(Request),
@@ -36,7 +36,7 @@ pub enum Next {
 }
 
 /// What stands at a message's place.
-#[derive(Clone, Copy, Debug, PartialEq, Eq)]
+#[derive(Debug, Drop)]
 enum Look {
     Request(Request),
     /// A head that is refused with this status, or too many bytes without the end of one.

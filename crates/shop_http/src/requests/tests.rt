@@ -16,8 +16,46 @@ fn detail_with(item: u32, c: Option<u32>, cart: Option<u32>) -> Option<Request> 
     }))
 }
 
+fn new_with(subject: Subject, c: Option<u32>, cart: Option<u32>) -> Option<Request> {
+    Some(Request::NewProducts(NewProducts {
+        subject,
+        ids: ids(c, cart),
+    }))
+}
+
+fn best_with(subject: Subject) -> Option<Request> {
+    Some(Request::BestSellers(BestSellers {
+        subject,
+        ids: ids(None, None),
+    }))
+}
+
 fn search_with(c: Option<u32>, cart: Option<u32>) -> Option<Request> {
     Some(Request::SearchRequest(SearchRequest { ids: ids(c, cart) }))
+}
+
+fn results_with(kind: SearchKind, text: Text) -> Option<Request> {
+    Some(Request::SearchResults(SearchResults {
+        kind,
+        text,
+        ids: ids(None, None),
+    }))
+}
+
+/// Whether both ask for the same.
+fn same(a: &Option<Request>, b: &Option<Request>) -> bool {
+    match (a, b) {
+        (None, None) => true,
+        (Some(Request::Home(a)), Some(Request::Home(b))) => a == b,
+        (Some(Request::NewProducts(a)), Some(Request::NewProducts(b))) => a == b,
+        (Some(Request::BestSellers(a)), Some(Request::BestSellers(b))) => a == b,
+        (Some(Request::ProductDetail(a)), Some(Request::ProductDetail(b))) => a == b,
+        (Some(Request::SearchRequest(a)), Some(Request::SearchRequest(b))) => a == b,
+        (Some(Request::SearchResults(a)), Some(Request::SearchResults(b))) => {
+            a.kind == b.kind && a.text == b.text && a.ids == b.ids
+        }
+        _ => false,
+    }
 }
 
 #[test]
@@ -31,6 +69,15 @@ fn served_targets(rt: HostRuntime) -> Result<(), Fail> {
         ("/home?&&c=5&", home_with(Some(5), None)),
         ("/home?C=x&it%65m=y&c+=z", home_with(None, None)),
         ("/?cart=7&c=8", home_with(Some(8), Some(7))),
+        (
+            "/new_products?subject=NON-FICTION",
+            new_with(Subject::NonFiction, None, None),
+        ),
+        (
+            "/new_products?cart=7&s%75bject=ARTS&c=8",
+            new_with(Subject::Arts, Some(8), Some(7)),
+        ),
+        ("/best_sellers?subject=YOUTH", best_with(Subject::Youth)),
         (
             "/product_detail?item=1&c=10&cart=7",
             detail_with(1, Some(10), Some(7)),
@@ -46,7 +93,50 @@ fn served_targets(rt: HostRuntime) -> Result<(), Fail> {
     ];
     for (target, want) in cases {
         let asked = request_of(rt.alloc(), target.as_bytes()).map_err(|_| "memory")?;
-        assert_eq!(rt; asked, want, "at {target}");
+        assert!(rt; same(&asked, &want), "at {target}");
+    }
+    Ok(())
+}
+
+#[test]
+fn texts_that_are_searched_for(rt: HostRuntime) -> Result<(), Fail> {
+    let cases = [
+        (
+            "/search_results?kind=title&text=a%26b+%3C%22%C3%BC",
+            SearchKind::Title,
+            "a&b <\"ü",
+        ),
+        (
+            "/search_results?te%78t=%FF&kind=author",
+            SearchKind::Author,
+            "\u{FFFD}",
+        ),
+        (
+            "/search_results?kind=subject&text=ARTS",
+            SearchKind::Subject,
+            "ARTS",
+        ),
+    ];
+    for (target, kind, text) in cases {
+        let asked = request_of(rt.alloc(), target.as_bytes()).map_err(|_| "memory")?;
+        let text = Text::copy(rt.alloc(), text.as_bytes()).map_err(|_| "memory")?;
+        assert!(rt; same(&asked, &results_with(kind, text)), "at {target}");
+    }
+    Ok(())
+}
+
+/// Of 33 bytes that aren't UTF-8, each replaced by three, and then of some letters.
+#[test]
+fn long_texts(rt: HostRuntime) -> Result<(), Fail> {
+    let front = b"/search_results?kind=title&text=".as_slice();
+    let mut target = Text::copy(rt.alloc(), front).map_err(|_| "memory")?;
+    for _ in 0..33 {
+        target.push(b"%FF").map_err(|_| "memory")?;
+    }
+    for served in [true, true, false] {
+        let asked = request_of(rt.alloc(), target.bytes()).map_err(|_| "memory")?;
+        assert_eq!(rt; asked.is_some(), served);
+        target.push(b"%41").map_err(|_| "memory")?;
     }
     Ok(())
 }
@@ -66,16 +156,25 @@ fn targets_that_are_not_served(rt: HostRuntime) -> Result<(), Fail> {
         "/home?c=+1",
         "/home?c=1%FF",
         "/home?cart=-1",
+        "/new_products",
+        "/new_products?subject=non-fiction",
+        "/best_sellers?subject=",
+        "/best_sellers?subject=ARTS&c=x",
         "/product_detail",
         "/product_detail?c=1",
         "/product_detail?item=4294967296",
         "/product_detail?item=1?c=2",
         "/product_detail?item=1&c=y",
         "/search_request?cart=1%202",
+        "/search_results?kind=title",
+        "/search_results?kind=title&text=",
+        "/search_results?kind=Title&text=a",
+        "/search_results?text=a",
+        "/search_results?kind=title&text=a&cart=x",
     ];
     for target in targets {
         let asked = request_of(rt.alloc(), target.as_bytes()).map_err(|_| "memory")?;
-        assert_eq!(rt; asked, None, "at {target}");
+        assert!(rt; asked.is_none(), "at {target}");
     }
     Ok(())
 }

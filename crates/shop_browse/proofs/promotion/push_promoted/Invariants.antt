@@ -1,7 +1,6 @@
-use Rattle.std.proofs.Common.{◌≡◌, ◌++◌, take, map}
-use Rattle.shop_model.specs.Show.{promoted}
+use Rattle.shop_browse.specs.Promotions.{AddsFirst}
 use Rattle.shop_browse.proofs.promotion.push_promoted.Given as goal
 
-abbrev pub invariant-loop-item : goal.invariant-loop-item
-invariant-loop-item l =
-    l.blocks ≡ l.initial.blocks ++ map (promoted l.tables l.ids) (take l.item-index l.items)
+-- the links so far were added
+abbrev pub invariant-loop-read : goal.invariant-loop-read
+invariant-loop-read l = AddsFirst l.ids l.labels l.read-index l.initial.blocks l.blocks

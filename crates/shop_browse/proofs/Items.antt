@@ -1,0 +1,61 @@
+-- Reads of single rows, and what they say of the tables.
+use Rattle.std.proofs.Common.{◌≡◌, ℕ, ◌-◌, ◌≤◌, true, List, length, Option, Some, None, refl, sym, ◌∙◌, ap, subst, inl, inr, arith}
+use Rattle.std.proofs.lemmas.Option.{slice_get_within}
+use Rattle.shop_model.specs.declared.page.Page.{Page}
+use Rattle.shop_model.specs.declared.requests.Request.{Request}
+use Rattle.shop_model.specs.declared.tables.Tables.{Tables}
+use Rattle.shop_model.specs.Catalogues.{Catalogue, catalogue}
+use Rattle.shop_model.specs.Lookups.{row_numbered}
+use Rattle.shop_model.specs.Rows.{ItemRow}
+use Rattle.shop_model.specs.Sound.{Has}
+use Rattle.shop_history.specs.declared.acts.Entry.{Entry}
+use Rattle.shop_history.specs.declared.keys.Key.TheVariants as key
+use Rattle.shop_history.specs.declared.keys.Label.{Label}
+use Rattle.shop_history.specs.declared.keys.Row.{Row}
+use Rattle.shop_history.specs.declared.keys.Row.TheVariants as row
+use Rattle.shop_history.specs.Keys.{row_of, shown, label_of}
+use Rattle.shop_history.specs.Logs.{tables}
+use Rattle.shop_history.proofs.Carts.{only_carts}
+use Rattle.shop_history.proofs.Places.{IsThere, is_there}
+use Rattle.shop_attempt.specs.declared.attempts.ReadOf.{ReadOf}
+use Rattle.shop_attempt.specs.Seats.{Seat, Looked}
+use Rattle.shop_attempt.specs.Simple.{is_item}
+use Rattle.shop_browse.specs.declared.attempted.Attempted.{Attempted}
+use Rattle.shop_browse.specs.Attempts.{AreReadFor, IsPageOf, AttemptedAs, attempt_of}
+use Rattle.shop_browse.proofs.Attempting.{attempted_of}
+
+-- the opening's number of items stays
+pub same_size : (t : Tables) (log : List Entry) → length (tables t log).items ≡ length t.items
+same_size t log = ap (λ (u : Tables). length u.items) (only_carts t log)
+
+-- an item that is shown is there
+pub item_found : (o : Option ItemRow) (x : ItemRow) → shown row.Item o ≡ row.Item x → o ≡ Some x
+item_found None x is = absurd cc
+item_found (Some y) x is = cc
+
+found_within : (items : List ItemRow) (id : ℕ) (o : Option ItemRow) → row_numbered items id ≡ o → is_item (shown row.Item o) ≡ true → Has (length items) id
+found_within items id None is found = absurd cc
+found_within items id (Some x) is found =
+    let there : IsThere items id x = is_there items id x is in
+    let within = slice_get_within items (id - 1) x there.at in
+    record { first = omega (arith, there.above); last = omega (arith, there.above, within) }
+
+pub item_within : (t : Tables) (id : ℕ) (r : Row) → r ≡ row_of t (key.Item id) → is_item r ≡ true → Has (length t.items) id
+item_within t id r is found = found_within t.items id (row_numbered t.items id) refl (subst (λ x. is_item x ≡ true) is found)
+
+-- the label of an item that is there
+same_label : (one other : Label) → row.Label one ≡ row.Label other → one ≡ other
+same_label one other is = cc
+
+pub label_found : (t : Tables) (o : Option ItemRow) (x : ItemRow) (label : Label) → o ≡ Some x → shown (λ item. row.Label (label_of t item)) o ≡ row.Label label → label ≡ label_of t x
+label_found t o x label found is =
+    sym (same_label (label_of t x) label (sym (ap (shown (λ item. row.Label (label_of t item))) found) ∙ is))
+
+-- an attempt by the reads and the page of one
+pub attempted_from : (start now : Seat) (request : Request) (moment draw : ℕ) (c : Catalogue) (reads list : List ReadOf) (page : Option Page) (result : Attempted)
+    → result ≡ attempt_of list moment draw page → list ≡ reads → c ≡ catalogue start.opening → Looked start now → AreReadFor start now request draw reads → IsPageOf c request draw reads page
+    → AttemptedAs start now request moment draw result
+attempted_from start now request moment draw c reads list page result is same index looked are shows =
+    let all : AttemptedAs start now request moment draw (attempt_of reads moment draw page)
+    = attempted_of start now request moment draw c reads page (index ∙ ap catalogue (sym looked.follows.opening)) are shows in
+    subst (λ a. AttemptedAs start now request moment draw a) (ap (λ rs. attempt_of rs moment draw page) (sym same) ∙ sym is) all

@@ -1,0 +1,211 @@
+-- The reads of a promotion, and what they show.
+use Rattle.std.proofs.Common.{◌≡◌, ℕ, zero, suc, ◌+◌, ◌%◌, ◌<◌, ◌≤◌, true, false, Bool, List, [], ◌∷◌, ◌++◌, length, map, take, get_or, All, Option, Some, None, option_map, unwrap_or, codes, refl, sym, ◌∙◌, ap, subst, inl, inr, arith, ⊎_elim}
+use Rattle.std.proofs.Math.Nat.{mod-lt}
+use Rattle.std.proofs.lemmas.List.{append_assoc, map-append, take_more, take_all, length-map, get_or-map}
+use Rattle.shop_model.specs.declared.page.Block.{Block}
+use Rattle.shop_model.specs.declared.requests.IdsAsked.{IdsAsked}
+use Rattle.shop_model.specs.declared.requests.Request.{Request}
+use Rattle.shop_model.specs.declared.tables.Tables.{Tables}
+use Rattle.shop_model.specs.Lookups.{row_numbered, title_of, related_of}
+use Rattle.shop_model.specs.Rows.{ItemRow}
+use Rattle.shop_model.specs.Show.{promoted, promo}
+use Rattle.shop_model.specs.Sound.{Sound, Has}
+use Rattle.shop_model.specs.Targets.{item_link}
+use Rattle.shop_model.proofs.Lists.{all_head, all_tail}
+use Rattle.shop_history.specs.declared.keys.Key.{Key}
+use Rattle.shop_history.specs.declared.keys.Key.TheVariants as key
+use Rattle.shop_history.specs.declared.keys.Label.{Label}
+use Rattle.shop_history.specs.declared.keys.Row.{Row}
+use Rattle.shop_history.specs.declared.keys.Row.TheVariants as row
+use Rattle.shop_history.specs.Keys.{row_of, shown, label_of}
+use Rattle.shop_history.specs.Logs.{tables}
+use Rattle.shop_history.proofs.Goods.{good_log}
+use Rattle.shop_history.proofs.Places.{row_none, all_numbered}
+use Rattle.shop_attempt.specs.declared.attempts.ReadOf.{ReadOf}
+use Rattle.shop_attempt.specs.Reads.{Shows, IsReadOf, AreReadSince}
+use Rattle.shop_attempt.specs.Seats.{Seat, IsSeat, Looked}
+use Rattle.shop_attempt.proofs.Looks.{since_later, looked_trans, shows_push}
+use Rattle.shop_browse.specs.declared.promotion.Promotion.{Promotion}
+use Rattle.shop_browse.specs.Attempts.{AddsLabels, IsReadFor, AreReadFor}
+use Rattle.shop_browse.specs.Footprints.{drawn_item, IsAbout, InFootprint}
+use Rattle.shop_browse.specs.Promotions.{related_in, IsPromotionOf, promotion_reads, ArePromotionReads, ShowsLabels, IsLinkOf, AddsFirst, Added, AddsLinks, Promotes, AddsPromotion}
+use Rattle.shop_browse.proofs.Attempting.{since_earlier}
+use Rattle.shop_browse.proofs.Items.{same_size, item_found}
+use Rattle.shop_browse.proofs.Labelling.{read_since}
+
+-- an item that there is, and the one that a word draws
+
+-- its row
+record IsRow (items : List ItemRow) (id : ℕ) : Type 0 where
+  item : ItemRow
+  is : row_numbered items id ≡ Some item
+
+row_in : (items : List ItemRow) (id : ℕ) (o : Option ItemRow) → row_numbered items id ≡ o → Has (length items) id → IsRow items id
+row_in items id None is has =
+    ⊎_elim (λ (none : id ≡ 0). absurd (omega (arith, none, has.first))) (λ (past : length items < id). absurd (omega (arith, past, has.last))) (row_none items id is)
+row_in items id (Some x) is has = record { item = x; is = is }
+
+row_is : (items : List ItemRow) (id : ℕ) → Has (length items) id → IsRow items id
+row_is items id has = row_in items id (row_numbered items id) refl has
+
+drawn_there : (t : Tables) (draw : ℕ) → Sound t → Has (length t.items) (drawn_item t draw)
+drawn_there t draw sound =
+    let below : draw % length t.items < length t.items = mod-lt draw (omega (arith, sound.six)) in
+    record { first = omega arith; last = omega (arith, below) }
+
+related_found : (items : List ItemRow) (id : ℕ) (o : Option ItemRow) → row_numbered items id ≡ o → All (λ i. All (Has (length items)) i.related) items
+    → All (Has (length items)) (related_in (shown row.Item o))
+related_found items id None is all = λ k d lt. absurd (omega (arith, lt))
+related_found items id (Some x) is all = all_numbered (λ (i : ItemRow). All (Has (length items)) i.related) items id x is all
+
+-- the items that are related to one that is shown are there
+related_there : (t : Tables) (id : ℕ) (r : Row) → Sound t → r ≡ row_of t (key.Item id) → All (Has (length t.items)) (related_in r)
+related_there t id r sound is =
+    subst (λ x. All (Has (length t.items)) (related_in x)) (sym is) (related_found t.items id (row_numbered t.items id) refl sound.names.related)
+
+-- what may be read
+
+labels_for : (start now : Seat) (request : Request) (draw : ℕ) (ids : List ℕ) (labels : List ReadOf) → All (Has (length (tables now.opening now.seen).items)) ids
+    → map (λ r. r.key) labels ≡ map key.Label ids → AreReadSince start now labels → AreReadFor start now request draw labels
+labels_for start now request draw [] [] all keys are = tt
+labels_for start now request draw [] (read ∷ reads) all keys are = absurd cc
+labels_for start now request draw (id ∷ ids) [] all keys are = absurd cc
+labels_for start now request draw (id ∷ ids) (read ∷ reads) all keys are =
+    let has = Has (length (tables now.opening now.seen).items) in
+    let first : read.key ≡ key.Label id = cc in
+    let rest : map (λ (r : ReadOf). r.key) reads ≡ map key.Label ids = cc in (
+      record { since = are.0; footprint = inr (id, all_head has id ids all, first) },
+      labels_for start now request draw ids reads (all_tail has id ids all) rest are.1,
+    )
+
+all_earlier : (start middle now : Seat) (reads : List ReadOf) → Looked start middle → Looked middle now → AreReadSince middle now reads → AreReadSince start now reads
+all_earlier start middle now [] first second are = tt
+all_earlier start middle now (read ∷ reads) first second are =
+    (since_earlier start middle now read first second are.0, all_earlier start middle now reads first second are.1)
+
+pub for_push : (start now : Seat) (request : Request) (draw : ℕ) (reads : List ReadOf) (read : ReadOf) → AreReadFor start now request draw reads → IsReadFor start now request draw read
+    → AreReadFor start now request draw (reads ++ read ∷ [])
+for_push start now request draw [] read are is = (is, tt)
+for_push start now request draw (first ∷ reads) read are is = (are.0, for_push start now request draw reads read are.1 is)
+
+pub promotion_read : (start middle now : Seat) (draw drawn : ℕ) (item : ReadOf) (ids : List ℕ) (before labels : List ReadOf) → Looked start middle → IsSeat middle → Looked middle now
+    → IsReadOf middle (key.Item drawn) item → drawn ≡ 1 + draw % length start.opening.items → ids ≡ related_in item.row → before ≡ [] → AddsLabels middle now ids before labels
+    → ArePromotionReads start now draw (record { item = item; labels = labels })
+promotion_read start middle now draw drawn item ids before labels first seat second is is_drawn is_ids none adds request about =
+    let then : Tables = tables middle.opening middle.seen in
+    let t : Tables = tables now.opening now.seen in
+    let looked : Looked start now = looked_trans start middle now first second in
+    let size : length t.items ≡ length start.opening.items = same_size now.opening now.seen ∙ ap (λ (u : Tables). length u.items) looked.follows.opening in
+    let same : length then.items ≡ length t.items
+    = same_size middle.opening middle.seen ∙ ap (λ (u : Tables). length u.items) (sym second.follows.opening) ∙ sym (same_size now.opening now.seen) in
+    let sound : Sound then = (good_log middle.opening (middle.limit + 1) seat.good middle.seen seat.legal (omega (arith, seat.short))).sound in
+    let there : All (Has (length t.items)) ids
+    = subst (λ n. All (Has n) ids) same (subst (All (Has (length then.items))) (sym is_ids) (related_there then drawn item.row sound is.is.row)) in
+    let labels_are : labels ≡ adds.labels = adds.added ∙ ap (λ (l : List ReadOf). l ++ adds.labels) none in
+    let key_is : item.key ≡ key.Item (drawn_item t draw) = is.key_is ∙ ap key.Item (is_drawn ∙ ap (λ n. 1 + draw % n) (sym size)) in
+    for_push start now request draw labels item
+    (subst (AreReadFor start now request draw) (sym labels_are)
+    (labels_for start now request draw ids adds.labels there adds.keys (all_earlier start middle now adds.labels first second adds.since)))
+    (record {
+      since = since_later start middle now item second (read_since start middle (key.Item drawn) item first is);
+      footprint = inl (subst (IsAbout t request draw) (sym key_is) (about t));
+    })
+
+-- what a label shows
+
+title_found : (t : Tables) (o : Option ItemRow) (label : Label) → shown (λ item. row.Label (label_of t item)) o ≡ row.Label label → label.title ≡ unwrap_or (option_map (λ i. i.title) o) []
+title_found t None label is = absurd cc
+title_found t (Some x) label is = let same : label_of t x ≡ label = cc in ap (λ (l : Label). l.title) (sym same)
+
+same_id : (one other : ℕ) → key.Label one ≡ key.Label other → one ≡ other
+same_id one other is = cc
+
+pub link_is : (ids : IdsAsked) (read : ReadOf) (id : ℕ) (label : Label) (link : Block) → read.key ≡ key.Label id → read.row ≡ row.Label label → link ≡ item_link (codes "/product_detail") id ids label.title
+    → IsLinkOf ids read (Some link)
+unfolding promoted
+link_is ids read id label link is_key is_label is_link t other has key_is shows =
+    let same : id ≡ other = same_id id other (sym is_key ∙ key_is) in
+    let title : label.title ≡ title_of t other = title_found t (row_numbered t.items other) label (ap (row_of t) (sym key_is) ∙ shows ∙ is_label) in
+    ap Some (is_link ∙ ap (λ i. item_link (codes "/product_detail") i ids label.title) same ∙ ap (item_link (codes "/product_detail") other ids) title)
+
+pub no_link : (ids : IdsAsked) (read : ReadOf) → ((label : Label) → read.row ≡ row.Label label → ⊥) → IsLinkOf ids read None
+no_link ids read apart t id has key_is shows =
+    let there : IsRow t.items id = row_is t.items id has in
+    absurd (apart (label_of t there.item) (sym (ap (row_of t) (sym key_is) ∙ shows) ∙ ap (shown (λ item. row.Label (label_of t item))) there.is))
+
+-- one label of several
+
+shows_at : (t : Tables) (labels : List ReadOf) (i : ℕ) (read : ReadOf) → i < length labels → read ≡ get_or labels i read → Shows t labels → row_of t read.key ≡ read.row
+shows_at t [] i read lt is shows = absurd (omega (arith, lt))
+shows_at t (first ∷ labels) zero read lt is shows = subst (λ (r : ReadOf). row_of t r.key ≡ r.row) (sym is) shows.0
+shows_at t (first ∷ labels) (suc i) read lt is shows = shows_at t labels i read (omega (arith, lt)) is shows.1
+
+as_many : (t : Tables) (items : List ℕ) (labels : List ReadOf) → ShowsLabels t items labels → length labels ≡ length items
+as_many t items labels shows =
+    let keys : length (map (λ (r : ReadOf). r.key) labels) ≡ length labels = length-map labels (λ (r : ReadOf). r.key) in
+    let ids : length (map key.Label items) ≡ length items = length-map items key.Label in
+    sym keys ∙ ap length shows.keys ∙ ids
+
+link_at : (t : Tables) (ids : IdsAsked) (items : List ℕ) (labels : List ReadOf) (i : ℕ) (read : ReadOf) (link : Option Block) → i < length labels → read ≡ get_or labels i read
+    → ShowsLabels t items labels → IsLinkOf ids read link → link ≡ Some (promoted t ids (get_or items i 0))
+link_at t ids items labels i read link lt is shows links =
+    let within : i < length items = omega (arith, lt, as_many t items labels shows) in
+    let key_is : read.key ≡ key.Label (get_or items i 0)
+    = ap (λ (r : ReadOf). r.key) is ∙ sym (get_or-map (λ (r : ReadOf). r.key) labels i read read.key lt) ∙ ap (λ (keys : List Key). get_or keys i read.key) shows.keys
+    ∙ get_or-map key.Label items i 0 read.key within in
+    links t (get_or items i 0) (shows.there i 0 within) key_is (shows_at t labels i read lt is shows.shows)
+
+pub none_some : {A : Type 0} (o : Option A) (x : A) → o ≡ None → o ≡ Some x → ⊥
+none_some o x none some = let apart : None ≡ Some x = sym none ∙ some in absurd cc
+
+pub same_some : {A : Type 0} (x y : A) → Some x ≡ Some y → x ≡ y
+same_some x y is = cc
+
+pub no_links : (ids : IdsAsked) (labels : List ReadOf) (i : ℕ) (read : ReadOf) (link : Option Block) (old new : List Block) → i < length labels → read ≡ get_or labels i read
+    → IsLinkOf ids read link → link ≡ None → AddsLinks ids labels old new false
+no_links ids labels i read link old new lt is links none t items shows =
+    absurd (none_some link (promoted t ids (get_or items i 0)) none (link_at t ids items labels i read link lt is shows links))
+
+pub one_link_more : (ids : IdsAsked) (labels : List ReadOf) (i : ℕ) (read : ReadOf) (found : Option Block) (link : Block) (old before after : List Block) → i < length labels → read ≡ get_or labels i read
+    → IsLinkOf ids read found → found ≡ Some link → AddsFirst ids labels i old before → after ≡ before ++ link ∷ [] → AddsFirst ids labels (i + 1) old after
+one_link_more ids labels i read found link old before after lt is links is_link so_far pushed t items shows =
+    let f : ℕ → Block = promoted t ids in
+    let x : ℕ = get_or items i 0 in
+    let done : List Block = map f (take i items) in
+    let link_is : link ≡ f x = same_some link (f x) (sym is_link ∙ link_at t ids items labels i read found lt is shows links) in
+    let more : take (i + 1) items ≡ take i items ++ x ∷ [] = take_more items i 0 (omega (arith, lt, as_many t items labels shows)) in
+    let all : map f (take (i + 1) items) ≡ done ++ f x ∷ [] = ap (map f) more ∙ map-append f (take i items) (x ∷ []) in
+    pushed ∙ ap (λ (b : List Block). b ++ link ∷ []) (so_far t items shows) ∙ append_assoc old done (link ∷ []) ∙ ap (λ (b : Block). old ++ (done ++ b ∷ [])) link_is
+    ∙ ap (λ (b : List Block). old ++ b) (sym all)
+
+pub all_links : (ids : IdsAsked) (labels : List ReadOf) (i : ℕ) (old now : List Block) → length labels ≤ i → AddsFirst ids labels i old now → AddsLinks ids labels old now true
+all_links ids labels i old now past so_far t items shows = record {
+  all_are = refl;
+  added = so_far t items shows ∙ ap (λ (l : List ℕ). old ++ map (promoted t ids) l) (take_all i items (omega (arith, past, as_many t items labels shows)));
+}
+
+-- the links of a promotion
+
+promo_is : (t : Tables) (ids : IdsAsked) (draw : ℕ) (item : ItemRow) → row_numbered t.items (drawn_item t draw) ≡ Some item → map (promoted t ids) item.related ≡ promo t ids draw
+unfolding promo
+promo_is t ids draw item is = ap (λ (o : Option ItemRow). map (promoted t ids) (unwrap_or (option_map (λ i. i.related) o) [])) (sym is)
+
+pub promotion_added : (ids : IdsAsked) (promotion : Promotion) (item : ItemRow) (labels : List ReadOf) (old new : List Block) (all : Bool) → promotion.item.row ≡ row.Item item → labels ≡ promotion.labels
+    → AddsLinks ids labels old new all → AddsPromotion ids promotion old new all
+promotion_added ids promotion item labels old new all is_item is_labels adds t draw promotes =
+    let shows = shows_push t promotion.labels promotion.item promotes.shows in
+    let found : row_numbered t.items (drawn_item t draw) ≡ Some item
+    = item_found (row_numbered t.items (drawn_item t draw)) item (ap (row_of t) (sym promotes.drawn.key_is) ∙ shows.1 ∙ is_item) in
+    let shown_labels : ShowsLabels t item.related promotion.labels = record {
+      there = all_numbered (λ (i : ItemRow). All (Has (length t.items)) i.related) t.items (drawn_item t draw) item found promotes.sound.names.related;
+      keys = promotes.drawn.labels_are ∙ ap (λ (r : Row). map key.Label (related_in r)) is_item;
+      shows = shows.0;
+    } in
+    subst (λ links. Added links old new all) (promo_is t ids draw item found)
+    (adds t item.related (subst (ShowsLabels t item.related) (sym is_labels) shown_labels))
+
+pub no_promotion : (ids : IdsAsked) (promotion : Promotion) (old new : List Block) → ((item : ItemRow) → promotion.item.row ≡ row.Item item → ⊥) → AddsPromotion ids promotion old new false
+no_promotion ids promotion old new apart t draw promotes =
+    let shows = shows_push t promotion.labels promotion.item promotes.shows in
+    let there : IsRow t.items (drawn_item t draw) = row_is t.items (drawn_item t draw) (drawn_there t draw promotes.sound) in
+    absurd (apart there.item (sym (ap (row_of t) (sym promotes.drawn.key_is) ∙ shows.1) ∙ ap (shown row.Item) there.is))

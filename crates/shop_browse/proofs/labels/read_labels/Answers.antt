@@ -1,0 +1,32 @@
+use Rattle.std.proofs.Common.{arith, subst}
+use Rattle.std.proofs.lemmas.List.{take_more, take_all}
+use Rattle.shop_attempt.proofs.Looks.{looked_self, looked_trans}
+use Rattle.shop_browse.specs.Attempts.{AddsLabels}
+use Rattle.shop_browse.proofs.Labelling.{no_labels, one_label_more}
+use Rattle.shop_browse.proofs.labels.read_labels.Goals as goal
+
+pub loop-id-init : goal.loop-id-init
+loop-id-init g c = record {
+  looked = looked_self (g.St.Store.seat c.args.store.now);
+  marks = record { kept = λ front moment held. held };
+  valid = λ some. absurd (omega (arith, some));
+  labels = no_labels (g.St.Store.seat c.args.store.now) c.args.reads.now;
+}
+
+pub loop-id-preserved : goal.loop-id-preserved
+loop-id-preserved g c =
+    let so_far = c.loop-id.invariant in
+    record {
+      looked = looked_trans _ _ _ so_far.looked c.read.ensures.looked;
+      marks = record { kept = λ front moment held. c.read.ensures.marks.kept front moment (so_far.marks.kept front moment held) };
+      valid = λ some. c.read.ensures.valid;
+      labels =
+          one_label_more _ _ _ _ _ _ _ _ _ _ so_far.labels so_far.looked c.read.ensures.looked
+          (take_more c.args.ids.now c.loop-id.id-index 0 c.loop-id-test.true)
+          c.in_ok-read.ensures.read c.in_ok-push.ensures.ok;
+    }
+
+pub returns-clause-labels : goal.returns-clause-labels
+returns-clause-labels g c =
+    subst (λ ids. AddsLabels (g.St.Store.seat c.args.store.now) (g.St.Store.seat c.loop-id.store) ids c.args.reads.now c.loop-id.reads)
+    (take_all c.loop-id.id-index c.args.ids.now c.loop-id-test.false) c.loop-id.invariant.labels

@@ -1,0 +1,81 @@
+-- What an attempt call answers.
+use Rattle.std.specs.Prelude.{◌≡◌, ℕ, List, [], ◌∷◌, ◌++◌, map, Option, Some, None}
+use Rattle.shop_model.specs.declared.page.Page.{Page}
+use Rattle.shop_model.specs.declared.requests.Request.{Request}
+use Rattle.shop_model.specs.declared.tables.Tables.{Tables}
+use Rattle.shop_model.specs.Catalogues.{Catalogue, catalogue}
+use Rattle.shop_model.specs.Show.{show}
+use Rattle.shop_model.specs.Sound.{Sound}
+use Rattle.shop_history.specs.declared.drafts.Draft.{Draft}
+use Rattle.shop_history.specs.declared.drafts.Draft.TheVariants.{Fixed}
+use Rattle.shop_history.specs.declared.keys.Key.TheVariants.{Label}
+use Rattle.shop_history.specs.Logs.{tables}
+use Rattle.shop_attempt.specs.declared.attempts.Attempt.{Attempt}
+use Rattle.shop_attempt.specs.declared.attempts.ReadOf.{ReadOf}
+use Rattle.shop_attempt.specs.Faithful.{Faithful}
+use Rattle.shop_attempt.specs.Reads.{Agrees, Shows, IsReadSince, AreReadSince}
+use Rattle.shop_attempt.specs.Seats.{Seat}
+use Rattle.shop_browse.specs.declared.attempted.Attempted.{Attempted}
+use Rattle.shop_browse.specs.declared.attempted.Attempted.TheVariants.{Ready, Contradiction, Memory}
+use Rattle.shop_browse.specs.Footprints.{InFootprint}
+
+-- a read of this call, of a row that the request may read
+pub record IsReadFor (start now : Seat) (request : Request) (draw : ℕ) (read : ReadOf) : Type 0 where
+  pub since : IsReadSince start now read
+  pub footprint : InFootprint (tables now.opening now.seen) request draw read.key
+
+abbrev pub AreReadFor : Seat → Seat → Request → ℕ → List ReadOf → Type 0
+AreReadFor start now request draw [] = Unit {0}
+AreReadFor start now request draw (read ∷ reads) =
+    IsReadFor start now request draw read × AreReadFor start now request draw reads
+
+-- sound tables of this catalogue that show what was read
+pub record Fits (c : Catalogue) (t : Tables) (reads : List ReadOf) : Type 0 where
+  pub sound : Sound t
+  pub named : catalogue t ≡ c
+  pub shows : Shows t reads
+
+-- the page is what the request shows in whichever tables fit the reads; there is none only where no tables do
+abbrev pub IsPageOf : Catalogue → Request → ℕ → List ReadOf → Option Page → Type 0
+IsPageOf c request draw reads (Some page) = (t : Tables) → Fits c t reads → page ≡ show t request draw
+IsPageOf c request draw reads None = (t : Tables) → Fits c t reads → ⊥
+
+-- a faithful reading attempt at this moment and with this word
+pub record IsAttempt (start now : Seat) (request : Request) (moment draw : ℕ) (attempt : Attempt) : Type 0 where
+  pub at : attempt.moment ≡ moment
+  pub drew : attempt.draw ≡ draw
+  pub reading : attempt.act ≡ None
+  pub reads : AreReadFor start now request draw attempt.reads
+  pub faithful : Faithful now.opening now.seen attempt
+
+-- the draft is what the request shows in whichever tables agree with the reads
+pub record IsReady (start now : Seat) (request : Request) (moment draw : ℕ) (attempt : Attempt) (draft : Draft) : Type 0 where
+  pub attempts : IsAttempt start now request moment draw attempt
+  pub page : (t : Tables) → Agrees now.opening t attempt.reads → draft ≡ Fixed (show t request draw)
+
+-- no tables agree with the reads
+pub record IsContradiction (start now : Seat) (request : Request) (moment draw : ℕ) (attempt : Attempt) : Type 0 where
+  pub attempts : IsAttempt start now request moment draw attempt
+  pub never : (t : Tables) → Agrees now.opening t attempt.reads → ⊥
+
+abbrev pub AttemptedAs : Seat → Seat → Request → ℕ → ℕ → Attempted → Type 0
+AttemptedAs start now request moment draw (Ready attempt draft) =
+    IsReady start now request moment draw attempt draft
+AttemptedAs start now request moment draw (Contradiction attempt) =
+    IsContradiction start now request moment draw attempt
+AttemptedAs start now request moment draw Memory = Unit {0}
+
+-- an attempt that reads, and shows a page, where there is one
+abbrev pub reading : ℕ → ℕ → List ReadOf → Attempt
+reading moment draw reads = record { reads = reads; moment = moment; draw = draw; writes = None; act = None }
+
+abbrev pub attempt_of : List ReadOf → ℕ → ℕ → Option Page → Attempted
+attempt_of reads moment draw (Some page) = Ready (reading moment draw reads) (Fixed page)
+attempt_of reads moment draw None = Contradiction (reading moment draw reads)
+
+-- the labels of these items were read, one after another, behind what was read before
+pub record AddsLabels (start now : Seat) (ids : List ℕ) (old new : List ReadOf) : Type 0 where
+  pub labels : List ReadOf
+  pub added : new ≡ old ++ labels
+  pub keys : map (λ r. r.key) labels ≡ map Label ids
+  pub since : AreReadSince start now labels

@@ -1,0 +1,33 @@
+ghost use Rattle.std.specs.Prelude.{◌≡◌, length};
+ghost use Rattle.shop_model.specs.Catalogues.{catalogue};
+ghost use Rattle.shop_attempt.specs.Marks.{StillMarked};
+ghost use Rattle.shop_attempt.specs.Seats.{Looked};
+ghost use Rattle.shop_browse.specs.Attempts.{AttemptedAs};
+
+use crate::home::home;
+use crate::product_detail::product_detail;
+use crate::rankings::{best_sellers, new_products};
+use crate::search_request::search_request;
+use crate::search_results::search_results;
+use crate::{Ask, Attempted};
+use shop_attempt::Store;
+use shop_model::Request;
+use std::alloc::Global;
+
+/// An attempt at what a request asks for.
+pub fn attempt<St: Store>(alloc: Global, store: &mut St, ask: &Ask, request: &Request) -> Attempted
+    requires index { ask.now.index.now ≡ catalogue (St.seat store.old).opening }
+    requires scale { ask.now.scale.now.items ≡ length (St.seat store.old).opening.items }
+    ensures looked { Looked (St.seat store.old) (St.seat store.new) }
+    ensures marks { StillMarked (St.marked store.old) (St.marked store.new) }
+    ensures attempted { AttemptedAs (St.seat store.old) (St.seat store.new) request.now ask.now.moment ask.now.draw result }
+{
+    match request {
+        Request::Home(asked) => home(alloc, store, ask, asked),
+        Request::NewProducts(asked) => new_products(alloc, store, ask, asked),
+        Request::BestSellers(asked) => best_sellers(alloc, store, ask, asked),
+        Request::ProductDetail(asked) => product_detail(alloc, store, ask, asked),
+        Request::SearchRequest(asked) => search_request(alloc, store, ask, asked),
+        Request::SearchResults(asked) => search_results(alloc, store, ask, asked),
+    }
+}
