@@ -1,14 +1,17 @@
 -- What a session does, by its status.
-use Rattle.std.specs.Prelude.{◌≢◌, ◌⊎◌, ℕ, List, [], ◌∷◌, Option, codes}
+use Rattle.std.specs.Prelude.{◌≡◌, ◌≢◌, ◌⊎◌, ℕ, List, [], ◌∷◌, All, Option, Some, codes}
 use Rattle.std.specs.Io.KnownBytes.{Appends}
 use Rattle.shop_edges.specs.Causes.{Rose}
 use Rattle.shop_model.specs.Population.{populated}
 use Rattle.shop_model.specs.Scales.{desk}
+use Rattle.shop_book.specs.Solos.{SoloValue, seat_of}
 use Rattle.shop_http.specs.declared.messages.Stop.{Stop}
 use Rattle.shop_http.specs.declared.messages.Stop.TheVariants.{Between}
 use Rattle.shop_engine.specs.declared.report.Point.{Point}
-use Rattle.shop_engine.specs.Served.{Served, Streams}
-use Rattle.shop_engine.specs.Workers.{Progress, WorkerState, at_first}
+use Rattle.shop_attempt.specs.Seats.{Seat}
+use Rattle.shop_engine.specs.declared.report.PointKind.TheVariants.{At}
+use Rattle.shop_engine.specs.Served.{Served, Streams, plain_point}
+use Rattle.shop_engine.specs.Workers.{Caller, Progress, WorkerState, at_first}
 use Rattle.shop_app.specs.declared.status.Status.{Status}
 use Rattle.shop_app.specs.declared.status.Status.TheVariants as status
 use Rattle.shop_app.specs.Statuses.{fault_line}
@@ -17,19 +20,44 @@ use Rattle.shop_app.specs.Statuses.{fault_line}
 abbrev pub session_words : List (List ℕ)
 session_words = codes "session" ∷ []
 
--- the worker that a session begins with: caller 1 of the shop at desk scale with seed 0
-unfoldable pub first_worker : WorkerState
-first_worker = record {
-  tables = populated 0 desk;
-  caller = record { number = 1; seed = 0; scale = desk };
-  progress = at_first;
+-- caller 1 of the shop at desk scale with seed 0
+unfoldable pub first_caller : Caller
+first_caller = record { number = 1; seed = 0; scale = desk }
+
+-- its seat before the session: alone over the desk, whose log is empty and may have so many entries
+unfoldable pub first_seat : Seat
+first_seat = record {
+  shop = [];
+  opening = populated 0 desk;
+  limit = 1_000_000;
+  caller = 1;
+  seen = [];
+  own = [];
+  calls = 0;
+  settles = 0;
+  greatest = 0;
+  latest = Some 0;
 }
 
--- its one connection was served until the messages stopped so
+-- a worker of this caller at this seat, that has served no request
+pub record IsFirst (worker : WorkerState SoloValue) : Type 0 where
+  pub caller : worker.caller ≡ first_caller
+  pub progress : worker.progress ≡ at_first
+  pub seat : seat_of worker.store ≡ first_seat
+
+-- an answer that the tables decided was settled at the first try, before any change
+pub record IsAtOnce (point : Point) : Type 0 where
+  pub kind : point.kind ≡ At
+  pub front : point.front ≡ 0
+  pub tries : point.tries ≡ 1
+
+-- its one connection was served until the messages stopped so: no settle was stale
 pub record ServedTo (old new : Streams) (stop : Stop) : Type 0 where
   pub points : List Point
   pub after : Progress
-  pub served : Served first_worker after old new stop points
+  pub seat : Seat
+  pub served : Served first_caller at_first after first_seat seat old new stop points
+  pub alone : All (λ p. (p ≡ plain_point) ⊎ IsAtOnce p) points
 
 -- the messages stopped otherwise than between two of them
 pub record ServedInPart (old new : Streams) : Type 0 where

@@ -1,19 +1,25 @@
-ghost use Rattle.std.specs.Prelude.{◌≡◌, ◌≢◌, ◌↔◌, ◌≤◌, IsTrue};
+ghost use Rattle.std.specs.Prelude.{◌≡◌, ◌≢◌, ◌↔◌, ◌≤◌, IfOk, IsTrue};
 ghost use Rattle.shop_app.specs.Statuses as spec;
-ghost use Rattle.shop_app.specs.Session.{session_words, IsSession, IsTold};
+ghost use Rattle.shop_app.specs.Session.{session_words, IsFirst, IsSession, IsTold};
 
 use crate::Status;
+use shop_book::{Book, Solo};
 use shop_edges::{Clock, Sink, Source, write_all};
 use shop_engine::{Ended, Worker, serve_connection};
 use shop_model::Scale;
 use shop_populate::populate;
-use shop_text::Text;
+use shop_search::Index;
+use shop_text::{Memory, Text};
 use std::alloc::Global;
+use std::sync::Arc;
 
 /// The caller of a session, and the seed that its shop is drawn from.
 const CALLER: u32 = 1;
 
 const SEED: u32 = 0;
+
+/// How many changes the log of the shop holds.
+const LIMIT: u64 = 1_000_000;
 
 /// Does what the words say, for one caller: `session` serves one connection from the source to the
 /// sink. Where that doesn't end well, a line on the faults sink tells it; a fault of that sink
@@ -45,6 +51,18 @@ pub fn run_alone<S: Source, K: Sink, C: Clock>(
     status
 }
 
+/// A worker of caller 1 alone over the desk with seed 0, that has served no request.
+pub fn first_worker(alloc: Global) -> Result<Worker<Solo>, Memory>
+    ensures { IfOk result IsFirst }
+{
+    let scale = Scale::desk();
+    let tables = populate(alloc, SEED, &scale)?;
+    let index = Index::build(alloc, &tables)?;
+    let index = Arc::new(alloc, index)?;
+    let book = Book::open(alloc, tables, LIMIT)?;
+    Worker::new(alloc, Solo::new(book), CALLER, SEED, scale, index)
+}
+
 /// Serves one connection of the caller over a shop of its own.
 fn session<S: Source, K: Sink, C: Clock>(
     alloc: Global,
@@ -58,11 +76,7 @@ fn session<S: Source, K: Sink, C: Clock>(
         (record { reads = S.faults source.old; reads_after = S.faults source.new; writes = K.faults sink.old; writes_after = K.faults sink.new })
         result }
 {
-    let scale = Scale::desk();
-    let Ok(tables) = populate(alloc, SEED, &scale) else {
-        return Status::Memory;
-    };
-    let Ok(mut worker) = Worker::new(alloc, tables, CALLER, SEED, scale) else {
+    let Ok(mut worker) = first_worker(alloc) else {
         return Status::Memory;
     };
     let report = serve_connection(alloc, &mut worker, source, sink, clock);

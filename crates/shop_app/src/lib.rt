@@ -4,8 +4,5 @@
 mod alone;
 mod status;
 
-pub use alone::run_alone;
+pub use alone::{first_worker, run_alone};
 pub use status::Status;
-
-#[cfg(test)]
-mod tests;

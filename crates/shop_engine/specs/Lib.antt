@@ -1,5 +1,7 @@
 pub mod Workers
 pub mod WorkerView
 pub mod Replies
+pub mod Tries
+pub mod Rounds
 pub mod Served
 pub mod Steps

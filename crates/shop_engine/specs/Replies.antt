@@ -1,12 +1,9 @@
 -- The bytes of replies (RFC 9112).
-use Rattle.std.specs.Prelude.{◌==◌, ℕ, List, [], ◌++◌, length, Bool, true, false, codes, decimal, if◌then◌else◌}
+use Rattle.std.specs.Prelude.{◌==◌, ℕ, List, [], ◌++◌, length, Bool, true, codes, decimal, if◌then◌else◌}
 use Rattle.shop_model.specs.declared.page.Page.{Page}
-use Rattle.shop_model.specs.declared.tables.Tables.{Tables}
 use Rattle.shop_model.specs.PageText.{page_text}
-use Rattle.shop_model.specs.declared.requests.Request.{Request}
-use Rattle.shop_model.specs.Show.{show}
-use Rattle.shop_pages.specs.Refusals.{page_of}
-use Rattle.shop_pages.specs.declared.refusal.Refusal.TheVariants.{BadRequest, NotServedYet}
+use Rattle.shop_model.specs.Refusals.{page_of}
+use Rattle.shop_model.specs.declared.refusal.Refusal.TheVariants.{BadRequest, NotServedYet}
 use Rattle.shop_http.specs.declared.messages.Stop.{Stop}
 use Rattle.shop_http.specs.declared.messages.Stop.TheVariants.{Between, Inside, Refusing}
 
@@ -26,10 +23,6 @@ reply_head page len close =
 
 unfoldable pub reply : Page → Bool → List ℕ
 reply page close = reply_head page (length (page_text page)) close ++ page_text page
-
--- the answer to a request, with the word that was drawn for it
-unfoldable pub answer : Tables → Request → ℕ → List ℕ
-answer tables request draw = reply (show tables request draw) false
 
 -- the page of a message that is refused: no head, or one that isn't served
 abbrev pub refused_page : ℕ → Page

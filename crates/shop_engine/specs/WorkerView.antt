@@ -1,9 +1,9 @@
 use Rattle.shop_engine.specs.declared.worker.Worker.TheInside.{Inside}
 use Rattle.shop_engine.specs.Workers.{WorkerState}
 
-abbrev pub state_of : Inside → WorkerState
+abbrev pub state_of : {St : Type 0} → Inside St → WorkerState St
 state_of i = record {
-  tables = i.tables;
+  store = i.store;
   caller = record { number = i.caller; seed = i.seed; scale = i.scale };
   progress = record { accepted = i.accepted; last = i.last };
 }

@@ -1,7 +1,8 @@
 -- What contracts see of a worker.
-use Rattle.std.specs.Prelude.{ℕ}
-use Rattle.shop_model.specs.declared.tables.Tables.{Tables}
+use Rattle.std.specs.Prelude.{◌≡◌, ℕ, length}
+use Rattle.shop_model.specs.Catalogues.{Catalogue, catalogue}
 use Rattle.shop_model.specs.Scales.{ScaleRow}
+use Rattle.shop_attempt.specs.Seats.{Seat}
 
 -- whose requests it serves, and what their words are drawn by
 pub record Caller : Type 0 where
@@ -14,10 +15,16 @@ pub record Progress : Type 0 where
   pub accepted : ℕ
   pub last : ℕ
 
-pub record WorkerState : Type 0 where
-  pub tables : Tables
+pub record WorkerState (St : Type 0) : Type 0 where
+  pub store : St
   pub caller : Caller
   pub progress : Progress
 
 abbrev pub at_first : Progress
 at_first = record { accepted = 0; last = 0 }
+
+-- the seat is the caller's, and the index and the scale are those of its opening tables
+pub record IsPosted (seat : Seat) (index : Catalogue) (caller : Caller) : Type 0 where
+  pub number : seat.caller ≡ caller.number
+  pub named : index ≡ catalogue seat.opening
+  pub scaled : caller.scale.items ≡ length seat.opening.items

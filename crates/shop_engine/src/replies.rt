@@ -1,8 +1,8 @@
 ghost use Rattle.std.specs.Prelude.{◌≡◌, ◌++◌, IfOk, OnOk, if◌then◌else◌};
 ghost use Rattle.shop_engine.specs.Replies as spec;
 
-use shop_model::Page;
-use shop_pages::{Refusal, page_len, push_page, refusal_page};
+use shop_model::{Page, Refusal, refusal_page};
+use shop_pages::{page_len, push_page};
 use shop_text::{Memory, Text};
 use std::alloc::Global;
 

@@ -1,19 +1,22 @@
+use shop_attempt::Conflict;
 use shop_text::Listed;
 
 /// What decided an answer.
-#[derive(Clone, Copy, Debug, PartialEq, Eq)]
+#[derive(Debug, Drop)]
 pub enum PointKind {
     /// The message alone, or the refusal of it. The point's numbers are 0.
     Plain,
     /// The tables.
     At,
+    /// Rows kept changing: what each of the tries met.
+    Busy(Listed<Conflict>),
 }
 
 /// What an answer stands on.
-#[derive(Clone, Copy, Debug, PartialEq, Eq)]
+#[derive(Debug, Drop)]
 pub struct Point {
     pub kind: PointKind,
-    /// So many changes came before it.
+    /// So many changes came before it; 0 where rows kept changing.
     pub front: u64,
     /// Milliseconds since 1970-01-01.
     pub moment: u64,
@@ -21,7 +24,7 @@ pub struct Point {
     pub call: u64,
     /// The word that was drawn for it.
     pub draw: u32,
-    /// How many attempts it took.
+    /// How many attempts were settled for it.
     pub tries: u32,
 }
 

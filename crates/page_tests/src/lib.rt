@@ -1,0 +1,11 @@
+//! Tests of pages over the desk's tables: what browsers send, and what the interactions answer.
+#![tactic(auto)]
+
+#[cfg(test)]
+mod answers;
+#[cfg(test)]
+mod heads;
+#[cfg(test)]
+mod lists;
+#[cfg(test)]
+mod pages;

@@ -1,0 +1,131 @@
+-- Several tries, one after another.
+use Rattle.std.proofs.Common.{◌≡◌, ℕ, zero, suc, ◌+◌, ◌-◌, ◌<◌, ◌≤◌, List, [], ◌∷◌, ◌++◌, length, take, All, Some, IsSome, slice_get, sym, ◌∙◌, ap, subst, arith, ⊎_elim, length-append}
+use Rattle.std.proofs.lemmas.Bool.{cases_lt}
+use Rattle.std.proofs.lemmas.List.{take-append-le}
+use Rattle.std.proofs.lemmas.List.Elements.{All-nil, All-head, All-tail, All-push, All-weaker}
+use Rattle.shop_log.specs.Histories as histories
+use Rattle.shop_log.specs.Histories.{Extends, ChangedAt, row_after}
+use Rattle.shop_log.proofs.Extending.{extends_length}
+use Rattle.shop_log.proofs.Shortest.{still_from}
+use Rattle.shop_model.specs.declared.requests.Request.{Request}
+use Rattle.shop_model.specs.declared.tables.Tables.{Tables}
+use Rattle.shop_history.specs.declared.acts.Entry.{Entry}
+use Rattle.shop_history.specs.declared.keys.Key.{Key}
+use Rattle.shop_history.specs.Logs.{history, version_of}
+use Rattle.shop_history.proofs.Rows.{tells_rows}
+use Rattle.shop_attempt.specs.declared.attempts.Conflict.{Conflict}
+use Rattle.shop_attempt.specs.Reads.{IsConflict}
+use Rattle.shop_attempt.specs.Seats.{Seat, Follows}
+use Rattle.shop_engine.specs.Tries.{Stays, StaysWithin, IsConflictOf, IsAgain, Rise, ReadsOn, IsMet, AreMet}
+use Rattle.shop_engine.proofs.Staying.{stays_trans}
+use Rattle.shop_engine.proofs.Trying.{footprint_later}
+
+-- an entry that changed a row is no later than the row's version, and changed it in a longer log too
+
+changed_by : (t : Tables) (log : List Entry) (key : Key) (number : ℕ) → ChangedAt history t log key number → number ≤ version_of t log key
+changed_by t log key number was = ⊎_elim
+    (λ (early : version_of t log key < number).
+    let still = still_from history tells_rows t log key (number - 1) (omega (arith, early)) in
+    absurd (was.changed (still.rows number (omega arith) was.within ∙ sym (still.rows (number - 1) (omega arith) (omega (arith, was.within))))))
+    (λ (enough : number ≤ version_of t log key). enough)
+    (cases_lt (version_of t log key) number)
+
+changed_longer : (t : Tables) (log longer : List Entry) (key : Key) (number : ℕ) → Extends log longer → ChangedAt history t log key number → ChangedAt history t longer key number
+changed_longer t log longer key number extends was =
+    let now : row_after history t longer number key ≡ row_after history t log number key
+    = ap (λ (l : List Entry). histories.History.row_of history (histories.state_after history t l) key) (ap (take number) extends.is ∙ take-append-le number log extends.rest was.within) in
+    let before : row_after history t longer (number - 1) key ≡ row_after history t log (number - 1) key
+    = ap (λ (l : List Entry). histories.History.row_of history (histories.state_after history t l) key) (ap (take (number - 1)) extends.is ∙ take-append-le (number - 1) log extends.rest (omega (arith, was.within))) in
+    record {
+      some = was.some;
+      within = omega (arith, was.within, extends_length log longer extends);
+      changed = λ same. was.changed (sym now ∙ same ∙ before);
+    }
+
+get_front : (log rest : List Entry) (i : ℕ) (entry : Entry) → i < length log → slice_get (log ++ rest) i ≡ Some entry → slice_get log i ≡ Some entry
+get_front [] rest i entry within is = absurd (omega (arith, within))
+get_front (first ∷ log) rest zero entry within is = is
+get_front (first ∷ log) rest (suc i) entry within is = get_front log rest i entry (omega (arith, within)) is
+
+-- a conflict stays one
+
+conflict_later : (old new : Seat) (conflict : Conflict) → Follows old new → IsConflict old.opening old.seen old.caller conflict → IsConflict new.opening new.seen new.caller conflict
+conflict_later old new conflict follows was =
+    let changed : ChangedAt history new.opening old.seen conflict.key conflict.found = subst (λ t. ChangedAt history t old.seen conflict.key conflict.found) (sym follows.opening) was.overtaken.changed in
+    record {
+      overtaken = record { later = was.overtaken.later; changed = changed_longer new.opening old.seen new.seen conflict.key conflict.found follows.grows changed };
+      other = λ entry at same.
+          let here : slice_get (old.seen ++ follows.grows.rest) (conflict.found - 1) ≡ Some entry = ap (λ (log : List Entry). slice_get log (conflict.found - 1)) (sym follows.grows.is) ∙ at in
+          was.other entry (get_front old.seen follows.grows.rest (conflict.found - 1) entry (omega (arith, changed.some, changed.within)) here) (same ∙ follows.caller);
+    }
+
+met_later : (old new : Seat) (request : Request) (draw : ℕ) → Follows old new → (conflict : Conflict) → IsMet old request draw conflict → IsMet new request draw conflict
+met_later old new request draw follows conflict was = record {
+  conflicts = conflict_later old new conflict follows was.conflicts;
+  footprint = footprint_later old new request draw conflict.key follows was.footprint;
+}
+
+-- one conflict more
+
+rise_more : (start top above : ℕ) (conflicts : List Conflict) (conflict : Conflict) → Rise start conflicts top → top < conflict.found → conflict.found ≤ above → Rise start (conflicts ++ conflict ∷ []) above
+rise_more start top above [] conflict rise more within = (omega (arith, rise, more), within)
+rise_more start top above (first ∷ conflicts) conflict rise more within = (rise.0, rise_more first.found top above conflicts conflict rise.1 more within)
+
+-- what was found before the try began is read by it, or something later
+reads_later : (old new : Seat) (request : Request) (draw : ℕ) (first conflict : Conflict) → Follows old new → IsMet old request draw first → IsConflictOf new request draw old.seen conflict
+    → conflict.key ≡ first.key → first.found ≤ conflict.read
+reads_later old new request draw first conflict follows was is same = ⊎_elim
+    (λ (after : length old.seen < conflict.read). omega (arith, after, was.conflicts.overtaken.changed.within))
+    (λ (early : conflict.read ≤ length old.seen).
+    let at : version_of old.opening old.seen first.key ≡ conflict.read
+    = ap (λ (t : Tables). version_of t old.seen first.key) (sym follows.opening) ∙ ap (version_of new.opening old.seen) (sym same) ∙ is.since early in
+    omega (arith, at, changed_by old.opening old.seen first.key first.found was.conflicts.overtaken.changed))
+    (cases_lt (length old.seen) conflict.read)
+
+on_more : (old new : Seat) (request : Request) (draw : ℕ) (conflicts : List Conflict) (conflict : Conflict) → Follows old new → All (IsMet old request draw) conflicts → IsConflictOf new request draw old.seen conflict
+    → ReadsOn conflicts → ReadsOn (conflicts ++ conflict ∷ [])
+on_more old new request draw [] conflict follows were is on = (All-nil _, tt)
+on_more old new request draw (first ∷ conflicts) conflict follows were is on = (
+  All-push (λ later. later.key ≡ first.key → first.found ≤ later.read) conflicts conflict on.0
+      (reads_later old new request draw first conflict follows (All-head (IsMet old request draw) first conflicts were) is),
+  on_more old new request draw conflicts conflict follows (All-tail (IsMet old request draw) first conflicts were) is on.1,
+)
+
+are_met_more : (start old new : Seat) (request : Request) (draw : ℕ) (conflicts : List Conflict) (conflict : Conflict) → Follows old new → AreMet start old request draw conflicts → IsConflictOf new request draw old.seen conflict
+    → AreMet start new request draw (conflicts ++ conflict ∷ [])
+are_met_more start old new request draw conflicts conflict follows were is = record {
+  each = All-push (IsMet new request draw) conflicts conflict
+      (All-weaker (IsMet old request draw) (IsMet new request draw) (met_later old new request draw follows) conflicts were.each)
+      (record { conflicts = is.conflicts; footprint = is.footprint });
+  rise = rise_more (length start.seen) (length old.seen) (length new.seen) conflicts conflict were.rise is.above is.conflicts.overtaken.changed.within;
+  on = on_more old new request draw conflicts conflict follows were.each is were.on;
+}
+
+-- what the loop over the tries keeps: each met a conflict, and none was made where the caller is the only one
+pub record MetSoFar (start now : Seat) (request : Request) (moment draw : ℕ) (conflicts : List Conflict) (tried : ℕ) : Type 0 where
+  pub stays : Stays start now tried moment
+  pub count : length conflicts ≡ tried
+  pub met : AreMet start now request draw conflicts
+  pub alone : IsSome start.latest → tried ≡ 0
+
+pub met_more : (start old new : Seat) (request : Request) (moment draw : ℕ) (conflicts longer : List Conflict) (tried : ℕ) (conflict : Conflict) → longer ≡ conflicts ++ conflict ∷ []
+    → MetSoFar start old request moment draw conflicts tried → IsAgain old new request moment draw conflict → MetSoFar start new request moment draw longer (tried + 1)
+met_more start old new request moment draw conflicts longer tried conflict is so_far again = record {
+  stays = stays_trans start old new tried 1 moment so_far.stays again.stays;
+  count = ap length is ∙ length-append conflicts (conflict ∷ []) ∙ ap (λ n. n + 1) so_far.count;
+  met = subst (AreMet start new request draw) (sym is) (are_met_more start old new request draw conflicts conflict again.stays.follows so_far.met again.conflict_is);
+  alone = λ told. absurd (again.others (so_far.stays.told told));
+}
+
+pub within_later : (start old new : Seat) (request : Request) (moment draw : ℕ) (conflicts : List Conflict) (tried : ℕ) → tried < 8
+    → MetSoFar start old request moment draw conflicts tried → StaysWithin old new 1 moment → StaysWithin start new 8 moment
+within_later start old new request moment draw conflicts tried few so_far more = record {
+  made = tried + more.made;
+  few = omega (arith, few, more.few);
+  stays = stays_trans start old new tried more.made moment so_far.stays more.stays;
+}
+
+pub within_more : (start old new : Seat) (request : Request) (moment draw : ℕ) (conflicts : List Conflict) (tried : ℕ) (conflict : Conflict) → tried < 8
+    → MetSoFar start old request moment draw conflicts tried → IsAgain old new request moment draw conflict → StaysWithin start new 8 moment
+within_more start old new request moment draw conflicts tried conflict few so_far again =
+    within_later start old new request moment draw conflicts tried few so_far (record { made = 1; few = omega arith; stays = again.stays })
