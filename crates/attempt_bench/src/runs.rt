@@ -1,0 +1,78 @@
+ghost use Rattle.std.specs.Prelude.{◌≡◌, ◌≤◌, IfOk, length};
+ghost use Rattle.shop_model.specs.Catalogues.{catalogue};
+ghost use Rattle.shop_model.specs.Limits.{stamp_limit};
+ghost use Rattle.shop_attempt.specs.Seats.{Follows};
+ghost use Rattle.shop_book.specs.Solos.{seat_of};
+
+use shop_attempt::{Settle, Store};
+use shop_book::{Book, Solo};
+use shop_browse::{Ask, Attempted, attempt};
+use shop_model::{Request, Scale};
+use shop_populate::populate;
+use shop_search::Index;
+use shop_text::Memory;
+use std::alloc::Global;
+
+/// The seed of the tables.
+const SEED: u32 = 0;
+
+/// How many changes the log holds.
+const LIMIT: u64 = 1_000_000;
+
+/// A shop that one caller has, with its index and scale.
+#[derive(Drop)]
+pub struct Shop {
+    pub store: Solo,
+    pub index: Index,
+    pub scale: Scale,
+}
+
+impl Shop {
+    /// The shop of this scale, before any request.
+    pub fn open(alloc: Global, scale: Scale) -> Result<Shop, Memory>
+        ensures index { IfOk result (λ s. s.index ≡ catalogue (seat_of s.store).opening) }
+        ensures scale { IfOk result (λ s. s.scale.items ≡ length (seat_of s.store).opening.items) }
+    {
+        let tables = populate(alloc, SEED, &scale)?;
+        let index = Index::build(alloc, &tables)?;
+        let book = Book::open(alloc, tables, LIMIT)?;
+        Ok(Shop {
+            store: Solo::new(book),
+            index,
+            scale,
+        })
+    }
+}
+
+/// Makes an attempt, and says whether its settle was done.
+fn is_done(alloc: Global, store: &mut Solo, ask: &Ask, request: &Request) -> bool
+    requires index { ask.now.index.now ≡ catalogue (seat_of store.old).opening }
+    requires scale { ask.now.scale.now.items ≡ length (seat_of store.old).opening.items }
+    requires moment { ask.now.moment ≤ stamp_limit }
+    ensures { Follows (seat_of store.old) (seat_of store.new) }
+{
+    match attempt(alloc, store, ask, request) {
+        Attempted::Ready(attempt, _) => matches!(store.settle(attempt), Settle::Done(_)),
+        _ => false,
+    }
+}
+
+/// Makes so many attempts, each with another drawn word, and counts those that were done.
+pub fn run(alloc: Global, shop: &mut Shop, request: &Request, count: u32) -> u32
+    requires index { shop.old.index ≡ catalogue (seat_of shop.old.store).opening }
+    requires scale { shop.old.scale.items ≡ length (seat_of shop.old.store).opening.items }
+{
+    let mut done = 0;
+    for draw in 0..count {
+        let ask = Ask {
+            scale: &shop.scale,
+            index: &shop.index,
+            moment: u64::from(draw),
+            draw,
+        };
+        if is_done(alloc, &mut shop.store, &ask, request) {
+            done += 1;
+        }
+    }
+    done
+}
