@@ -1,7 +1,9 @@
 -- What an act makes of the tables, and when it may.
-use Rattle.std.specs.Prelude.{ℕ, List, Option, Some, None}
+use Rattle.std.specs.Prelude.{ℕ, List, Option, Some, None, IsSome}
 use Rattle.shop_model.specs.declared.page.Page.{Page}
 use Rattle.shop_model.specs.declared.refusal.Refusal.{Refusal}
+use Rattle.shop_model.specs.declared.requests.Request.{Request}
+use Rattle.shop_model.specs.declared.requests.Request.TheVariants.{Home, NewProducts, BestSellers, ProductDetail, SearchRequest, SearchResults, CartRequest}
 use Rattle.shop_model.specs.declared.tables.Tables.{Tables}
 use Rattle.shop_model.specs.CartAsked.{CartAsked, IsCartAsked}
 use Rattle.shop_model.specs.Carts.{check_cart, lines_after, cart_meant, carts_with, cart_page, ids_with}
@@ -64,3 +66,18 @@ IsInForm (Cart asked draw) = IsCartAsked asked
 -- the cart that an act names
 abbrev pub cart_named : Act → Option ℕ
 cart_named (Cart asked draw) = asked.ids.cart
+
+-- the act of a request that changes rows, with the word that was drawn for it
+abbrev pub act_of : Request → ℕ → Option Act
+act_of (Home asked) draw = None
+act_of (NewProducts asked) draw = None
+act_of (BestSellers asked) draw = None
+act_of (ProductDetail asked) draw = None
+act_of (SearchRequest asked) draw = None
+act_of (SearchResults asked) draw = None
+act_of (CartRequest asked) draw = Some (Cart asked draw)
+
+-- the tables decide the page of a request alone: it changes nothing, or its act is refused
+abbrev pub ChangesNothing : Tables → Option Act → Type 0
+ChangesNothing t None = Unit {0}
+ChangesNothing t (Some act) = IsSome (check t act)

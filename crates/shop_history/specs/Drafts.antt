@@ -1,5 +1,5 @@
 -- The page that a draft becomes, with what the settle drew.
-use Rattle.std.specs.Prelude.{ℕ, ◌+◌, ◌/◌, min, List, [], map, Option, Some, None, decimal}
+use Rattle.std.specs.Prelude.{ℕ, ◌+◌, ◌/◌, min, List, [], map, All, Option, Some, None, IsSome, decimal}
 use Rattle.std.specs.List.{flat_map}
 use Rattle.shop_text.specs.Texts.{digsyl, day_text}
 use Rattle.shop_model.specs.declared.page.Block as page_block
@@ -11,6 +11,7 @@ use Rattle.shop_history.specs.declared.acts.Ids.{Ids}
 use Rattle.shop_history.specs.declared.drafts.Draft.{Draft}
 use Rattle.shop_history.specs.declared.drafts.Draft.TheVariants as draft
 use Rattle.shop_history.specs.declared.drafts.DraftBlock.{DraftBlock}
+use Rattle.shop_history.specs.declared.drafts.DraftBlock.TheVariants as block
 use Rattle.shop_history.specs.declared.drafts.DraftBlock.TheVariants.{Heading, Para, Link, Picture, Table, Form}
 use Rattle.shop_history.specs.declared.drafts.DraftField.{DraftField}
 use Rattle.shop_history.specs.declared.drafts.Part.{Part}
@@ -42,6 +43,7 @@ filled_field stamp ids field =
     record { name = filled_text stamp ids field.name; value = filled_text stamp ids field.value }
 
 abbrev pub filled_block : ℕ → Ids → DraftBlock → Block
+filled_block stamp ids (block.Fixed same) = same
 filled_block stamp ids (Heading text) = page_block.TheVariants.Heading (filled_text stamp ids text)
 filled_block stamp ids (Para text) = page_block.TheVariants.Para (filled_text stamp ids text)
 filled_block stamp ids (Link target label) =
@@ -58,3 +60,32 @@ unfoldable pub filled : ℕ → Ids → Draft → Page
 filled stamp ids (draft.Fixed page) = page
 filled stamp ids (draft.Waiting page) =
     record { status = page.status; title = page.title; blocks = map (filled_block stamp ids) page.blocks }
+
+-- the id that a part asks for was drawn
+abbrev pub HasPart : Ids → Part → Type 0
+HasPart ids (Fixed text) = Unit {0}
+HasPart ids CartId = IsSome ids.cart
+HasPart ids CustomerId = IsSome ids.customer
+HasPart ids OrderId = IsSome ids.order
+HasPart ids User = IsSome ids.customer
+HasPart ids (Day later) = Unit {0}
+
+abbrev pub HasText : Ids → List Part → Type 0
+HasText ids parts = All (HasPart ids) parts
+
+abbrev pub HasField : Ids → DraftField → Type 0
+HasField ids field = HasText ids field.name × HasText ids field.value
+
+abbrev pub HasBlock : Ids → DraftBlock → Type 0
+HasBlock ids (block.Fixed same) = Unit {0}
+HasBlock ids (Heading text) = HasText ids text
+HasBlock ids (Para text) = HasText ids text
+HasBlock ids (Link target label) = HasText ids target × HasText ids label
+HasBlock ids (Picture target label) = HasText ids target × HasText ids label
+HasBlock ids (Table rows) = All (All (HasText ids)) rows
+HasBlock ids (Form target fields) = HasText ids target × All (HasField ids) fields
+
+-- each id that a draft asks for was drawn
+abbrev pub HasIds : Ids → Draft → Type 0
+HasIds ids (draft.Fixed page) = Unit {0}
+HasIds ids (draft.Waiting page) = All (HasBlock ids) page.blocks

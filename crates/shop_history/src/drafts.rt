@@ -1,4 +1,4 @@
-use shop_model::Page;
+use shop_model::{Block, Page};
 use shop_text::{Listed, Text};
 
 /// A piece of a text that may wait for what a settle draws.
@@ -27,6 +27,8 @@ pub struct DraftField {
 /// A part of a page.
 #[derive(Debug, Drop)]
 pub enum DraftBlock {
+    /// One that waits for nothing.
+    Fixed(Block),
     Heading(Listed<Part>),
     Para(Listed<Part>),
     Link {

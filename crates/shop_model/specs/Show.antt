@@ -6,10 +6,12 @@ use Rattle.shop_model.specs.declared.page.Page.{Page}
 use Rattle.shop_model.specs.declared.refusal.Refusal.TheVariants.{NoCustomer}
 use Rattle.shop_model.specs.declared.requests.IdsAsked.{IdsAsked}
 use Rattle.shop_model.specs.declared.requests.Request.{Request}
-use Rattle.shop_model.specs.declared.requests.Request.TheVariants.{Home, NewProducts, BestSellers, ProductDetail, SearchRequest, SearchResults}
+use Rattle.shop_model.specs.declared.requests.Request.TheVariants.{Home, NewProducts, BestSellers, ProductDetail, SearchRequest, SearchResults, CartRequest}
 use Rattle.shop_model.specs.declared.subject.Subject.{Subject}
 use Rattle.shop_model.specs.declared.subject.Subject.TheVariants.{Arts}
 use Rattle.shop_model.specs.declared.tables.Tables.{Tables}
+use Rattle.shop_model.specs.declared.refusal.Refusal.{Refusal}
+use Rattle.shop_model.specs.Carts.{check_cart}
 use Rattle.shop_model.specs.Lines.{new_products, best_sellers, search_results}
 use Rattle.shop_model.specs.Lookups.{row_numbered, title_of, related_of}
 use Rattle.shop_model.specs.Products.{product_detail}
@@ -84,6 +86,11 @@ search_request tables ids draw = record {
   blocks = Heading (codes "Search") ∷ promo tables ids draw ++ search_form ids ∷ nav ids;
 }
 
+-- a request that changes rows shows why it is refused; where it isn't, its page is that of its change, and there is none here
+abbrev pub refused : Option Refusal → Page
+refused (Some refusal) = page_of refusal
+refused None = record { status = 0; title = []; blocks = [] }
+
 -- what a request shows by the tables, with the word that was drawn for it
 abbrev pub show : Tables → Request → ℕ → Page
 show tables (Home asked) draw = home tables asked.ids draw asked.ids.c
@@ -92,3 +99,4 @@ show tables (BestSellers asked) draw = best_sellers tables asked.subject asked.i
 show tables (ProductDetail asked) draw = product_detail tables asked.item asked.ids
 show tables (SearchRequest asked) draw = search_request tables asked.ids draw
 show tables (SearchResults asked) draw = search_results tables asked.kind asked.text asked.ids
+show tables (CartRequest asked) draw = refused (check_cart tables asked)

@@ -119,4 +119,5 @@ pub enum Request {
     ProductDetail(ProductDetail),
     SearchRequest(SearchRequest),
     SearchResults(SearchResults),
+    CartRequest(CartRequest),
 }
