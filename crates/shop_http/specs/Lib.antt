@@ -1,4 +1,5 @@
 pub mod Numbers
+pub mod Sets
 pub mod Requests
 pub mod Heads
 pub mod Messages

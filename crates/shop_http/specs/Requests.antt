@@ -5,7 +5,7 @@ use Rattle.std.specs.List.{before_first, after_first, find}
 use Rattle.std.specs.Option.{option_map, option_and_then}
 use Rattle.std.specs.Str.{bytes_eq}
 use Rattle.std.specs.Str.Lossy.{utf8_lossy}
-use Rattle.form_urlencoded.specs.Form.{parse}
+use Rattle.form_urlencoded.specs.Form.{decode, parse}
 use Rattle.shop_model.specs.declared.requests.IdsAsked.{IdsAsked}
 use Rattle.shop_model.specs.declared.requests.Request.{Request}
 use Rattle.shop_model.specs.declared.requests.Request.TheVariants as request
@@ -15,6 +15,7 @@ use Rattle.shop_model.specs.Kinds.{kind_of}
 use Rattle.shop_model.specs.Limits.{text_limit}
 use Rattle.shop_model.specs.Subjects.{subject_of}
 use Rattle.shop_http.specs.Numbers.{number_of}
+use Rattle.shop_http.specs.Sets.{sets_asked}
 
 -- a name and a value
 abbrev pub Pair : Type 0
@@ -30,6 +31,10 @@ query_of target = after_first (λ byte. byte == 63) target
 -- the decoded pairs of a query, as texts: what isn't UTF-8 in them is replaced
 abbrev pub pairs : List ℕ → List Pair
 pairs query = map (λ pair. (utf8_lossy pair.0, utf8_lossy pair.1)) (parse query)
+
+-- an encoded pair as it is read
+abbrev pub decoded : Pair → Pair
+decoded (name, value) = (utf8_lossy (decode name), utf8_lossy (decode value))
 
 -- the value of the first pair that has the name
 abbrev pub parameter : List Pair → List ℕ → Option (List ℕ)
@@ -94,6 +99,12 @@ search_results pairs =
     (required_text (parameter pairs (codes "text"))))
     (required_kind (parameter pairs (codes "kind")))
 
+abbrev pub cart_request : List Pair → Option Request
+cart_request pairs =
+    option_and_then (λ item. option_and_then (λ sets. option_map (λ ids. request.CartRequest (record { item = item; sets = sets; ids = ids })) (ids_asked pairs))
+    (sets_asked pairs))
+    (optional_number (parameter pairs (codes "item")))
+
 -- the request of a path with these pairs; none where the path isn't served
 abbrev pub request_at : List ℕ → List Pair → Option Request
 request_at path pairs =
@@ -102,7 +113,8 @@ request_at path pairs =
     (if bytes_eq path (codes "/best_sellers") then best_sellers pairs else
     (if bytes_eq path (codes "/product_detail") then product_detail pairs else
     (if bytes_eq path (codes "/search_request") then search_request pairs else
-    (if bytes_eq path (codes "/search_results") then search_results pairs else None)))))
+    (if bytes_eq path (codes "/search_results") then search_results pairs else
+    (if bytes_eq path (codes "/shopping_cart") then cart_request pairs else None))))))
 
 -- what a target asks for
 unfoldable pub request_of : List ℕ → Option Request

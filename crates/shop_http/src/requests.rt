@@ -4,6 +4,7 @@ ghost use Rattle.std.specs.Cow.{cow_str_bytes};
 ghost use Rattle.shop_http.specs.Requests as spec;
 
 use crate::numbers::number_of;
+use cart::cart_request;
 use form_urlencoded::{decode, raw_pairs};
 use shop_model::{
     BestSellers, Home, IdsAsked, NewProducts, ProductDetail, Request, SearchKind, SearchRequest,
@@ -13,6 +14,7 @@ use shop_text::{Memory, Text};
 use std::alloc::Global;
 use std::borrow::CowStr;
 
+mod cart;
 #[cfg(test)]
 mod tests;
 
@@ -34,6 +36,8 @@ pub fn request_of(alloc: Global, target: &[u8]) -> Result<Option<Request>, Memor
         search_request(alloc, query)
     } else if path == b"/search_results".as_slice() {
         search_results(alloc, query)
+    } else if path == b"/shopping_cart".as_slice() {
+        cart_request(alloc, query)
     } else {
         Ok(None)
     }

@@ -42,7 +42,17 @@ fn results_with(kind: SearchKind, text: Text) -> Option<Request> {
     }))
 }
 
-/// Whether both ask for the same.
+/// Whether this asks for the cart, with these parameters.
+fn is_cart(asked: &Option<Request>, item: Option<u32>, sets: &[(u32, u32)], ids: IdsAsked) -> bool {
+    match asked {
+        Some(Request::CartRequest(asked)) => {
+            asked.item == item && asked.sets.as_slice() == sets && asked.ids == ids
+        }
+        _ => false,
+    }
+}
+
+/// Whether both ask for the same, and not for the cart.
 fn same(a: &Option<Request>, b: &Option<Request>) -> bool {
     match (a, b) {
         (None, None) => true,
@@ -125,6 +135,73 @@ fn texts_that_are_searched_for(rt: HostRuntime) -> Result<(), Fail> {
     Ok(())
 }
 
+#[test]
+fn carts(rt: HostRuntime) -> Result<(), Fail> {
+    let none = ids(None, None);
+    let repeated = [(1, 1), (2, 2), (1, 3)];
+    let cases = [
+        ("/shopping_cart", None, [].as_slice(), none),
+        ("/shopping_cart?item=1", Some(1), &[], none),
+        ("/shopping_cart?it%65m=2&item=x", Some(2), &[], none),
+        ("/shopping_cart?item=0&qty_0=1", Some(0), &[(0, 1)], none),
+        (
+            "/shopping_cart?cart=1&qty_46=0",
+            None,
+            &[(46, 0)],
+            ids(None, Some(1)),
+        ),
+        (
+            "/shopping_cart?qty_1=1&qty_2=2&qty_1=3&c=7&cart=9&item=5",
+            Some(5),
+            &repeated,
+            ids(Some(7), Some(9)),
+        ),
+        ("/shopping_cart?qt%79_5=1", None, &[(5, 1)], none),
+        (
+            "/shopping_cart?qty%5F4294967295=0000000999",
+            None,
+            &[(4_294_967_295, 999)],
+            none,
+        ),
+        ("/shopping_cart?qty=5&qty=x&Qty_1=x&q", None, &[], none),
+        (
+            "/shopping_cart?c=3&c=x&cart=4&cart=",
+            None,
+            &[],
+            ids(Some(3), Some(4)),
+        ),
+    ];
+    for (target, item, sets, ids) in cases {
+        let asked = request_of(rt.alloc(), target.as_bytes()).map_err(|_| "memory")?;
+        assert!(rt; is_cart(&asked, item, sets, ids), "at {target}");
+    }
+    Ok(())
+}
+
+/// Of 100 sets, and then of one more parameter.
+#[test]
+fn many_sets(rt: HostRuntime) -> Result<(), Fail> {
+    let ends = [
+        ("", true),
+        ("item=100&qty=1&c=2", true),
+        ("qty_100=1", false),
+        ("qty_5=1", false),
+    ];
+    for (end, served) in ends {
+        let mut target = Text::copy(rt.alloc(), b"/shopping_cart?").map_err(|_| "memory")?;
+        for place in 0..100 {
+            let digits = [b'0' + place / 10, b'0' + place % 10];
+            target.push(b"qty_").map_err(|_| "memory")?;
+            target.push(&digits).map_err(|_| "memory")?;
+            target.push(b"=1&").map_err(|_| "memory")?;
+        }
+        target.push(end.as_bytes()).map_err(|_| "memory")?;
+        let asked = request_of(rt.alloc(), target.bytes()).map_err(|_| "memory")?;
+        assert_eq!(rt; asked.is_some(), served);
+    }
+    Ok(())
+}
+
 /// Of 33 bytes that aren't UTF-8, each replaced by three, and then of some letters.
 #[test]
 fn long_texts(rt: HostRuntime) -> Result<(), Fail> {
@@ -171,6 +248,21 @@ fn targets_that_are_not_served(rt: HostRuntime) -> Result<(), Fail> {
         "/search_results?kind=Title&text=a",
         "/search_results?text=a",
         "/search_results?kind=title&text=a&cart=x",
+        "/shopping_cart/",
+        "/shopping_cart?item=",
+        "/shopping_cart?item=x",
+        "/shopping_cart?item=4294967296",
+        "/shopping_cart?c=",
+        "/shopping_cart?cart=x",
+        "/shopping_cart?qty_46=1000",
+        "/shopping_cart?qty_46=00000000001",
+        "/shopping_cart?qty_46=x",
+        "/shopping_cart?qty_46=1&qty_46=x",
+        "/shopping_cart?qty_1=",
+        "/shopping_cart?qty_1",
+        "/shopping_cart?qty_=1",
+        "/shopping_cart?qty_x=1",
+        "/shopping_cart?qty_4294967296=1",
     ];
     for target in targets {
         let asked = request_of(rt.alloc(), target.as_bytes()).map_err(|_| "memory")?;
