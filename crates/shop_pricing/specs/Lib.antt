@@ -1,0 +1,4 @@
+pub mod Bounds
+pub mod Changes
+pub mod Fills
+pub mod Totals
