@@ -83,7 +83,7 @@ fn push_fields(text: &mut Text, fields: &[Field]) -> Result<(), Memory>
 }
 
 #[tactic(auto, unfolding(shop_model::specs::PageText::block_text))]
-fn push_block(text: &mut Text, block: &Block) -> Result<(), Memory>
+pub(crate) fn push_block(text: &mut Text, block: &Block) -> Result<(), Memory>
     ensures ok { OnOk result (text.new ≡ text.old ++ spec.block_text block.now) }
     ensures err { OnErr result (Extends text.old text.new) }
 {

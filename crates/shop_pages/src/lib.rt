@@ -1,11 +1,19 @@
-//! The text of a page, written into one buffer, and its length.
+//! The text of a page, and the reply that carries it, written into one buffer.
 #![tactic(auto)]
 
 mod blocks;
-mod lengths;
+mod drafts;
+mod head;
+mod holes;
+mod out;
 mod page;
+mod reply;
+mod template;
 
-pub use page::{page_bytes, page_len, push_page};
+pub use page::{page_bytes, push_page};
+pub use reply::{Form, Reply};
 
+#[cfg(test)]
+mod reply_tests;
 #[cfg(test)]
 mod tests;

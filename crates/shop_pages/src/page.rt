@@ -1,9 +1,8 @@
-ghost use Rattle.std.specs.Prelude.{◌≡◌, ◌≤◌, ◌++◌, length, IfOk, OnOk, OnErr, MatchOption};
+ghost use Rattle.std.specs.Prelude.{◌≡◌, ◌++◌, IfOk, OnOk, OnErr};
 ghost use Rattle.shop_text.specs.Extends.{Extends};
 ghost use Rattle.shop_model.specs.PageText as spec;
 
 use crate::blocks::{push_blocks, push_tagged};
-use crate::lengths::{blocks_len, tagged_len};
 use shop_model::Page;
 use shop_text::{Memory, Text};
 use std::alloc::Global;
@@ -43,18 +42,6 @@ pub fn push_page(text: &mut Text, page: &Page) -> Result<(), Memory>
             Err(Memory)
         }
     }
-}
-
-/// The length of the page's text, without making it; takes no memory. None where no memory could
-/// hold the text.
-#[tactic(auto, unfolding(shop_model::specs::PageText::page_text))]
-pub fn page_len(page: &Page) -> Option<usize>
-    ensures { MatchOption result (usize.MAX ≤ length (spec.page_text page.now))
-        (λ len. len ≡ length (spec.page_text page.now)) }
-{
-    let frame = b"<html><head><title></title></head><body>\n</body></html>\n";
-    let len = tagged_len(frame, &page.title).saturating_add(blocks_len(page.blocks.as_slice()));
-    if len < usize::MAX { Some(len) } else { None }
 }
 
 /// The text of the page.

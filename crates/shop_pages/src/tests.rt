@@ -68,7 +68,6 @@ fn each_block_as_html(rt: HostRuntime) -> Result<(), Fail> {
     let alloc = rt.alloc();
     let page = page_of_each_block(alloc)?;
     assert_eq!(rt; page_bytes(alloc, &page)?.bytes(), WANTED.as_bytes());
-    assert_eq!(rt; page_len(&page), Some(WANTED.len()));
     let mut reply = text(alloc, "head\n")?;
     push_page(&mut reply, &page)?;
     assert_eq!(rt;

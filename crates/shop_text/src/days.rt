@@ -1,6 +1,7 @@
 ghost use Rattle.std.specs.Prelude.{◌≡◌, ◌≤◌, ◌<◌, ◌++◌, IfOk, OnOk, OnErr, pos};
 ghost use Rattle.jiff_core.specs.Date.{epoch_day};
 ghost use Rattle.shop_text.specs.Days as spec;
+ghost use Rattle.shop_text.specs.Escape.{escape};
 
 use crate::money::two_digits;
 use crate::{Memory, Text};
@@ -18,7 +19,8 @@ fn date_of(day: u32) -> Date
 /// A date as `YYYY-MM-DD`.
 fn date_bytes(year: u16, month: u8, day: u8) -> [u8; 10]
     requires { (year < 10_000) × (month < 100) × (day < 100) }
-    ensures { result ≡ spec.date_text year month day }
+    ensures value { result ≡ spec.date_text year month day }
+    ensures plain { escape result ≡ result }
 {
     let hundreds = two_digits((year / 100) as u8);
     let rest = two_digits((year % 100) as u8);
@@ -38,10 +40,12 @@ fn date_bytes(year: u16, month: u8, day: u8) -> [u8; 10]
     ]
 }
 
-/// A day counted from 1970-01-01 as `YYYY-MM-DD`.
-fn day_bytes(day: u32) -> [u8; 10]
+/// A day counted from 1970-01-01 as `YYYY-MM-DD`; the last one is 9999-12-31. In a page each byte
+/// stands for itself.
+pub fn day_bytes(day: u32) -> [u8; 10]
     requires { day ≤ 2_932_896 }
-    ensures { result ≡ spec.day_text day }
+    ensures value { result ≡ spec.day_text day }
+    ensures plain { escape result ≡ result }
 {
     let date = date_of(day);
     date_bytes(date.year.unsigned_abs(), date.month, date.day)

@@ -13,13 +13,13 @@ mod money;
 mod syllables;
 mod text;
 
-pub use days::day_text;
+pub use days::{day_bytes, day_text};
 pub use fold::{fold_begins, fold_eq};
 pub use listed::Listed;
 pub use markup::{escape, escaped_len};
 pub use memory::Memory;
 pub use money::cents_text;
-pub use syllables::{digsyl, digsyl_lower};
+pub use syllables::{digsyl, digsyl_lower, syllable};
 pub use text::Text;
 
 #[cfg(test)]

@@ -6,8 +6,8 @@ use crate::{Memory, Text};
 use itoa::Buffer;
 use std::alloc::Global;
 
-/// The syllable of a digit.
-fn syllable(digit: u8) -> &'static [u8]
+/// The syllable of a digit; that of 9 for a larger number.
+pub fn syllable(digit: u8) -> &'static [u8]
     ensures { result.now ≡ spec.syllable digit }
 {
     match digit {

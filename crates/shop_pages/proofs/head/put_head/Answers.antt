@@ -1,0 +1,19 @@
+use Rattle.std.proofs.Common.{append_assoc}
+use Rattle.shop_pages.specs.Replies.{reply_head}
+use Rattle.shop_pages.proofs.head.put_head.Goals as goal
+
+pub returns-clause-bytes : goal.returns-clause-bytes
+unfolding reply_head
+returns-clause-bytes c =
+    rw (
+      c.put-5.ensures.bytes,
+      c.put-4.ensures.bytes,
+      c.close_line.ensures.value,
+      c.put-3.ensures.bytes,
+      c.allow_line.ensures.value,
+      c.put-2.ensures.bytes,
+      c.put_decimal.ensures.bytes,
+      c.put.ensures.bytes,
+      c.put_status_line.ensures.bytes,
+    )
+    (simp append_assoc)

@@ -1,0 +1,72 @@
+//! The heads of replies (RFC 9112).
+ghost use Rattle.std.specs.Prelude.{◌≡◌, ◌≤◌, ◌+◌, ◌++◌, length};
+ghost use Rattle.shop_pages.specs.Replies as spec;
+
+use crate::out::Out;
+use crate::reply::Form;
+
+/// The most bytes of a head beside its phrase.
+pub(crate) const HEAD_ROOM: usize = 160;
+
+/// The reason phrase of a status.
+fn phrase_of(status: u16, title: &[u8]) -> &[u8]
+    ensures value { result.now ≡ spec.phrase_of status title.now }
+    ensures most { length result.now ≤ 2 + length title.now }
+{
+    if status == 200 { b"OK" } else { title }
+}
+
+/// The methods that are served, where another one was asked for.
+fn allow_line(status: u16) -> &'static [u8]
+    ensures value { result.now ≡ spec.allow_line status }
+    ensures most { length result.now ≤ 18 }
+{
+    if status == 405 {
+        b"Allow: GET, POST\r\n"
+    } else {
+        b""
+    }
+}
+
+/// Whether the connection ends.
+fn close_line(form: Form) -> &'static [u8]
+    ensures value { result.now ≡ spec.close_line form }
+    ensures most { length result.now ≤ 19 }
+{
+    if form.close {
+        b"Connection: close\r\n"
+    } else {
+        b""
+    }
+}
+
+/// Adds the first line of a reply.
+#[tactic(auto, unfolding(crate::specs::Replies::status_line))]
+fn put_status_line(out: &mut Out, status: u16, title: &[u8])
+    requires { 40 + length title.now ≤ out.old.room }
+    ensures bytes { out.new.bytes ≡ out.old.bytes ++ spec.status_line status title.now }
+    ensures room { out.old.room ≤ out.new.room + (40 + length title.now) }
+{
+    out.put(b"HTTP/1.1 ");
+    out.put_decimal(u64::from(status));
+    out.put(b" ");
+    out.put(phrase_of(status, title));
+    out.put(b"\r\n");
+}
+
+/// Adds the head of a reply with this status and title, around a page of so many bytes; takes no
+/// memory.
+#[tactic(auto, unfolding(crate::specs::Replies::reply_head))]
+pub(crate) fn put_head(out: &mut Out, status: u16, title: &[u8], len: u64, form: Form)
+    requires { spec.head_room + length title.now ≤ out.old.room }
+    ensures bytes { out.new.bytes ≡ out.old.bytes ++ spec.reply_head status title.now len form }
+    ensures room { out.old.room ≤ out.new.room + (spec.head_room + length title.now) }
+{
+    put_status_line(out, status, title);
+    out.put(b"Content-Type: text/html; charset=utf-8\r\nContent-Length: ");
+    out.put_decimal(len);
+    out.put(b"\r\n");
+    out.put(allow_line(status));
+    out.put(close_line(form));
+    out.put(b"\r\n");
+}
