@@ -1,5 +1,5 @@
 -- From reads and a page to an attempt.
-use Rattle.std.proofs.Common.{◌≡◌, ℕ, List, [], ◌∷◌, Option, Some, None, refl, sym, ◌∙◌, ap, arith}
+use Rattle.std.proofs.Common.{◌≡◌, ℕ, List, [], ◌∷◌, Option, Some, None, refl, sym, ◌∙◌, ap, arith, subst}
 use Rattle.shop_log.proofs.Extending.{extends_length}
 use Rattle.shop_log.proofs.Versions.{version_before}
 use Rattle.shop_model.specs.declared.page.Page.{Page}
@@ -7,6 +7,7 @@ use Rattle.shop_model.specs.declared.requests.Request.{Request}
 use Rattle.shop_model.specs.declared.tables.Tables.{Tables}
 use Rattle.shop_model.specs.Catalogues.{Catalogue, catalogue}
 use Rattle.shop_history.specs.declared.drafts.Draft.TheVariants.{Fixed}
+use Rattle.shop_history.specs.Acts.{act_of, ChangesNothing}
 use Rattle.shop_history.specs.Logs.{history, version_of}
 use Rattle.shop_attempt.specs.declared.attempts.ReadOf.{ReadOf}
 use Rattle.shop_attempt.specs.Reads.{Agrees, AreTrue, IsReadSince}
@@ -25,21 +26,24 @@ attempts : (start now : Seat) (request : Request) (moment draw : ℕ) (reads : L
 attempts start now request moment draw reads are = record {
   at = refl;
   drew = refl;
-  reading = refl;
   reads = are;
   faithful = record { reads_are = true_for start now request draw reads are; makes = tt };
 }
 
 -- what an attempt with these reads and this page is
 pub attempted_of : (start now : Seat) (request : Request) (moment draw : ℕ) (c : Catalogue) (reads : List ReadOf) (page : Option Page)
-    → c ≡ catalogue now.opening → AreReadFor start now request draw reads → IsPageOf c request draw reads page
+    → act_of request draw ≡ None → c ≡ catalogue now.opening → AreReadFor start now request draw reads → IsPageOf c request draw reads page
     → AttemptedAs start now request moment draw (attempt_of reads moment draw page)
-attempted_of start now request moment draw c reads (Some page) is are shows = record {
+attempted_of start now request moment draw c reads (Some page) nothing is are shows = record {
   attempts = attempts start now request moment draw reads are;
-  page = λ t agrees. ap Fixed (shows t (fits c now.opening t reads is agrees));
+  drafts = λ t agrees. record {
+    alone = subst (ChangesNothing t) (sym nothing) tt;
+    page_is = ap Fixed (shows t (fits c now.opening t reads is agrees));
+  };
 }
-attempted_of start now request moment draw c reads None is are never = record {
+attempted_of start now request moment draw c reads None nothing is are never = record {
   attempts = attempts start now request moment draw reads are;
+  reading = refl;
   never = λ t agrees. never t (fits c now.opening t reads is agrees);
 }
 

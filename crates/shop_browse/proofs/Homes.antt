@@ -54,7 +54,7 @@ pub promotion_and_customer : (start middle now : Seat) (asked : home_asked.Home)
     → AreReadFor start now (Home asked) draw (promotion_reads promotion ++ read ∷ [])
 promotion_and_customer start middle now asked draw number promotion read first second is_c is are =
     for_push start now (Home asked) draw (promotion_reads promotion) read
-    (for_earlier start middle now (Home asked) draw (promotion_reads promotion) first second (are (Home asked) (λ t. inr refl)))
+    (for_earlier start middle now (Home asked) draw (promotion_reads promotion) first second (are (Home asked) (λ opening log. inr refl)))
     (customer_for start middle now asked draw number read first second is_c is)
 
 -- what is shown

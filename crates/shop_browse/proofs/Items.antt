@@ -13,6 +13,7 @@ use Rattle.shop_history.specs.declared.keys.Key.TheVariants as key
 use Rattle.shop_history.specs.declared.keys.Label.{Label}
 use Rattle.shop_history.specs.declared.keys.Row.{Row}
 use Rattle.shop_history.specs.declared.keys.Row.TheVariants as row
+use Rattle.shop_history.specs.Acts.{act_of}
 use Rattle.shop_history.specs.Keys.{row_of, shown, label_of}
 use Rattle.shop_history.specs.Logs.{tables}
 use Rattle.shop_history.proofs.Carts.{only_carts}
@@ -53,9 +54,9 @@ label_found t o x label found is =
 
 -- an attempt by the reads and the page of one
 pub attempted_from : (start now : Seat) (request : Request) (moment draw : ℕ) (c : Catalogue) (reads list : List ReadOf) (page : Option Page) (result : Attempted)
-    → result ≡ attempt_of list moment draw page → list ≡ reads → c ≡ catalogue start.opening → Looked start now → AreReadFor start now request draw reads → IsPageOf c request draw reads page
+    → result ≡ attempt_of list moment draw page → list ≡ reads → act_of request draw ≡ None → c ≡ catalogue start.opening → Looked start now → AreReadFor start now request draw reads → IsPageOf c request draw reads page
     → AttemptedAs start now request moment draw result
-attempted_from start now request moment draw c reads list page result is same index looked are shows =
+attempted_from start now request moment draw c reads list page result is same reading index looked are shows =
     let all : AttemptedAs start now request moment draw (attempt_of reads moment draw page)
-    = attempted_of start now request moment draw c reads page (index ∙ ap catalogue (sym looked.follows.opening)) are shows in
+    = attempted_of start now request moment draw c reads page reading (index ∙ ap catalogue (sym looked.follows.opening)) are shows in
     subst (λ a. AttemptedAs start now request moment draw a) (ap (λ rs. attempt_of rs moment draw page) (sym same) ∙ sym is) all

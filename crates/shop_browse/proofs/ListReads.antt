@@ -98,13 +98,13 @@ for_push start now request draw (first ∷ reads) read are is = (are.0, for_push
 -- the attempt of a list that was read, behind the labels on it
 
 list_for : (start now : Seat) (request : Request) (draw : ℕ) (key : Key) (list : ReadOf) (labels : List ReadOf) → ReadsList start now key list labels
-    → IsAbout (tables now.opening now.seen) request draw key → AreReadFor start now request draw (labels ++ list ∷ [])
+    → IsAbout now.opening now.seen request draw key → AreReadFor start now request draw (labels ++ list ∷ [])
 list_for start now request draw key list labels read about =
     for_push start now request draw labels list
     (labels_for start now request draw (listed list.row) labels read.are read.labels_since read.within)
     (record {
       since = read.list_since;
-      footprint = inl (subst (IsAbout (tables now.opening now.seen) request draw) (sym read.key_is) about);
+      footprint = inl (subst (IsAbout now.opening now.seen request draw) (sym read.key_is) about);
     })
 
 page_listed : (c : Catalogue) (request : Request) (draw : ℕ) (key : Key) (list : ReadOf) (labels : List ReadOf) (ids : IdsAsked) (title : List ℕ) (head : List Block) (page : Option Page)
@@ -123,11 +123,11 @@ pub list_attempted : (start now : Seat) (moment draw : ℕ) (c : Catalogue) (key
     (ids : IdsAsked) (title : List ℕ) (head : List Block) (page : Option Page)
     → c ≡ catalogue start.opening → Looked start now → ReadsList start now key list labels → items ≡ listed list.row → those ≡ labels → reads ≡ labels ++ list ∷ []
     → IsListPage ids title head items those page → AttemptsList start now key ids title head moment draw (attempt_of reads moment draw page)
-list_attempted start now moment draw c key list items labels those reads ids title head page index looked read are same all is = λ request about shows.
+list_attempted start now moment draw c key list items labels those reads ids title head page index looked read are same all is = λ request reading about shows.
     let of_items : IsListPage ids title head (listed list.row) those page = subst (λ (l : List ℕ). IsListPage ids title head l those page) are is in
     let of_labels : IsListPage ids title head (listed list.row) labels page = subst (λ (l : List ReadOf). IsListPage ids title head (listed list.row) l page) same of_items in
-    attempted_of start now request moment draw c reads page (index ∙ ap catalogue (sym looked.follows.opening))
-    (subst (AreReadFor start now request draw) (sym all) (list_for start now request draw key list labels read (about (tables now.opening now.seen))))
+    attempted_of start now request moment draw c reads page reading (index ∙ ap catalogue (sym looked.follows.opening))
+    (subst (AreReadFor start now request draw) (sym all) (list_for start now request draw key list labels read (about now.opening now.seen)))
     (subst (λ (l : List ReadOf). IsPageOf c request draw l page) (sym all) (page_listed c request draw key list labels ids title head page read.key_is of_labels shows))
 
 -- the requests for lists show them
@@ -136,14 +136,14 @@ pub new_attempted : {E : Type 0} (start now : Seat) (asked : NewProducts) (momen
     → IfOk result (AttemptsList start now (key.NewIn asked.subject) asked.ids (codes "New Products") head moment draw) → IfOk result (AttemptedAs start now (request.NewProducts asked) moment draw)
 unfolding new_products
 new_attempted start now asked moment draw head result is =
-    IfOk-weaker result _ _ (λ attempted attempts. attempts (request.NewProducts asked) (λ t. refl)
+    IfOk-weaker result _ _ (λ attempted attempts. attempts (request.NewProducts asked) refl (λ opening log. refl)
     (λ t. ap (λ (h : List Block). list_page t asked.ids (codes "New Products") h (newest t asked.subject)) (sym is)))
 
 pub best_attempted : {E : Type 0} (start now : Seat) (asked : BestSellers) (moment draw : ℕ) (head : List Block) (result : Result Attempted E) → head ≡ Heading (codes "Best " ++ subject_name asked.subject) ∷ []
     → IfOk result (AttemptsList start now (key.BestIn asked.subject) asked.ids (codes "Best Sellers") head moment draw) → IfOk result (AttemptedAs start now (request.BestSellers asked) moment draw)
 unfolding best_sellers
 best_attempted start now asked moment draw head result is =
-    IfOk-weaker result _ _ (λ attempted attempts. attempts (request.BestSellers asked) (λ t. refl)
+    IfOk-weaker result _ _ (λ attempted attempts. attempts (request.BestSellers asked) refl (λ opening log. refl)
     (λ t. ap (λ (h : List Block). list_page t asked.ids (codes "Best Sellers") h (best t asked.subject)) (sym is)))
 
 -- the attempt of items that a search found
@@ -180,6 +180,6 @@ found_attempted start now asked moment draw c items those_items before reads tho
     let within : All (Has (length now.opening.items)) those_items
     = few_within now asked.kind asked.text those_items (are ∙ ap (λ (d : Catalogue). found d asked.kind asked.text) today) valid in
     let of_reads : IsListPage asked.ids title head those_items reads page = subst (λ (l : List ReadOf). IsListPage asked.ids title head those_items l page) same is in
-    attempted_of start now asks moment draw c reads page today
+    attempted_of start now asks moment draw c reads page refl today
     (labels_for start now asks draw those_items reads (subst (AreLabels those_items) (sym all) adds.keys) (subst (AreReadSince start now) (sym all) adds.since) within)
     (page_found c asks draw asked.kind asked.text those_items reads asked.ids title head page are of_reads (λ t. search_shows t asked draw head head_is))

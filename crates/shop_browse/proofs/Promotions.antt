@@ -108,7 +108,7 @@ promotion_read start middle now draw drawn item ids before labels first seat sec
     (labels_for start now request draw ids adds.labels there adds.keys (all_earlier start middle now adds.labels first second adds.since)))
     (record {
       since = since_later start middle now item second (read_since start middle (key.Item drawn) item first is);
-      footprint = inl (subst (IsAbout t request draw) (sym key_is) (about t));
+      footprint = inl (subst (IsAbout now.opening now.seen request draw) (sym key_is) (about now.opening now.seen));
     })
 
 -- what a label shows

@@ -1,15 +1,18 @@
 -- What an attempt call answers.
-use Rattle.std.specs.Prelude.{◌≡◌, ℕ, List, [], ◌∷◌, ◌++◌, map, Option, Some, None}
+use Rattle.std.specs.Prelude.{◌≡◌, ℕ, ◌≤◌, List, [], ◌∷◌, ◌++◌, map, Option, Some, None}
 use Rattle.shop_model.specs.declared.page.Page.{Page}
 use Rattle.shop_model.specs.declared.requests.Request.{Request}
 use Rattle.shop_model.specs.declared.tables.Tables.{Tables}
 use Rattle.shop_model.specs.Catalogues.{Catalogue, catalogue}
+use Rattle.shop_model.specs.Limits.{stamp_limit}
 use Rattle.shop_model.specs.Show.{show}
 use Rattle.shop_model.specs.Sound.{Sound}
+use Rattle.shop_history.specs.declared.acts.Act.{Act}
 use Rattle.shop_history.specs.declared.drafts.Draft.{Draft}
 use Rattle.shop_history.specs.declared.drafts.Draft.TheVariants.{Fixed}
 use Rattle.shop_history.specs.declared.keys.Key.TheVariants.{Label}
-use Rattle.shop_history.specs.Logs.{tables}
+use Rattle.shop_history.specs.Acts.{Played, play, act_of, ChangesNothing}
+use Rattle.shop_history.specs.Drafts.{filled, HasIds}
 use Rattle.shop_attempt.specs.declared.attempts.Attempt.{Attempt}
 use Rattle.shop_attempt.specs.declared.attempts.ReadOf.{ReadOf}
 use Rattle.shop_attempt.specs.Faithful.{Faithful}
@@ -22,7 +25,7 @@ use Rattle.shop_browse.specs.Footprints.{InFootprint}
 -- a read of this call, of a row that the request may read
 pub record IsReadFor (start now : Seat) (request : Request) (draw : ℕ) (read : ReadOf) : Type 0 where
   pub since : IsReadSince start now read
-  pub footprint : InFootprint (tables now.opening now.seen) request draw read.key
+  pub footprint : InFootprint now.opening now.seen request draw read.key
 
 abbrev pub AreReadFor : Seat → Seat → Request → ℕ → List ReadOf → Type 0
 AreReadFor start now request draw [] = Unit {0}
@@ -40,22 +43,40 @@ abbrev pub IsPageOf : Catalogue → Request → ℕ → List ReadOf → Option P
 IsPageOf c request draw reads (Some page) = (t : Tables) → Fits c t reads → page ≡ show t request draw
 IsPageOf c request draw reads None = (t : Tables) → Fits c t reads → ⊥
 
--- a faithful reading attempt at this moment and with this word
+-- a faithful attempt at this moment and with this word
 pub record IsAttempt (start now : Seat) (request : Request) (moment draw : ℕ) (attempt : Attempt) : Type 0 where
   pub at : attempt.moment ≡ moment
   pub drew : attempt.draw ≡ draw
-  pub reading : attempt.act ≡ None
   pub reads : AreReadFor start now request draw attempt.reads
   pub faithful : Faithful now.opening now.seen attempt
 
--- the draft is what the request shows in whichever tables agree with the reads
+-- the tables decide the request alone, and the draft is the page that it shows
+pub record IsShownBy (t : Tables) (request : Request) (draw : ℕ) (draft : Draft) : Type 0 where
+  pub alone : ChangesNothing t (act_of request draw)
+  pub page_is : draft ≡ Fixed (show t request draw)
+
+-- the draft becomes the page that was played, and asks for no id but of the rows that were made
+pub record Becomes (played : Played) (stamp : ℕ) (draft : Draft) : Type 0 where
+  pub asks : HasIds played.ids draft
+  pub page_is : filled stamp played.ids draft ≡ played.page
+
+-- whichever tables agree with the reads, the draft is the page that the request shows there; or that of
+-- its act, with the ids that are drawn there, at any stamp
+abbrev pub IsDraftOf : Tables → Request → ℕ → List ReadOf → Draft → Option Act → Type 0
+IsDraftOf opening request draw reads draft None = (t : Tables) → Agrees opening t reads → IsShownBy t request draw draft
+IsDraftOf opening request draw reads draft (Some act) =
+    (act_of request draw ≡ Some act)
+    × ((t : Tables) (stamp : ℕ) → Agrees opening t reads → stamp ≤ stamp_limit → Becomes (play t stamp act) stamp draft)
+
+-- an attempt, and the draft of its page
 pub record IsReady (start now : Seat) (request : Request) (moment draw : ℕ) (attempt : Attempt) (draft : Draft) : Type 0 where
   pub attempts : IsAttempt start now request moment draw attempt
-  pub page : (t : Tables) → Agrees now.opening t attempt.reads → draft ≡ Fixed (show t request draw)
+  pub drafts : IsDraftOf now.opening request draw attempt.reads draft attempt.act
 
 -- no tables agree with the reads
 pub record IsContradiction (start now : Seat) (request : Request) (moment draw : ℕ) (attempt : Attempt) : Type 0 where
   pub attempts : IsAttempt start now request moment draw attempt
+  pub reading : attempt.act ≡ None
   pub never : (t : Tables) → Agrees now.opening t attempt.reads → ⊥
 
 abbrev pub AttemptedAs : Seat → Seat → Request → ℕ → ℕ → Attempted → Type 0
@@ -65,10 +86,11 @@ AttemptedAs start now request moment draw (Contradiction attempt) =
     IsContradiction start now request moment draw attempt
 AttemptedAs start now request moment draw Memory = Unit {0}
 
--- an attempt that reads, and shows a page, where there is one
+-- an attempt that only reads
 abbrev pub reading : ℕ → ℕ → List ReadOf → Attempt
 reading moment draw reads = record { reads = reads; moment = moment; draw = draw; writes = None; act = None }
 
+-- an attempt that only reads, with its page; without a page it is a contradiction
 abbrev pub attempt_of : List ReadOf → ℕ → ℕ → Option Page → Attempted
 attempt_of reads moment draw (Some page) = Ready (reading moment draw reads) (Fixed page)
 attempt_of reads moment draw None = Contradiction (reading moment draw reads)

@@ -6,10 +6,12 @@ use Rattle.shop_model.specs.declared.requests.Request.{Request}
 use Rattle.shop_model.specs.declared.tables.Tables.{Tables}
 use Rattle.shop_model.specs.Show.{promoted, promo}
 use Rattle.shop_model.specs.Sound.{Sound, Has}
+use Rattle.shop_history.specs.declared.acts.Entry.{Entry}
 use Rattle.shop_history.specs.declared.keys.Key.TheVariants.{Item, Label}
 use Rattle.shop_history.specs.declared.keys.Row.{Row}
 use Rattle.shop_history.specs.declared.keys.Row.TheVariants as row
 use Rattle.shop_history.specs.Keys.{row_of}
+use Rattle.shop_history.specs.Logs.{tables}
 use Rattle.shop_attempt.specs.declared.attempts.ReadOf.{ReadOf}
 use Rattle.shop_attempt.specs.Reads.{Shows}
 use Rattle.shop_attempt.specs.Seats.{Seat}
@@ -34,7 +36,7 @@ promotion_reads promotion = promotion.labels ++ promotion.item ∷ []
 -- each request that is about the drawn item may read them
 abbrev pub ArePromotionReads : Seat → Seat → ℕ → Promotion → Type 0
 ArePromotionReads start now draw promotion =
-    (request : Request) → ((t : Tables) → IsAbout t request draw (Item (drawn_item t draw)))
+    (request : Request) → ((opening : Tables) (log : List Entry) → IsAbout opening log request draw (Item (drawn_item (tables opening log) draw)))
     → AreReadFor start now request draw (promotion_reads promotion)
 
 -- the tables show these labels, of items that there are

@@ -27,7 +27,7 @@ pub enum Attempted {
 }
 
 /// An attempt with these reads that shows a page, where there is one.
-pub(crate) fn attempt_of(reads: Listed<ReadOf>, ask: &Ask, page: Option<Page>) -> Attempted
+pub fn attempt_of(reads: Listed<ReadOf>, ask: &Ask, page: Option<Page>) -> Attempted
     ensures { result ≡ spec.attempt_of reads ask.now.moment ask.now.draw page }
 {
     let attempt = Attempt {

@@ -1,8 +1,9 @@
-ghost use Rattle.std.specs.Prelude.{◌≡◌, length};
+ghost use Rattle.std.specs.Prelude.{◌≡◌, None, length};
 ghost use Rattle.shop_model.specs.Catalogues.{catalogue};
 ghost use Rattle.shop_attempt.specs.Marks.{StillMarked};
 ghost use Rattle.shop_attempt.specs.Seats.{Looked};
 ghost use Rattle.shop_browse.specs.Attempts.{AttemptedAs};
+ghost use Rattle.shop_history.specs.Acts.{act_of};
 
 use crate::home::home;
 use crate::product_detail::product_detail;
@@ -14,8 +15,9 @@ use shop_attempt::Store;
 use shop_model::Request;
 use std::alloc::Global;
 
-/// An attempt at what a request asks for.
+/// An attempt at what a request asks for that only reads.
 pub fn attempt<St: Store>(alloc: Global, store: &mut St, ask: &Ask, request: &Request) -> Attempted
+    requires reading { act_of request.now ask.now.draw ≡ None }
     requires index { ask.now.index.now ≡ catalogue (St.seat store.old).opening }
     requires scale { ask.now.scale.now.items ≡ length (St.seat store.old).opening.items }
     ensures looked { Looked (St.seat store.old) (St.seat store.new) }
@@ -29,5 +31,6 @@ pub fn attempt<St: Store>(alloc: Global, store: &mut St, ask: &Ask, request: &Re
         Request::ProductDetail(asked) => product_detail(alloc, store, ask, asked),
         Request::SearchRequest(asked) => search_request(alloc, store, ask, asked),
         Request::SearchResults(asked) => search_results(alloc, store, ask, asked),
+        Request::CartRequest(_) => unreachable!(),
     }
 }

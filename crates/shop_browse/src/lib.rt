@@ -15,5 +15,5 @@ mod rankings;
 mod search_request;
 mod search_results;
 
-pub use attempted::{Ask, Attempted};
+pub use attempted::{Ask, Attempted, attempt_of};
 pub use calls::attempt;
