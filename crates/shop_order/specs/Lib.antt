@@ -1,0 +1,4 @@
+pub mod Drafts
+pub mod Lines
+pub mod Begun
+pub mod Changes

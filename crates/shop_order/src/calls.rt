@@ -1,0 +1,30 @@
+ghost use Rattle.std.specs.Prelude.{◌≡◌, length};
+ghost use Rattle.shop_model.specs.Catalogues.{catalogue};
+ghost use Rattle.shop_attempt.specs.Marks.{StillMarked};
+ghost use Rattle.shop_attempt.specs.Seats.{Looked};
+ghost use Rattle.shop_browse.specs.Attempts.{AttemptedAs};
+
+use crate::shopping_cart;
+use shop_attempt::Store;
+use shop_browse::{Ask, Attempted};
+use shop_model::Request;
+use std::alloc::Global;
+
+/// An attempt at what a request asks for.
+pub fn attempt<St: Store>(alloc: Global, store: &mut St, ask: &Ask, request: &Request) -> Attempted
+    requires index { ask.now.index.now ≡ catalogue (St.seat store.old).opening }
+    requires scale { ask.now.scale.now.items ≡ length (St.seat store.old).opening.items }
+    ensures looked { Looked (St.seat store.old) (St.seat store.new) }
+    ensures marks { StillMarked (St.marked store.old) (St.marked store.new) }
+    ensures attempted { AttemptedAs (St.seat store.old) (St.seat store.new) request.now ask.now.moment ask.now.draw result }
+{
+    match request {
+        Request::CartRequest(asked) => shopping_cart(alloc, store, ask, asked),
+        Request::Home(_)
+        | Request::NewProducts(_)
+        | Request::BestSellers(_)
+        | Request::ProductDetail(_)
+        | Request::SearchRequest(_)
+        | Request::SearchResults(_) => shop_browse::attempt(alloc, store, ask, request),
+    }
+}
