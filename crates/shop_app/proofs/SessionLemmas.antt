@@ -1,11 +1,11 @@
 -- The status of a session by the end of its connection.
-use Rattle.std.proofs.Common.{◌≡◌, ℕ, ◌<◌, ◌≤◌, List, [], ◌∷◌, length, get_or, Bool, ◌⊎◌, subst, refl, sym, ap, ◌∙◌, arith, codes}
+use Rattle.std.proofs.Common.{◌≡◌, ℕ, ◌<◌, ◌≤◌, List, [], ◌∷◌, length, map, get_or, Bool, subst, refl, sym, ap, ◌∙◌, arith, codes}
 use Rattle.std.specs.Option.{IfSome}
 use Rattle.std.specs.Result.{IfOk}
 use Rattle.std.specs.declared.result.Result.{Result}
 use Rattle.std.specs.declared.result.Result.TheVariants.{Ok, Err}
 use Rattle.std.specs.Bool.{Decides, IsTrue}
-use Rattle.std.specs.Prelude.{All}
+use Rattle.shop_history.specs.declared.acts.Entry.{Entry}
 use Rattle.shop_attempt.specs.Seats.{Seat}
 use Rattle.shop_edges.specs.Causes.{Rose}
 use Rattle.shop_http.specs.declared.messages.Stop.{Stop}
@@ -13,7 +13,8 @@ use Rattle.shop_http.specs.declared.messages.Stop.TheVariants.{Between, Inside, 
 use Rattle.shop_engine.specs.declared.report.Ended.{Ended}
 use Rattle.shop_engine.specs.declared.report.Ended.TheVariants as ended
 use Rattle.shop_engine.specs.declared.report.Point.{Point}
-use Rattle.shop_engine.specs.Served.{Served, Streams, stop_of, plain_point}
+use Rattle.shop_engine.specs.Rounds.{changes_of}
+use Rattle.shop_engine.specs.Served.{Served, Streams, stop_of}
 use Rattle.shop_engine.specs.Workers.{Caller, Progress, at_first}
 use Rattle.std.proofs.lemmas.List.FromFn.{length-map-range_with_len}
 use Rattle.shop_model.specs.declared.tables.Tables.{Tables}
@@ -23,14 +24,23 @@ use Rattle.shop_model.specs.Scales.{ScaleRow, desk}
 use Rattle.shop_book.specs.Books.{BookValue}
 use Rattle.shop_book.specs.Solos.{SoloValue, seat_of}
 use Rattle.shop_engine.specs.Workers.{IsPosted, WorkerState}
-use Rattle.shop_app.specs.Session.{IsFirst, IsSession, IsAtOnce, ServedTo, Faults, first_caller, first_seat, session_words}
+use Rattle.shop_app.specs.Session.{IsFirst, IsSession, ServedTo, Faults, first_caller, first_seat, session_words}
 use Rattle.shop_app.specs.Statuses.{status_of}
-use Rattle.shop_app.proofs.AloneLemmas.{all_at_once}
+use Rattle.shop_app.proofs.AloneLemmas.{all_at_once, stamps_are}
 
-at_first_once : (seat' : Seat) (old new : Streams) (stop : Stop) (after : Progress) (points : List Point) → Served first_caller at_first after first_seat seat' old new stop points
-    → All (λ p. (p ≡ plain_point) ⊎ IsAtOnce p) points
+from_first : (seat' : Seat) (old new : Streams) (stop : Stop) (after : Progress) (points : List Point) → Served first_caller at_first after first_seat seat' old new stop points → ServedTo old new stop
 unfolding first_seat
-at_first_once seat' old new stop after points served = all_at_once first_caller at_first after first_seat seat' old new stop points served refl refl
+from_first seat' old new stop after points served =
+    let log : seat'.seen ≡ changes_of seat'.seen points = served.stays.alone refl in
+    record {
+      points = points;
+      after = after;
+      seat = seat';
+      served = served;
+      alone = all_at_once first_caller at_first after first_seat seat' old new stop points served refl;
+      log = log;
+      stamps = ap (map (λ (e : Entry). e.stamp)) log ∙ stamps_are first_caller at_first after first_seat seat' old new stop points served refl;
+    }
 
 served_to : (caller : Caller) (before : Progress) (seat seat' : Seat) (old new : Streams) (after : Progress) (points : List Point) (stop : Stop)
     → caller ≡ first_caller → before ≡ at_first → seat ≡ first_seat → Served caller before after seat seat' old new stop points → ServedTo old new stop
@@ -39,7 +49,7 @@ served_to caller before seat seat' old new after points stop is_caller is_first 
     = subst (λ (s : Seat). Served first_caller at_first after s seat' old new stop points) is_seat
     (subst (λ (p : Progress). Served first_caller p after seat seat' old new stop points) is_first
     (subst (λ (c : Caller). Served c before after seat seat' old new stop points) is_caller served)) in
-    record { points = points; after = after; seat = seat'; served = first; alone = at_first_once seat' old new stop after points first }
+    from_first seat' old new stop after points first
 
 pub session-by-end : (end : Ended) (caller : Caller) (before : Progress) (seat seat' : Seat) (old new : Streams) (after : Progress) (points : List Point) (faults : Faults)
     → IfSome (stop_of end) (λ stop. Served caller before after seat seat' old new stop points) → caller ≡ first_caller → before ≡ at_first → seat ≡ first_seat

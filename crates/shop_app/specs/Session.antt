@@ -1,5 +1,6 @@
 -- What a session does, by its status.
-use Rattle.std.specs.Prelude.{◌≡◌, ◌≢◌, ◌⊎◌, ℕ, List, [], ◌∷◌, All, Option, Some, codes}
+use Rattle.std.specs.Prelude.{◌≡◌, ◌≢◌, ◌⊎◌, ℕ, List, [], ◌∷◌, map, All, Option, Some, codes}
+use Rattle.std.specs.List.{flat_map}
 use Rattle.std.specs.Io.KnownBytes.{Appends}
 use Rattle.shop_edges.specs.Causes.{Rose}
 use Rattle.shop_model.specs.Population.{populated}
@@ -9,7 +10,9 @@ use Rattle.shop_http.specs.declared.messages.Stop.{Stop}
 use Rattle.shop_http.specs.declared.messages.Stop.TheVariants.{Between}
 use Rattle.shop_engine.specs.declared.report.Point.{Point}
 use Rattle.shop_attempt.specs.Seats.{Seat}
-use Rattle.shop_engine.specs.declared.report.PointKind.TheVariants.{At}
+use Rattle.shop_engine.specs.declared.report.PointKind.{PointKind}
+use Rattle.shop_engine.specs.declared.report.PointKind.TheVariants.{Plain, At, Change, Busy, Full}
+use Rattle.shop_engine.specs.Rounds.{changes_of}
 use Rattle.shop_engine.specs.Served.{Served, Streams, plain_point}
 use Rattle.shop_engine.specs.Workers.{Caller, Progress, WorkerState, at_first}
 use Rattle.shop_app.specs.declared.status.Status.{Status}
@@ -45,19 +48,41 @@ pub record IsFirst (worker : WorkerState SoloValue) : Type 0 where
   pub progress : worker.progress ≡ at_first
   pub seat : seat_of worker.store ≡ first_seat
 
--- an answer that the tables decided was settled at the first try, before any change
+-- a settle decided the answer
+abbrev pub IsSettled : PointKind → Type 0
+IsSettled At = Unit {0}
+IsSettled Change = Unit {0}
+IsSettled Full = Unit {0}
+IsSettled (Busy conflicts) = ⊥
+IsSettled Plain = ⊥
+
+-- an answer was settled at the first try
 pub record IsAtOnce (point : Point) : Type 0 where
-  pub kind : point.kind ≡ At
-  pub front : point.front ≡ 0
+  pub settled : IsSettled point.kind
   pub tries : point.tries ≡ 1
 
--- its one connection was served until the messages stopped so: no settle was stale
+-- the moment of a change
+abbrev pub moment_as : ℕ → PointKind → List ℕ
+moment_as moment Change = moment ∷ []
+moment_as moment At = []
+moment_as moment Full = []
+moment_as moment (Busy conflicts) = []
+moment_as moment Plain = []
+
+-- the moments of the changes among these points, in order
+abbrev pub moments_of : List Point → List ℕ
+moments_of points = flat_map (λ p. moment_as p.moment p.kind) points
+
+-- its one connection was served until the messages stopped so: no settle was stale, and the log is what the
+-- changes made, each with its moment as its stamp
 pub record ServedTo (old new : Streams) (stop : Stop) : Type 0 where
   pub points : List Point
   pub after : Progress
   pub seat : Seat
   pub served : Served first_caller at_first after first_seat seat old new stop points
   pub alone : All (λ p. (p ≡ plain_point) ⊎ IsAtOnce p) points
+  pub log : seat.seen ≡ changes_of seat.seen points
+  pub stamps : map (λ e. e.stamp) seat.seen ≡ moments_of points
 
 -- the messages stopped otherwise than between two of them
 pub record ServedInPart (old new : Streams) : Type 0 where

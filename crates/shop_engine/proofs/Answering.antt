@@ -1,94 +1,138 @@
--- How the tries of a request make a round.
-use Rattle.std.proofs.Common.{◌≡◌, ℕ, List, [], ◌∷◌, ◌++◌, Option, false, refl, ap, ◌∙◌, subst}
+-- How the point of a request makes a round.
+use Rattle.std.proofs.Common.{◌≡◌, ℕ, ◌≤◌, max, min, List, [], ◌∷◌, ◌++◌, length, Option, Some, slice_get, refl, sym, ◌∙◌, ap, subst, arith, length-append}
 use Rattle.std.specs.Io.KnownBytes.{Appends}
 use Rattle.std.proofs.lemmas.List.Elements.{All-weaker}
 use Rattle.shop_edges.specs.Causes.{count_up}
 use Rattle.shop_edges.specs.Clocks.{Tells}
+use Rattle.shop_log.specs.Histories.{Extends}
 use Rattle.shop_model.specs.declared.page.Page.{Page}
-use Rattle.shop_model.specs.declared.refusal.Refusal.TheVariants.{RowsKeptChanging}
 use Rattle.shop_model.specs.declared.requests.Request.{Request}
 use Rattle.shop_model.specs.declared.tables.Tables.{Tables}
-use Rattle.shop_model.specs.Refusals.{page_of}
 use Rattle.shop_model.specs.Show.{show}
-use Rattle.shop_history.specs.Logs.{tables}
+use Rattle.shop_history.specs.declared.acts.Act.{Act}
+use Rattle.shop_history.specs.declared.acts.Entry.{Entry}
+use Rattle.shop_history.specs.Acts.{act_of, check, ChangesNothing}
+use Rattle.shop_history.specs.Logs.{tables, page_at}
 use Rattle.shop_attempt.specs.declared.attempts.Conflict.{Conflict}
 use Rattle.shop_attempt.specs.Reads.{IsConflict}
 use Rattle.shop_attempt.specs.Seats.{Seat}
+use Rattle.shop_pages.specs.Replies.{reply}
 use Rattle.shop_browse.specs.Footprints.{InFootprint}
 use Rattle.shop_engine.specs.declared.report.Point.{Point}
-use Rattle.shop_engine.specs.declared.report.PointKind.TheVariants.{At, Busy}
-use Rattle.shop_engine.specs.Replies.{reply}
-use Rattle.shop_engine.specs.Rounds.{Place, IsMetAt, moment_of, after_one, draw_of}
+use Rattle.shop_engine.specs.declared.report.PointKind.{PointKind}
+use Rattle.shop_engine.specs.declared.report.PointKind.TheVariants.{Plain, At, Change, Busy, Full}
+use Rattle.shop_engine.specs.Points.{MetAs, IsPointOf}
+use Rattle.shop_engine.specs.Rounds.{Round, Place, PointAs, IsMetAt, moment_of, after_one, draw_of, going_on, reply_as, reply_of, made_as}
 use Rattle.shop_engine.specs.Served.{place_of}
 use Rattle.shop_engine.specs.Steps.{Answered}
-use Rattle.shop_engine.specs.Tries.{IsAt, IsBusy, IsMet}
-use Rattle.shop_engine.specs.Workers.{WorkerState}
+use Rattle.shop_engine.specs.Tries.{Stays, IsMet, reply_of_page}
+use Rattle.shop_engine.specs.Workers.{Caller, Progress, WorkerState}
+use Rattle.shop_engine.proofs.Lasts.{last_entry}
 
 -- a conflict of a seat is one of its place
 met_at : (place : Place) (seat : Seat) (request : Request) (draw : ℕ) → seat.opening ≡ place.opening → seat.caller ≡ place.caller.number
     → (conflict : Conflict) → IsMet seat request draw conflict → IsMetAt place seat.seen request draw conflict
 met_at place seat request draw opening number conflict met = record {
   conflicts = subst (λ t. IsConflict t seat.seen place.caller.number conflict) opening (subst (λ n. IsConflict seat.opening seat.seen n conflict) number met.conflicts);
-  footprint = subst (λ t. InFootprint (tables t seat.seen) request draw conflict.key) opening met.footprint;
+  footprint = subst (λ t. InFootprint t seat.seen request draw conflict.key) opening met.footprint;
 }
 
-module _ {St : Type 0} (seat_of : St → Seat) (worker inside : WorkerState St) (seat' : Seat) (clock clock' held held' : Option (List ℕ)) (request : Request) (points points' : List Point) (page : Page) (reading moment call draw : ℕ)
-    (accepted : inside ≡ record { store = worker.store; caller = worker.caller; progress = after_one worker.progress reading })
-    (call_is : call ≡ count_up worker.progress.accepted) (moment_is : moment ≡ moment_of worker.progress.last reading) (draw_is : draw ≡ draw_of worker.caller (count_up worker.progress.accepted))
-    (told : Tells clock clock' reading) (written : Appends held held' (reply page false)) where
-  same : seat_of inside.store ≡ seat_of worker.store
-  same = ap (λ (w : WorkerState St). seat_of w.store) accepted
+module _ (caller : Caller) (old new : Seat) (request : Request) (reading : ℕ) (point : Point) (bytes : List ℕ) (number : old.caller ≡ caller.number) where
+  -- the round of the point
+  abbrev round_of : Round
+  round_of = record { request = request; reading = reading; point = point; seen = new.seen }
 
-  pub answered_at : (front tries : ℕ) → IsAt (seat_of inside.store) seat' request moment draw page front tries
-      → points' ≡ points ++ record { kind = At; front = front; moment = moment; call = call; draw = draw; tries = tries } ∷ []
-      → Answered worker.caller worker.progress inside.progress (seat_of worker.store) seat' clock clock' held held' request points points'
-  answered_at front tries at point =
-      let shown : page ≡ show (tables (seat_of inside.store).opening seat'.seen) request draw = at.page_is ∙ ap (λ (t : Tables). show (tables t seat'.seen) request draw) at.stays.follows.opening in
-      rw (← same) (record {
-        round = record { request = request; reading = reading; point = record { kind = At; front = front; moment = moment; call = call; draw = draw; tries = tries }; seen = seat'.seen };
-        asks = refl;
-        told = told;
-        is = record {
-          call = call_is;
-          moment = moment_is;
-          draw = draw_is;
-          grows = at.stays.follows.grows;
-          kind = record { front = at.front_is; some = at.some; few = at.few; alone = at.alone };
-        };
-        seen = refl;
-        written = subst (λ shows. Appends held held' (reply shows false)) shown written;
-        point = point;
-        progress = ap (λ (w : WorkerState St). w.progress) accepted;
-        stays = at.stays;
-      })
+  stays_as : (kind : PointKind) → MetAs old new request point bytes kind → Stays old new (made_as new.seen point.front kind) point.tries point.moment
+  stays_as At met = met.1.stays
+  stays_as Change met =
+      subst (λ entries. Stays old new entries point.tries point.moment)
+      (sym (last_entry new.seen met.1.changed.before met.1.entry point.front met.1.changed.seen met.1.changed.front_is)) met.1.stays
+  stays_as (Busy conflicts) met = subst (λ n. Stays old new [] n point.moment) (sym met.tries_are) met.busy.stays
+  stays_as Full met = met.full.stays
+  stays_as Plain met = absurd met
 
-  pub answered_busy : (conflicts : List Conflict) → (seat_of inside.store).caller ≡ inside.caller.number → page ≡ page_of RowsKeptChanging → IsBusy (seat_of inside.store) seat' request moment draw conflicts
-      → points' ≡ points ++ record { kind = Busy conflicts; front = 0; moment = moment; call = call; draw = draw; tries = 8 } ∷ []
-      → Answered worker.caller worker.progress inside.progress (seat_of worker.store) seat' clock clock' held held' request points points'
-  answered_busy conflicts posted shown busy point =
-      let number = busy.stays.follows.caller ∙ posted ∙ ap (λ (w : WorkerState St). w.caller.number) accepted in
-      rw (← same) (record {
-        round = record { request = request; reading = reading; point = record { kind = Busy conflicts; front = 0; moment = moment; call = call; draw = draw; tries = 8 }; seen = seat'.seen };
-        asks = refl;
-        told = told;
-        is = record {
-          call = call_is;
-          moment = moment_is;
-          draw = draw_is;
-          grows = busy.stays.follows.grows;
-          kind = record {
-            front = refl;
-            tries = refl;
-            eight = busy.eight;
-            each = All-weaker _ _ (met_at (place_of worker.caller (seat_of inside.store)) seat' request draw busy.stays.follows.opening number) conflicts busy.met.each;
-            rise = busy.met.rise;
-            on = busy.met.on;
-            others = busy.others;
+  -- what the place's opening tables are, and its caller
+  shown_there : (t : Tables) → new.opening ≡ t → ChangesNothing (tables new.opening new.seen) (act_of request point.draw) → ChangesNothing (tables t new.seen) (act_of request point.draw)
+  shown_there t opening alone = subst (λ u. ChangesNothing (tables u new.seen) (act_of request point.draw)) opening alone
+
+  point_as : (kind : PointKind) → new.opening ≡ old.opening → new.limit ≡ old.limit → new.caller ≡ old.caller → MetAs old new request point bytes kind
+      → PointAs (place_of caller old) old.seen round_of kind
+  point_as At opening limit same met = record { front = met.1.shown.front_is; alone = shown_there old.opening opening met.1.shown.alone; tries = met.0 }
+  point_as Change opening limit same met = record {
+    before = met.1.changed.before;
+    entry = met.1.entry;
+    grows = met.1.changed.grows;
+    seen = met.1.changed.seen;
+    front = met.1.changed.front_is;
+    caller = met.1.changed.caller ∙ same ∙ number;
+    does = met.1.changed.does;
+    stamp = met.1.changed.stamp;
+    tries = met.0;
+  }
+  point_as (Busy conflicts) opening limit same met = record {
+    front = met.front_is;
+    tries = met.tries_are;
+    eight = met.busy.eight;
+    each = All-weaker _ _ (met_at (place_of caller old) new request point.draw opening (same ∙ number)) conflicts met.busy.met.each;
+    rise = met.busy.met.rise;
+    on = met.busy.met.on;
+    others = met.busy.others;
+  }
+  point_as Full opening limit same met = record {
+    front = met.full.full.front_is;
+    limit = met.full.full.limit ∙ limit;
+    act = met.full.full.act;
+    does = met.full.full.does;
+    passes = ap (λ u. check (tables u new.seen) met.full.full.act) (sym opening) ∙ met.full.full.passes;
+    tries = met.tries;
+  }
+  point_as Plain opening limit same met = absurd met
+
+  reply_is : (kind : PointKind) → new.opening ≡ old.opening → MetAs old new request point bytes kind → bytes ≡ reply_as old.opening round_of kind
+  reply_is At opening met = met.1.shown.bytes_are ∙ ap (λ (t : Tables). reply (show (tables t new.seen) request point.draw) going_on) opening
+  reply_is Change opening met = met.1.changed.bytes_are ∙ ap (λ (t : Tables). reply_of_page (page_at t new.seen point.front) going_on) opening
+  reply_is (Busy conflicts) opening met = met.bytes_are
+  reply_is Full opening met = met.bytes_are
+  reply_is Plain opening met = absurd met
+
+  -- a request was answered by the point and these bytes
+  pub answered : (before after : Progress) (clock clock' held held' : Option (List ℕ)) (points points' : List Point) (whole : Type 0)
+      → after ≡ after_one before reading → Tells clock clock' reading → IsPointOf (moment_of before.last reading) (count_up before.accepted) (draw_of caller (count_up before.accepted)) point
+      → MetAs old new request point bytes point.kind → points' ≡ points ++ point ∷ [] → (whole → Appends held held' bytes)
+      → (round : Round) × Answered caller before after old new clock clock' request points points' round × (whole → Appends held held' (reply_of old.opening round))
+  answered before after clock clock' held held' points points' whole progress told is met pushed written =
+      let stays = stays_as point.kind met in
+      let follows = stays.follows in (
+        round_of,
+        record {
+          asks = refl;
+          told = told;
+          is = record {
+            call = is.call_is;
+            moment = is.moment_is;
+            draw = is.draw_is;
+            grows = follows.grows;
+            kind = point_as point.kind follows.opening follows.limit follows.caller met;
           };
-        };
-        seen = refl;
-        written = subst (λ shows. Appends held held' (reply shows false)) shown written;
-        point = point;
-        progress = ap (λ (w : WorkerState St). w.progress) accepted;
-        stays = busy.stays;
-      })
+          seen = refl;
+          point = pushed;
+          progress = progress;
+          stays = stays;
+        },
+        λ all. subst (λ b. Appends held held' b) (reply_is point.kind follows.opening met) (written all),
+      )
+
+-- the same where the call was counted first, in a worker that keeps its store
+pub answered_here : {St : Type 0} (seat_of : St → Seat) (worker inside : WorkerState St) (new : Seat) (clock clock' held held' : Option (List ℕ)) (request : Request) (points points' : List Point) (point : Point) (bytes : List ℕ) (reading moment call draw : ℕ) (whole : Type 0)
+    → inside ≡ record { store = worker.store; caller = worker.caller; progress = after_one worker.progress reading } → (seat_of inside.store).caller ≡ inside.caller.number → Tells clock clock' reading
+    → moment ≡ moment_of worker.progress.last reading → call ≡ count_up worker.progress.accepted → draw ≡ draw_of worker.caller (count_up worker.progress.accepted) → IsPointOf moment call draw point
+    → MetAs (seat_of inside.store) new request point bytes point.kind → points' ≡ points ++ point ∷ [] → (whole → Appends held held' bytes)
+    → (round : Round) × Answered worker.caller worker.progress inside.progress (seat_of worker.store) new clock clock' request points points' round × (whole → Appends held held' (reply_of (seat_of worker.store).opening round))
+answered_here {St} seat_of worker inside new clock clock' held held' request points points' point bytes reading moment call draw whole accepted number told moment_is call_is draw_is is met pushed written =
+    let same : seat_of inside.store ≡ seat_of worker.store = ap (λ (w : WorkerState St). seat_of w.store) accepted in
+    subst
+    (λ (seat : Seat). (round : Round) × Answered worker.caller worker.progress inside.progress seat new clock clock' request points points' round × (whole → Appends held held' (reply_of seat.opening round)))
+    same
+    (answered worker.caller (seat_of inside.store) new request reading point bytes (number ∙ ap (λ (w : WorkerState St). w.caller.number) accepted) worker.progress inside.progress clock clock' held held' points points' whole
+    (ap (λ (w : WorkerState St). w.progress) accepted) told
+    (record { moment_is = is.moment_is ∙ moment_is; call_is = is.call_is ∙ call_is; draw_is = is.draw_is ∙ draw_is }) met pushed written)

@@ -5,7 +5,7 @@ use Rattle.std.proofs.lemmas.List.{take-append-le}
 use Rattle.std.proofs.lemmas.List.Elements.{All-nil, All-head, All-tail, All-push, All-weaker}
 use Rattle.shop_log.specs.Histories as histories
 use Rattle.shop_log.specs.Histories.{Extends, ChangedAt, row_after}
-use Rattle.shop_log.proofs.Extending.{extends_length}
+use Rattle.shop_log.proofs.Extending.{extends_length, extends_trans}
 use Rattle.shop_log.proofs.Shortest.{still_from}
 use Rattle.shop_model.specs.declared.requests.Request.{Request}
 use Rattle.shop_model.specs.declared.tables.Tables.{Tables}
@@ -16,9 +16,14 @@ use Rattle.shop_history.proofs.Rows.{tells_rows}
 use Rattle.shop_attempt.specs.declared.attempts.Conflict.{Conflict}
 use Rattle.shop_attempt.specs.Reads.{IsConflict}
 use Rattle.shop_attempt.specs.Seats.{Seat, Follows}
-use Rattle.shop_engine.specs.Tries.{Stays, StaysWithin, IsConflictOf, IsAgain, Rise, ReadsOn, IsMet, AreMet}
-use Rattle.shop_engine.proofs.Staying.{stays_trans}
-use Rattle.shop_engine.proofs.Trying.{footprint_later}
+use Rattle.shop_pages.specs.declared.reply.Form.{Form}
+use Rattle.shop_engine.specs.declared.tries.Outcome.{Outcome}
+use Rattle.shop_engine.specs.declared.tries.Outcome.TheVariants as outcome
+use Rattle.shop_engine.specs.declared.tries.Tried.{Tried}
+use Rattle.shop_engine.specs.declared.tries.Tried.TheVariants as tried
+use Rattle.shop_engine.specs.Tries.{Stays, StaysWithin, IsConflictOf, IsAgain, Rise, ReadsOn, IsMet, AreMet, IsTry, IsChanged, TriedAs, OutcomeAs}
+use Rattle.shop_engine.proofs.Staying.{stays_trans, within_trans, within_of, still_told, stamp_from}
+use Rattle.shop_engine.proofs.Footprints.{footprint_later}
 
 -- an entry that changed a row is no later than the row's version, and changed it in a longer log too
 
@@ -103,7 +108,7 @@ are_met_more start old new request draw conflicts conflict follows were is = rec
 
 -- what the loop over the tries keeps: each met a conflict, and none was made where the caller is the only one
 pub record MetSoFar (start now : Seat) (request : Request) (moment draw : ℕ) (conflicts : List Conflict) (tried : ℕ) : Type 0 where
-  pub stays : Stays start now tried moment
+  pub stays : Stays start now [] tried moment
   pub count : length conflicts ≡ tried
   pub met : AreMet start now request draw conflicts
   pub alone : IsSome start.latest → tried ≡ 0
@@ -111,21 +116,64 @@ pub record MetSoFar (start now : Seat) (request : Request) (moment draw : ℕ) (
 pub met_more : (start old new : Seat) (request : Request) (moment draw : ℕ) (conflicts longer : List Conflict) (tried : ℕ) (conflict : Conflict) → longer ≡ conflicts ++ conflict ∷ []
     → MetSoFar start old request moment draw conflicts tried → IsAgain old new request moment draw conflict → MetSoFar start new request moment draw longer (tried + 1)
 met_more start old new request moment draw conflicts longer tried conflict is so_far again = record {
-  stays = stays_trans start old new tried 1 moment so_far.stays again.stays;
+  stays = stays_trans start old new [] [] tried 1 moment so_far.stays again.stays;
   count = ap length is ∙ length-append conflicts (conflict ∷ []) ∙ ap (λ n. n + 1) so_far.count;
   met = subst (AreMet start new request draw) (sym is) (are_met_more start old new request draw conflicts conflict again.stays.follows so_far.met again.conflict_is);
-  alone = λ told. absurd (again.others (so_far.stays.told told));
+  alone = λ told. absurd (again.others (still_told start.latest old.latest moment so_far.stays.stamp told));
 }
 
-pub within_later : (start old new : Seat) (request : Request) (moment draw : ℕ) (conflicts : List Conflict) (tried : ℕ) → tried < 8
-    → MetSoFar start old request moment draw conflicts tried → StaysWithin old new 1 moment → StaysWithin start new 8 moment
-within_later start old new request moment draw conflicts tried few so_far more = record {
-  made = tried + more.made;
-  few = omega (arith, few, more.few);
-  stays = stays_trans start old new tried more.made moment so_far.stays more.stays;
+-- the last try
+
+tried_within : (start old new : Seat) (request : Request) (moment draw : ℕ) (conflicts : List Conflict) (count : ℕ) → count < 8
+    → MetSoFar start old request moment draw conflicts count → StaysWithin old new [] 1 moment → StaysWithin start new [] 8 moment
+tried_within start old new request moment draw conflicts count few so_far more =
+    within_trans start old new [] [] count 1 8 moment so_far.stays more (omega (arith, few))
+
+try_is : (start old : Seat) (request : Request) (moment draw : ℕ) (conflicts : List Conflict) (count : ℕ) → count < 8
+    → MetSoFar start old request moment draw conflicts count → IsTry start.latest (count + 1)
+try_is start old request moment draw conflicts count few so_far =
+    record { some = omega arith; few = omega (arith, few); alone = λ told. ap (λ n. n + 1) (so_far.alone told) }
+
+changed_from : (start old new : Seat) (request : Request) (moment draw : ℕ) (form : Form) (front : ℕ) (entry : Entry) (bytes : List ℕ) (count : ℕ)
+    → Stays start old [] count moment → IsChanged old new request moment draw form front entry bytes → IsChanged start new request moment draw form front entry bytes
+changed_from start old new request moment draw form front entry bytes count stays changed = record {
+  before = changed.before;
+  grows = extends_trans start.seen old.seen changed.before stays.follows.grows changed.grows;
+  seen = changed.seen;
+  front_is = changed.front_is;
+  caller = changed.caller;
+  does = changed.does;
+  stamp = stamp_from start.latest old.latest moment moment entry.stamp stays.stamp (omega arith) changed.stamp;
+  bytes_are = changed.bytes_are;
 }
 
-pub within_more : (start old new : Seat) (request : Request) (moment draw : ℕ) (conflicts : List Conflict) (tried : ℕ) (conflict : Conflict) → tried < 8
-    → MetSoFar start old request moment draw conflicts tried → IsAgain old new request moment draw conflict → StaysWithin start new 8 moment
-within_more start old new request moment draw conflicts tried conflict few so_far again =
-    within_later start old new request moment draw conflicts tried few so_far (record { made = 1; few = omega arith; stays = again.stays })
+-- what so many tries come to
+abbrev pub outcome_of : Tried → ℕ → Outcome
+outcome_of (tried.Shown front) tries = outcome.Shown front tries
+outcome_of (tried.Changed front) tries = outcome.Changed front tries
+outcome_of (tried.Full front) tries = outcome.Full front tries
+outcome_of (tried.Again conflict) tries = outcome.Memory
+outcome_of tried.Memory tries = outcome.Memory
+
+pub outcome_is : (start old new : Seat) (request : Request) (moment draw : ℕ) (form : Form) (bytes : List ℕ) (conflicts : List Conflict) (count : ℕ) (result : Tried) → count < 8
+    → MetSoFar start old request moment draw conflicts count → TriedAs old new request moment draw form bytes result → OutcomeAs start new request moment draw form bytes (outcome_of result (count + 1))
+outcome_is start old new request moment draw form bytes conflicts count (tried.Shown front) few so_far last = (
+  try_is start old request moment draw conflicts count few so_far,
+  record { stays = stays_trans start old new [] [] count 1 moment so_far.stays last.stays; shown = last.shown },
+)
+outcome_is start old new request moment draw form bytes conflicts count (tried.Changed front) few so_far last = (
+  try_is start old request moment draw conflicts count few so_far,
+  record {
+    entry = last.entry;
+    stays = stays_trans start old new [] (last.entry ∷ []) count 1 moment so_far.stays last.stays;
+    changed = changed_from start old new request moment draw form front last.entry bytes count so_far.stays last.changed;
+  },
+)
+outcome_is start old new request moment draw form bytes conflicts count (tried.Full front) few so_far last = (
+  try_is start old request moment draw conflicts count few so_far,
+  record { stays = stays_trans start old new [] [] count 1 moment so_far.stays last.stays; full = last.full },
+)
+outcome_is start old new request moment draw form bytes conflicts count (tried.Again conflict) few so_far last =
+    tried_within start old new request moment draw conflicts count few so_far (within_of old new [] 1 1 moment last.stays (omega arith))
+outcome_is start old new request moment draw form bytes conflicts count tried.Memory few so_far last =
+    tried_within start old new request moment draw conflicts count few so_far last

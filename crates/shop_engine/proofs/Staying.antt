@@ -1,31 +1,90 @@
--- What settles that change nothing of the caller's do together.
-use Rattle.std.proofs.Common.{ℕ, ◌+◌, ◌≤◌, min, refl, ◌∙◌, arith}
+-- What settles leave of a caller's entries, its counts and its latest stamp, one after another.
+use Rattle.std.proofs.Common.{◌≡◌, ℕ, ◌+◌, ◌≤◌, min, max, List, [], ◌++◌, Some, None, IsSome, refl, sym, ◌∙◌, ap, subst, arith, append_assoc, append-nil}
+use Rattle.std.specs.declared.option.Option.{Option}
 use Rattle.shop_log.proofs.Extending.{extends_self}
-use Rattle.shop_attempt.specs.Seats.{Seat, last_count}
+use Rattle.shop_history.specs.declared.acts.Entry.{Entry}
+use Rattle.shop_history.specs.Logs.{entries_of}
+use Rattle.shop_attempt.specs.Seats.{Seat, Looked, last_count}
+use Rattle.shop_attempt.specs.Settles.{raised}
 use Rattle.shop_attempt.proofs.Looks.{follows_trans}
-use Rattle.shop_engine.specs.Tries.{RoseBy, Stays, StaysWithin}
+use Rattle.shop_engine.specs.Tries.{RoseBy, StampRose, IsStampOf, Stays, StaysWithin}
+
+-- latest stamps
+
+stamp_same : (latest : Option ℕ) (moment : ℕ) → StampRose latest latest moment
+stamp_same None moment = tt
+stamp_same (Some stamp) moment = (stamp, refl, omega arith, omega arith)
+
+pub stamp_kept : (old new : Option ℕ) (moment : ℕ) → new ≡ old → StampRose old new moment
+stamp_kept old new moment kept = subst (λ o. StampRose old o moment) (sym kept) (stamp_same old moment)
+
+raised_rose : (latest : Option ℕ) (moment : ℕ) → StampRose latest (raised latest moment) moment
+raised_rose None moment = tt
+raised_rose (Some stamp) moment = (max stamp moment, refl, omega arith, omega arith)
+
+pub stamp_raised : (old new : Option ℕ) (moment : ℕ) → new ≡ raised old moment → StampRose old new moment
+stamp_raised old new moment rose = subst (λ o. StampRose old o moment) (sym rose) (raised_rose old moment)
+
+stamp_later : (old new : Option ℕ) (moment later : ℕ) → moment ≤ later → StampRose old new moment → StampRose old new later
+stamp_later None new moment later more rose = tt
+stamp_later (Some stamp) new moment later more rose = (rose.0, rose.1, rose.2, omega (arith, rose.3, more))
+
+stamp_trans : (a b c : Option ℕ) (moment : ℕ) → StampRose a b moment → StampRose b c moment → StampRose a c moment
+stamp_trans None b c moment first second = tt
+stamp_trans (Some stamp) b c moment first second =
+    let then : StampRose (Some first.0) c moment = subst (λ o. StampRose o c moment) first.1 second in
+    (then.0, then.1, omega (arith, first.2, then.2), omega (arith, first.3, then.3))
+
+pub still_told : (old new : Option ℕ) (moment : ℕ) → StampRose old new moment → IsSome old → IsSome new
+still_told None new moment rose told = absurd cc
+still_told (Some stamp) new moment rose told = subst IsSome (sym rose.1) refl
+
+-- the stamp of a change, by the latest one some settles before, at moments up to its own
+pub stamp_from : (first later : Option ℕ) (last moment stamp : ℕ) → StampRose first later last → last ≤ moment → IsStampOf later moment stamp → IsStampOf first moment stamp
+stamp_from None later last moment stamp rose le is = record { later = is.later; exact = λ told same. absurd cc }
+stamp_from (Some before) later last moment stamp rose le is = record {
+  later = is.later;
+  exact = λ told same.
+      let here : before ≡ told = same_stamp before told same in
+      omega (arith, is.exact rose.0 rose.1, rose.2, rose.3, le, here);
+}
+  where
+    same_stamp : (one other : ℕ) → Some one ≡ Some other → one ≡ other
+    same_stamp one other is = cc
 
 -- no settle at all
-pub stays_same : (seat : Seat) (moment : ℕ) → Stays seat seat 0 moment
+pub stays_same : (seat : Seat) (moment : ℕ) → Stays seat seat [] 0 moment
 stays_same seat moment = record {
   follows = record { shop = refl; opening = refl; limit = refl; caller = refl; grows = extends_self seat.seen; calls = omega arith };
-  mine = refl;
-  own = refl;
+  mine = sym (append-nil (entries_of seat.caller seat.seen));
+  own = sym (append-nil seat.own);
   settled = record { rose = omega arith; kept = omega arith; most = omega arith };
   greatest = omega arith;
-  told = λ some. some;
-  alone = λ _. refl;
+  stamp = stamp_same seat.latest moment;
+  alone = λ _. sym (append-nil seat.seen);
+}
+
+-- reads alone
+pub stays_looked : (old new : Seat) (moment : ℕ) → Looked old new → Stays old new [] 0 moment
+stays_looked old new moment looked = record {
+  follows = looked.follows;
+  mine = looked.mine ∙ sym (append-nil (entries_of old.caller old.seen));
+  own = looked.own ∙ sym (append-nil old.own);
+  settled = record { rose = omega (arith, looked.settles); kept = omega (arith, looked.settles); most = omega (arith, looked.settles) };
+  greatest = omega (arith, looked.greatest);
+  stamp = stamp_kept old.latest new.latest moment looked.latest;
+  alone = λ told. looked.alone told ∙ sym (append-nil old.seen);
 }
 
 -- at moments up to a later one
-pub stays_later : (old new : Seat) (settles moment later : ℕ) → Stays old new settles moment → moment ≤ later → Stays old new settles later
-stays_later old new settles moment later stays more = record {
+pub stays_later : (old new : Seat) (entries : List Entry) (settles moment later : ℕ) → Stays old new entries settles moment → moment ≤ later → Stays old new entries settles later
+stays_later old new entries settles moment later stays more = record {
   follows = stays.follows;
   mine = stays.mine;
   own = stays.own;
   settled = stays.settled;
   greatest = omega (arith, stays.greatest, more);
-  told = stays.told;
+  stamp = stamp_later old.latest new.latest moment later more stays.stamp;
   alone = stays.alone;
 }
 
@@ -41,24 +100,35 @@ rose_both one more before middle now first second = record {
   most = omega (arith, first.most, second.most);
 }
 
-pub stays_trans : (a b c : Seat) (one more moment : ℕ) → Stays a b one moment → Stays b c more moment → Stays a c (one + more) moment
-stays_trans a b c one more moment p q = record {
+-- what was added in turn
+added : (a b c one more : List Entry) → b ≡ a ++ one → c ≡ b ++ more → c ≡ a ++ (one ++ more)
+added a b c one more first second = second ∙ ap (λ (l : List Entry). l ++ more) first ∙ append_assoc a one more
+
+pub stays_trans : (a b c : Seat) (entries others : List Entry) (one more moment : ℕ) → Stays a b entries one moment → Stays b c others more moment → Stays a c (entries ++ others) (one + more) moment
+stays_trans a b c entries others one more moment p q = record {
   follows = follows_trans a b c p.follows q.follows;
-  mine = q.mine ∙ p.mine;
-  own = q.own ∙ p.own;
+  mine = added (entries_of a.caller a.seen) (entries_of b.caller b.seen) (entries_of c.caller c.seen) entries others p.mine q.mine;
+  own = added a.own b.own c.own entries others p.own q.own;
   settled = rose_both one more a.settles b.settles c.settles p.settled q.settled;
   greatest = omega (arith, p.greatest, q.greatest);
-  told = λ is. q.told (p.told is);
-  alone = λ is. q.alone (p.told is) ∙ p.alone is;
+  stamp = stamp_trans a.latest b.latest c.latest moment p.stamp q.stamp;
+  alone = λ told. added a.seen b.seen c.seen entries others (p.alone told) (q.alone (still_told a.latest b.latest moment p.stamp told));
 }
 
 -- some settles, and no more than so many after them
-pub within_trans : (a b c : Seat) (one more most moment : ℕ) → Stays a b one moment → StaysWithin b c more moment → one + more ≤ most → StaysWithin a c most moment
-within_trans a b c one more most moment p q few = record {
+pub within_trans : (a b c : Seat) (entries others : List Entry) (one more most moment : ℕ) → Stays a b entries one moment → StaysWithin b c others more moment → one + more ≤ most → StaysWithin a c (entries ++ others) most moment
+within_trans a b c entries others one more most moment p q few = record {
   made = one + q.made;
   few = omega (arith, q.few, few);
-  stays = stays_trans a b c one q.made moment p q.stays;
+  stays = stays_trans a b c entries others one q.made moment p q.stays;
 }
 
-pub within_of : (old new : Seat) (settles most moment : ℕ) → Stays old new settles moment → settles ≤ most → StaysWithin old new most moment
-within_of old new settles most moment stays few = record { made = settles; few = few; stays = stays }
+pub within_of : (old new : Seat) (entries : List Entry) (settles most moment : ℕ) → Stays old new entries settles moment → settles ≤ most → StaysWithin old new entries most moment
+within_of old new entries settles most moment stays few = record { made = settles; few = few; stays = stays }
+
+pub within_later : (old new : Seat) (entries : List Entry) (most moment later : ℕ) → StaysWithin old new entries most moment → moment ≤ later → StaysWithin old new entries most later
+within_later old new entries most moment later within more = record {
+  made = within.made;
+  few = within.few;
+  stays = stays_later old new entries within.made moment later within.stays more;
+}

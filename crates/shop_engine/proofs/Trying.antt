@@ -1,120 +1,245 @@
 -- One try: what its settle shows.
-use Rattle.std.proofs.Common.{◌≡◌, ◌≢◌, ℕ, ◌≤◌, max, List, [], ◌∷◌, length, Option, Some, None, IsSome, refl, sym, ◌∙◌, ap, subst, arith}
+use Rattle.std.proofs.Common.{◌≡◌, ◌≢◌, ℕ, ◌+◌, ◌-◌, ◌%◌, ◌<◌, ◌≤◌, min, max, Bool, true, false, cond, eqb, List, [], ◌∷◌, ◌++◌, length, take, Option, Some, None, IsSome, is_some, slice_get, refl, sym, ◌∙◌, ap, subst, arith, ⊎_elim, inl, inr, ◌⊎◌, append-nil, length-append}
+use Rattle.std.proofs.lemmas.Bool.{eq-eqb, cond-true, cases_lt}
+use Rattle.std.proofs.lemmas.List.{take-append-le, take_all}
+use Rattle.std.proofs.lemmas.List.Elements.{filter-append}
+use Rattle.shop_log.specs.Histories.{Extends}
+use Rattle.shop_log.proofs.Extending.{extends_trans}
+use Rattle.shop_log.proofs.Legality.{legal_shorter, legal_last}
 use Rattle.shop_model.specs.declared.page.Page.{Page}
 use Rattle.shop_model.specs.declared.requests.Request.{Request}
-use Rattle.shop_model.specs.declared.requests.Request.TheVariants.{Home, NewProducts, BestSellers, ProductDetail, SearchRequest, SearchResults}
+use Rattle.shop_model.specs.declared.requests.Request.TheVariants.{Home, NewProducts, BestSellers, ProductDetail, SearchRequest, SearchResults, CartRequest}
 use Rattle.shop_model.specs.declared.tables.Tables.{Tables}
-use Rattle.shop_model.specs.Rows.{CartRow}
+use Rattle.shop_model.specs.CartAsked.{CartAsked}
+use Rattle.shop_model.specs.Limits.{stamp_limit}
+use Rattle.shop_model.specs.Lookups.{row_numbered}
 use Rattle.shop_model.specs.Show.{show}
+use Rattle.shop_model.specs.Sound.{Has}
 use Rattle.shop_history.specs.declared.acts.Act.{Act}
 use Rattle.shop_history.specs.declared.acts.Drawn.{Drawn}
 use Rattle.shop_history.specs.declared.acts.Entry.{Entry}
+use Rattle.shop_history.specs.declared.acts.Ids.{Ids}
 use Rattle.shop_history.specs.declared.drafts.Draft.{Draft}
-use Rattle.shop_history.specs.declared.drafts.Draft.TheVariants.{Fixed, Waiting}
-use Rattle.shop_history.specs.declared.drafts.Waiting as drafts
+use Rattle.shop_history.specs.declared.drafts.Draft.TheVariants.{Fixed}
 use Rattle.shop_history.specs.declared.keys.Key.{Key}
-use Rattle.shop_history.specs.Acts.{with_carts}
-use Rattle.shop_history.specs.Logs.{tables, version_of, entries_of}
-use Rattle.shop_history.proofs.Carts.{only_carts}
+use Rattle.shop_history.specs.declared.keys.Key.TheVariants as keys
+use Rattle.shop_history.specs.Acts.{act_of, check, play, ChangesNothing}
+use Rattle.shop_history.specs.Drafts.{filled}
+use Rattle.shop_history.specs.Logs.{tables, version_of, entries_of, page_at, Legal, MayFollow}
 use Rattle.shop_attempt.specs.declared.attempts.Attempt.{Attempt}
 use Rattle.shop_attempt.specs.declared.attempts.Conflict.{Conflict}
 use Rattle.shop_attempt.specs.declared.attempts.ReadOf.{ReadOf}
 use Rattle.shop_attempt.specs.declared.attempts.Settle.{Settle}
 use Rattle.shop_attempt.specs.declared.attempts.Settle.TheVariants as settle
-use Rattle.shop_attempt.specs.Faithful.{Faithful}
+use Rattle.shop_attempt.specs.declared.attempts.Write.{Write}
+use Rattle.shop_attempt.specs.Faithful.{Faithful, MakesAct}
 use Rattle.shop_attempt.specs.Reads.{Agrees, AreTrue, AreReadSince, first_stale}
 use Rattle.shop_attempt.specs.Seats.{Seat, IsSeat, Follows, Looked, RoseOnce}
-use Rattle.shop_attempt.specs.Settles.{Found, Confirmed, DoneAs, SettledAs}
+use Rattle.shop_attempt.specs.Settles.{Found, Refused, Accepted, Confirmed, Added, DoneAs, SettledAs, raised}
 use Rattle.shop_attempt.proofs.Hinge.{true_longer_all, agrees_now, conflict_with, first_stale_some}
 use Rattle.shop_attempt.proofs.Looks.{conflict_of, follows_trans}
-use Rattle.shop_browse.specs.Attempts.{IsReadFor, AreReadFor, IsAttempt, IsReady, IsContradiction}
-use Rattle.shop_browse.specs.Footprints.{InFootprint}
-use Rattle.shop_engine.specs.Tries.{Stays, IsDone, IsAgain}
+use Rattle.shop_pages.specs.declared.reply.Form.{Form}
+use Rattle.shop_pages.specs.Replies.{reply}
+use Rattle.shop_browse.specs.Attempts.{IsReadFor, AreReadFor, IsAttempt, IsDraftOf, IsReady, IsContradiction, Becomes}
+use Rattle.shop_browse.specs.Footprints.{IsAmong, WasOnCart, IsCartItem, drawn_item, IsAbout, InFootprint, IsLabel}
+use Rattle.shop_browse.proofs.Items.{same_size}
+use Rattle.shop_engine.specs.Tries.{Stays, StaysWithin, ShowsBy, ChangesBy, FullBy, IsAgain, StampRose, reply_of_page}
+use Rattle.shop_engine.proofs.Footprints.{footprint_later}
+use Rattle.shop_engine.proofs.Lasts.{last_place}
+use Rattle.shop_engine.proofs.Staying.{stamp_kept, stamp_raised, stays_looked, within_of}
 
--- an attempt and a settle that changed nothing leave the caller's entries
+-- an attempt and its settle, behind whose log found these entries of the caller stand
 
-stays_once : (start old new : Seat) (moment : ℕ) → Looked start old → Follows old new → RoseOnce old.settles new.settles → Found old new.seen
-    → new.own ≡ old.own → new.greatest ≤ max old.greatest moment → (IsSome old.latest → IsSome new.latest) → Stays start new 1 moment
-stays_once start old new moment looked follows rose found own greatest told = record {
+entries_none : (caller : ℕ) → entries_of caller [] ≡ []
+entries_none caller = refl
+
+entries_one : (caller : ℕ) (entry : Entry) → entry.caller ≡ caller → entries_of caller (entry ∷ []) ≡ entry ∷ []
+entries_one caller entry same = cond-true (eqb entry.caller caller) (entry ∷ []) [] (eq-eqb entry.caller caller same)
+
+stays_found : (start old new : Seat) (found entries : List Entry) (moment : ℕ) → Looked start old → Follows old new → RoseOnce old.settles new.settles → Found old found
+    → new.seen ≡ found ++ entries → entries_of old.caller entries ≡ entries → new.own ≡ old.own ++ entries → new.greatest ≤ max old.greatest moment → StampRose old.latest new.latest moment
+    → Stays start new entries 1 moment
+stays_found start old new found entries moment looked follows rose is_found seen own_are own greatest stamp = record {
   follows = follows_trans start old new looked.follows follows;
-  mine = ap (λ c. entries_of c new.seen) follows.caller ∙ found.mine ∙ looked.mine;
-  own = own ∙ looked.own;
+  mine =
+      ap (λ c. entries_of c new.seen) follows.caller
+      ∙ ap (entries_of old.caller) seen
+      ∙ filter-append (λ (e : Entry). eqb e.caller old.caller) found entries
+      ∙ ap (λ (l : List Entry). l ++ entries_of old.caller entries) (is_found.mine ∙ looked.mine)
+      ∙ ap (λ (l : List Entry). entries_of start.caller start.seen ++ l) own_are;
+  own = own ∙ ap (λ (l : List Entry). l ++ entries) looked.own;
   settled = record {
     rose = omega (arith, rose.rose, looked.settles);
     kept = omega (arith, rose.kept, looked.settles);
     most = omega (arith, rose.once, looked.settles);
   };
   greatest = omega (arith, greatest, looked.greatest);
-  told = λ is. told (subst IsSome (sym looked.latest) is);
-  alone = λ is. found.alone (subst IsSome (sym looked.latest) is) ∙ looked.alone is;
+  stamp = subst (λ o. StampRose o new.latest moment) looked.latest stamp;
+  alone = λ told.
+      seen ∙ ap (λ (l : List Entry). l ++ entries) (is_found.alone (subst IsSome (sym looked.latest) told) ∙ looked.alone told);
 }
 
--- where no read is stale, the tables after the log seen agree with the reads
-agrees_found : (old new : Seat) (attempt : Attempt) → Follows old new → IsSeat new → Faithful old.opening old.seen attempt → first_stale new.opening new.seen attempt.reads ≡ None
-    → Agrees old.opening (tables new.opening new.seen) attempt.reads
-agrees_found old new attempt follows seat faithful fresh =
+-- a refusal
+stays_refused : (start old new : Seat) (moment : ℕ) → Looked start old → Follows old new → RoseOnce old.settles new.settles → Refused old new → Stays start new [] 1 moment
+stays_refused start old new moment looked follows rose refused =
+    stays_found start old new new.seen [] moment looked follows rose refused.found (sym (append-nil new.seen)) (entries_none old.caller) (refused.own ∙ sym (append-nil old.own))
+    (omega (arith, refused.greatest)) (stamp_kept old.latest new.latest moment refused.latest)
+
+-- where no read is stale in the log found, the tables after it agree with the reads
+
+agrees_found : (old new : Seat) (found : List Entry) (attempt : Attempt) → Follows old new → IsSeat new → Extends old.seen found → Extends found new.seen → Faithful old.opening old.seen attempt
+    → first_stale new.opening found attempt.reads ≡ None → Agrees old.opening (tables new.opening found) attempt.reads
+agrees_found old new found attempt follows seat grows begins faithful fresh =
     let were : AreTrue new.opening old.seen attempt.reads = subst (λ t. AreTrue t old.seen attempt.reads) (sym follows.opening) faithful.reads_are in
-    subst (λ t. Agrees t (tables new.opening new.seen) attempt.reads) follows.opening
-    (agrees_now new.opening new.limit new.seen attempt.reads seat.good seat.legal seat.short
-    (true_longer_all new.opening old.seen new.seen attempt.reads follows.grows were) fresh)
+    let legal : Legal new.opening found = legal_shorter (MayFollow new.opening) found new.seen begins seat.legal in
+    let short : length found ≤ new.limit = omega (arith, seat.short, ap length begins.is, length-append found begins.rest) in
+    subst (λ t. Agrees t (tables new.opening found) attempt.reads) follows.opening
+    (agrees_now new.opening new.limit found attempt.reads seat.good legal short
+    (true_longer_all new.opening old.seen found attempt.reads grows were) fresh)
 
--- a settle without act that was done was confirmed
-confirmed : (old new : Seat) (attempt : Attempt) (drawn : Drawn) → attempt.act ≡ None → DoneAs old new attempt attempt.act drawn → Confirmed old new attempt drawn
-confirmed old new attempt drawn reading done = subst (λ o. DoneAs old new attempt o drawn) reading done
+whole : (log : List Entry) → Extends log log
+whole log = record { rest = []; is = sym (append-nil log) }
 
--- so the draft is what the request shows in the tables seen
-draft_is : (start old new : Seat) (request : Request) (moment draw : ℕ) (attempt : Attempt) (draft : Draft) (drawn : Drawn) → Follows old new → IsSeat new
-    → IsReady start old request moment draw attempt draft → DoneAs old new attempt attempt.act drawn → draft ≡ Fixed (show (tables new.opening new.seen) request draw)
-draft_is start old new request moment draw attempt draft drawn follows seat ready done =
-    let was = confirmed old new attempt drawn ready.attempts.reading done in
-    ready.page (tables new.opening new.seen) (agrees_found old new attempt follows seat ready.attempts.faithful was.accepted.fresh)
+-- what an act decides
 
--- and it waits for nothing
-pub never_waits : (start old new : Seat) (request : Request) (moment draw : ℕ) (attempt : Attempt) (draft : Draft) (drawn : Drawn) (waiting : drafts.Waiting) → Follows old new → IsSeat new
-    → IsReady start old request moment draw attempt draft → DoneAs old new attempt attempt.act drawn → draft ≡ Waiting waiting → ⊥
-never_waits start old new request moment draw attempt draft drawn waiting follows seat ready done is =
-    waits (show (tables new.opening new.seen) request draw) (sym (draft_is start old new request moment draw attempt draft drawn follows seat ready done) ∙ is)
-  where
-    waits : (page : Page) → Fixed page ≡ Waiting waiting → ⊥
-    waits page same = cc
+no_act : (act : Option Act) → is_some act ≡ false → act ≡ None
+no_act None is = refl
+no_act (Some act) is = absurd cc
 
-pub done_is : (start old new : Seat) (request : Request) (moment draw : ℕ) (attempt : Attempt) (draft : Draft) (drawn : Drawn) (page : Page) → Looked start old → Follows old new → IsSeat new
-    → RoseOnce old.settles new.settles → IsReady start old request moment draw attempt draft → DoneAs old new attempt attempt.act drawn → draft ≡ Fixed page → IsDone start new request moment draw page drawn.front
-done_is start old new request moment draw attempt draft drawn page looked follows seat rose ready done is =
-    let was = confirmed old new attempt drawn ready.attempts.reading done in
+some_act : (act : Option Act) → is_some act ≡ true → (does : Act) × (act ≡ Some does)
+some_act None is = absurd cc
+some_act (Some act) is = (act, refl)
+
+IsSome-act : (act : Option Act) → IsSome act → (does : Act) × (act ≡ Some does)
+IsSome-act None is = absurd cc
+IsSome-act (Some act) is = (act, refl)
+
+fixed_is : (stamp : ℕ) (ids : Ids) (draft : Draft) (page : Page) → draft ≡ Fixed page → filled stamp ids draft ≡ page
+unfolding filled
+fixed_is stamp ids draft page is = ap (filled stamp ids) is
+
+-- a settle that was done without a change
+
+pub shown_is : (start old new : Seat) (request : Request) (moment draw : ℕ) (attempt : Attempt) (draft : Draft) (drawn : Drawn) (form : Form) (bytes : List ℕ) → Looked start old → Follows old new → IsSeat new
+    → RoseOnce old.settles new.settles → IsReady start old request moment draw attempt draft → DoneAs old new attempt attempt.act drawn → is_some attempt.act ≡ false
+    → bytes ≡ reply (filled drawn.stamp drawn.ids draft) form → ShowsBy 1 start new request moment draw form drawn.front bytes
+shown_is start old new request moment draw attempt draft drawn form bytes looked follows seat rose ready done reads bytes_are =
+    let none : attempt.act ≡ None = no_act attempt.act reads in
+    let was : Confirmed old new attempt drawn = subst (λ o. DoneAs old new attempt o drawn) none done in
+    let t : Tables = tables new.opening new.seen in
+    let drafts : IsDraftOf old.opening request draw attempt.reads draft None = subst (IsDraftOf old.opening request draw attempt.reads draft) none ready.drafts in
+    let shown = drafts t (agrees_found old new new.seen attempt follows seat was.accepted.is_found.grows (whole new.seen) ready.attempts.faithful was.accepted.fresh) in
     record {
-      stays = stays_once start old new moment looked follows rose was.accepted.is_found was.own (omega (arith, was.accepted.greatest, ready.attempts.at))
-          (λ told. subst IsSome (sym (was.accepted.told told)) refl);
-      front_is = was.accepted.front;
-      page_is = same_page page (show (tables new.opening new.seen) request draw) (sym is ∙ draft_is start old new request moment draw attempt draft drawn follows seat ready done);
+      stays =
+          stays_found start old new new.seen [] moment looked follows rose was.accepted.is_found (sym (append-nil new.seen)) (entries_none old.caller) (was.own ∙ sym (append-nil old.own))
+          (omega (arith, was.accepted.greatest, ready.attempts.at))
+          (stamp_raised old.latest new.latest moment (was.accepted.latest ∙ ap (raised old.latest) ready.attempts.at));
+      shown = record {
+        front_is = was.accepted.front;
+        alone = shown.alone;
+        bytes_are = bytes_are ∙ ap (λ (page : Page). reply page form) (fixed_is drawn.stamp drawn.ids draft (show t request draw) shown.page_is);
+      };
     }
+
+-- a settle that was done as a change
+
+-- the page of the last entry
+last_page : (t : Tables) (log : List Entry) (entry : Entry) (number : ℕ) → number ≡ length (log ++ entry ∷ []) → page_at t (log ++ entry ∷ []) number ≡ Some (play (tables t log) entry.stamp entry.act).page
+last_page t log entry number is =
+    let at : number - 1 ≡ length log = omega (arith, is, length-append log (entry ∷ [])) in
+    rw (at, last_place log entry, take-append-le (length log) log (entry ∷ []) (omega arith), take_all (length log) log (omega arith))
+
+exact_stamp : (latest now : Option ℕ) (moment stamp : ℕ) → (IsSome latest → now ≡ Some stamp) → now ≡ raised latest moment → (told : ℕ) → latest ≡ Some told → stamp ≡ max told moment
+exact_stamp latest now moment stamp is rose told same =
+    same_stamp stamp (max told moment) (sym (is (subst IsSome (sym same) refl)) ∙ rose ∙ ap (λ o. raised o moment) same)
   where
-    same_page : (one other : Page) → Fixed one ≡ Fixed other → one ≡ other
-    same_page one other same = cc
+    same_stamp : (one other : ℕ) → Some one ≡ Some other → one ≡ other
+    same_stamp one other is = cc
 
--- what a request may read depends on no cart
+pub changed_is : (start old new : Seat) (request : Request) (moment draw : ℕ) (attempt : Attempt) (draft : Draft) (drawn : Drawn) (form : Form) (bytes : List ℕ) → Looked start old → Follows old new → IsSeat new
+    → RoseOnce old.settles new.settles → IsReady start old request moment draw attempt draft → DoneAs old new attempt attempt.act drawn → is_some attempt.act ≡ true
+    → bytes ≡ reply (filled drawn.stamp drawn.ids draft) form → ChangesBy 1 start new request moment draw form drawn.front bytes
+changed_is start old new request moment draw attempt draft drawn form bytes looked follows seat rose ready done changes bytes_are =
+    let some = some_act attempt.act changes in
+    let act : Act = some.0 in
+    let was : Added old new attempt act drawn = subst (λ o. DoneAs old new attempt o drawn) some.1 done in
+    let accepted : Accepted old new was.before attempt drawn = was.accepted in
+    let begins : Extends was.before new.seen = record { rest = was.entry ∷ []; is = was.seen } in
+    let t : Tables = tables new.opening was.before in
+    let drafts : IsDraftOf old.opening request draw attempt.reads draft (Some act) = subst (IsDraftOf old.opening request draw attempt.reads draft) some.1 ready.drafts in
+    let may : MayFollow new.opening was.before was.entry = legal_last (MayFollow new.opening) was.before was.entry (subst (Legal new.opening) was.seen seat.legal) in
+    let becomes : Becomes (play t was.entry.stamp act) was.entry.stamp draft
+    = drafts.1 t was.entry.stamp (agrees_found old new was.before attempt follows seat accepted.is_found.grows begins ready.attempts.faithful accepted.fresh) may.bound in
+    let filled_is : filled drawn.stamp drawn.ids draft ≡ (play t was.entry.stamp was.entry.act).page
+    = ap (λ s. filled s drawn.ids draft) (sym was.stamp) ∙ ap (λ i. filled was.entry.stamp i draft) was.ids ∙ becomes.page_is ∙ ap (λ a. (play t was.entry.stamp a).page) (sym was.does) in
+    let front : drawn.front ≡ length (was.before ++ was.entry ∷ []) = accepted.front ∙ ap length was.seen in
+    let page : page_at new.opening new.seen drawn.front ≡ Some (play t was.entry.stamp was.entry.act).page
+    = ap (λ (log : List Entry). page_at new.opening log drawn.front) was.seen ∙ last_page new.opening was.before was.entry drawn.front front in
+    let caller : was.entry.caller ≡ old.caller = was.caller ∙ follows.caller in
+    record {
+      entry = was.entry;
+      stays =
+          stays_found start old new was.before (was.entry ∷ []) moment looked follows rose accepted.is_found was.seen (entries_one old.caller was.entry caller) was.own
+          (omega (arith, accepted.greatest, ready.attempts.at))
+          (stamp_raised old.latest new.latest moment (accepted.latest ∙ ap (raised old.latest) ready.attempts.at));
+      changed = record {
+        before = was.before;
+        grows = extends_trans start.seen old.seen was.before looked.follows.grows accepted.is_found.grows;
+        seen = was.seen;
+        front_is = accepted.front;
+        caller = was.caller;
+        does = drafts.0 ∙ ap Some (sym was.does);
+        stamp = record {
+          later = omega (arith, accepted.moment, ready.attempts.at, was.stamp);
+          exact = λ told same.
+              was.stamp
+              ∙ exact_stamp start.latest new.latest moment drawn.stamp (λ is. accepted.told (subst IsSome (sym looked.latest) is))
+              (accepted.latest ∙ ap (raised old.latest) ready.attempts.at ∙ ap (λ o. raised o moment) looked.latest) told same;
+        };
+        bytes_are = bytes_are ∙ ap (λ (shown : Page). reply shown form) filled_is ∙ ap (λ o. reply_of_page o form) (sym page);
+      };
+    }
 
-footprint_carts : (t : Tables) (carts others : List CartRow) (request : Request) (draw : ℕ) (key : Key) → InFootprint (with_carts t carts) request draw key → InFootprint (with_carts t others) request draw key
-footprint_carts t carts others (Home asked) draw key may = may
-footprint_carts t carts others (NewProducts asked) draw key may = may
-footprint_carts t carts others (BestSellers asked) draw key may = may
-footprint_carts t carts others (ProductDetail asked) draw key may = may
-footprint_carts t carts others (SearchRequest asked) draw key may = may
-footprint_carts t carts others (SearchResults asked) draw key may = may
+-- a settle that found the log full
 
-footprint_log : (t : Tables) (log other : List Entry) (request : Request) (draw : ℕ) (key : Key) → InFootprint (tables t log) request draw key → InFootprint (tables t other) request draw key
-footprint_log t log other request draw key may =
-    subst (λ u. InFootprint u request draw key) (sym (only_carts t other))
-    (footprint_carts t (tables t log).carts (tables t other).carts request draw key (subst (λ u. InFootprint u request draw key) (only_carts t log) may))
+passes_there : (opening : Tables) (reads : List ReadOf) (act : Act) (writes : Option (List Write)) (t : Tables) (stamp : ℕ) → MakesAct opening reads (Some act) writes → Agrees opening t reads → stamp ≤ stamp_limit
+    → check t act ≡ None
+passes_there opening reads act None t stamp makes agrees bound = absurd makes
+passes_there opening reads act (Some writes) t stamp makes agrees bound = (makes t stamp agrees bound).passes
 
-pub footprint_later : (old new : Seat) (request : Request) (draw : ℕ) (key : Key) → Follows old new → InFootprint (tables old.opening old.seen) request draw key → InFootprint (tables new.opening new.seen) request draw key
-footprint_later old new request draw key follows may =
-    footprint_log new.opening old.seen new.seen request draw key (subst (λ t. InFootprint (tables t old.seen) request draw key) (sym follows.opening) may)
+pub full_is : (start old new : Seat) (request : Request) (moment draw : ℕ) (attempt : Attempt) (draft : Draft) (size : ℕ) → Looked start old → Follows old new → IsSeat new → RoseOnce old.settles new.settles
+    → IsReady start old request moment draw attempt draft → SettledAs old new attempt (settle.Full size) → FullBy 1 start new request moment draw size
+full_is start old new request moment draw attempt draft size looked follows seat rose ready settled =
+    let some = IsSome-act attempt.act settled.0.changes in
+    let t : Tables = tables new.opening new.seen in
+    let agrees : Agrees old.opening t attempt.reads
+    = agrees_found old new new.seen attempt follows seat settled.0.refused.found.grows (whole new.seen) ready.attempts.faithful settled.0.fresh in
+    let makes : MakesAct old.opening attempt.reads (Some some.0) attempt.writes = subst (λ o. MakesAct old.opening attempt.reads o attempt.writes) some.1 ready.attempts.faithful.makes in
+    let drafts : IsDraftOf old.opening request draw attempt.reads draft (Some some.0) = subst (IsDraftOf old.opening request draw attempt.reads draft) some.1 ready.drafts in
+    record {
+      stays = stays_refused start old new moment looked follows rose settled.0.refused;
+      full = record {
+        front_is = settled.1;
+        limit = settled.2;
+        act = some.0;
+        does = drafts.0;
+        passes = passes_there old.opening attempt.reads some.0 attempt.writes t 0 makes agrees (omega arith);
+      };
+    }
+
+-- memory
+
+pub no_memory : (start old new : Seat) (moment : ℕ) (attempt : Attempt) → Looked start old → Follows old new → RoseOnce old.settles new.settles → SettledAs old new attempt settle.Memory → StaysWithin start new [] 1 moment
+no_memory start old new moment attempt looked follows rose settled =
+    within_of start new [] 1 1 moment (stays_refused start old new moment looked follows rose settled.0.refused) (omega arith)
+
+pub no_room : (start old : Seat) (moment : ℕ) → Looked start old → StaysWithin start old [] 1 moment
+no_room start old moment looked = within_of start old [] 0 1 moment (stays_looked start old moment looked) (omega arith)
 
 -- what is known of a stale read beside the conflict
 
 record IsStaleOf (start new : Seat) (request : Request) (draw : ℕ) (conflict : Conflict) : Type 0 where
-  footprint : InFootprint (tables new.opening new.seen) request draw conflict.key
+  footprint : InFootprint new.opening new.seen request draw conflict.key
   since : conflict.read ≤ length start.seen → version_of new.opening start.seen conflict.key ≡ conflict.read
   others : IsSome start.latest → ⊥
 
@@ -149,26 +274,27 @@ again_is start old new request moment draw attempt conflict looked follows rose 
     let both = conflict_of start old new attempt conflict looked follows (are_since start old request draw attempt.reads made.reads) settled in
     let stale = stale_in start old new request draw attempt.reads conflict looked follows settled.0.found made.reads settled.1 in
     record {
-      stays = stays_once start old new moment looked follows rose settled.0.found settled.0.own (omega (arith, settled.0.greatest)) (λ told. subst IsSome (sym settled.0.latest) told);
+      stays = stays_refused start old new moment looked follows rose settled.0;
       conflict_is = record { conflicts = both.0; footprint = stale.footprint; above = both.1; since = stale.since };
       others = stale.others;
     }
 
 -- an attempt that no tables agree with is stale
 
-never_fresh : (start old new : Seat) (request : Request) (moment draw : ℕ) (attempt : Attempt) → Follows old new → IsSeat new → IsContradiction start old request moment draw attempt
+never_fresh : (start old new : Seat) (request : Request) (moment draw : ℕ) (attempt : Attempt) → Follows old new → IsSeat new → IsContradiction start old request moment draw attempt → Extends old.seen new.seen
     → first_stale new.opening new.seen attempt.reads ≡ None → ⊥
-never_fresh start old new request moment draw attempt follows seat contradicts fresh =
-    contradicts.never (tables new.opening new.seen) (agrees_found old new attempt follows seat contradicts.attempts.faithful fresh)
+never_fresh start old new request moment draw attempt follows seat contradicts grows fresh =
+    contradicts.never (tables new.opening new.seen) (agrees_found old new new.seen attempt follows seat grows (whole new.seen) contradicts.attempts.faithful fresh)
 
-no_act : (act : Option Act) → act ≡ None → IsSome act → ⊥
-no_act None is some = cc
-no_act (Some act) is some = cc
+not_some : (act : Option Act) → act ≡ None → IsSome act → ⊥
+not_some None is some = cc
+not_some (Some act) is some = cc
 
 pub never_else : (start old new : Seat) (request : Request) (moment draw : ℕ) (attempt : Attempt) (result : Settle) → Follows old new → IsSeat new → IsContradiction start old request moment draw attempt
     → SettledAs old new attempt result → ((conflict : Conflict) → result ≡ settle.Stale conflict → ⊥) → ⊥
 never_else start old new request moment draw attempt (settle.Done drawn) follows seat contradicts settled other =
-    never_fresh start old new request moment draw attempt follows seat contradicts (confirmed old new attempt drawn contradicts.attempts.reading settled).accepted.fresh
+    let was : Confirmed old new attempt drawn = subst (λ o. DoneAs old new attempt o drawn) contradicts.reading settled in
+    never_fresh start old new request moment draw attempt follows seat contradicts was.accepted.is_found.grows was.accepted.fresh
 never_else start old new request moment draw attempt (settle.Stale conflict) follows seat contradicts settled other = other conflict refl
-never_else start old new request moment draw attempt (settle.Full size) follows seat contradicts settled other = no_act attempt.act contradicts.attempts.reading settled.0.changes
-never_else start old new request moment draw attempt settle.Memory follows seat contradicts settled other = no_act attempt.act contradicts.attempts.reading settled.0.changes
+never_else start old new request moment draw attempt (settle.Full size) follows seat contradicts settled other = not_some attempt.act contradicts.reading settled.0.changes
+never_else start old new request moment draw attempt settle.Memory follows seat contradicts settled other = not_some attempt.act contradicts.reading settled.0.changes

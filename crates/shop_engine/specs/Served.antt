@@ -13,7 +13,7 @@ use Rattle.shop_engine.specs.declared.report.Ended.TheVariants as ended
 use Rattle.shop_engine.specs.declared.report.PointKind.TheVariants.{Plain}
 use Rattle.shop_engine.specs.declared.report.Point.{Point}
 use Rattle.shop_engine.specs.Replies.{last_words}
-use Rattle.shop_engine.specs.Rounds.{Round, Place, AreRounds, reply_of, settles_of}
+use Rattle.shop_engine.specs.Rounds.{Round, Place, AreRounds, reply_of, settles_of, changes_of}
 use Rattle.shop_engine.specs.Tries.{Stays}
 use Rattle.shop_engine.specs.Workers.{Caller, Progress}
 
@@ -52,7 +52,7 @@ pub record Streams : Type 0 where
 
 -- whose shop a seat is of
 abbrev pub place_of : Caller → Seat → Place
-place_of caller seat = record { opening = seat.opening; caller = caller; latest = seat.latest }
+place_of caller seat = record { opening = seat.opening; limit = seat.limit; caller = caller; latest = seat.latest }
 
 -- a worker at a seat served a connection until its messages stopped so, and left these points
 pub record Served (caller : Caller) (before after : Progress) (seat seat' : Seat) (old new : Streams) (stop : Stop) (points : List Point) : Type 0 where
@@ -73,5 +73,5 @@ pub record Served (caller : Caller) (before after : Progress) (seat seat' : Seat
   pub all : points ≡ map (λ r. r.point) rounds ++ last_points stop
   -- each message was answered, in order, then a refusal was told, and nothing else was written
   pub written : Appends old.held new.held (flat_map (reply_of seat.opening) rounds ++ last_words stop)
-  -- the caller changed nothing, by the settles of these rounds
-  pub stays : Stays seat seat' (settles_of rounds) after.last
+  -- by the settles of these rounds the caller's entries grew by those of the points that changed rows, in order
+  pub stays : Stays seat seat' (changes_of seat'.seen points) (settles_of rounds) after.last

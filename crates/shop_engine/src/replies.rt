@@ -1,71 +1,48 @@
-ghost use Rattle.std.specs.Prelude.{◌≡◌, ◌++◌, IfOk, OnOk, if◌then◌else◌};
+ghost use Rattle.std.specs.Prelude.{◌≡◌, OnOk};
+ghost use Rattle.shop_model.specs.Refusals.{page_of};
+ghost use Rattle.shop_pages.specs.Replies as replies;
 ghost use Rattle.shop_engine.specs.Replies as spec;
 
-use shop_model::{Page, Refusal, refusal_page};
-use shop_pages::{page_len, push_page};
-use shop_text::{Memory, Text};
+use shop_history::{Draft, Drawn, Ids};
+use shop_model::{Refusal, refusal_page};
+use shop_pages::{Form, Reply};
+use shop_text::Memory;
 use std::alloc::Global;
 
-/// The bytes for which the head of a reply makes room.
-const HEAD_ROOM: usize = 160;
+/// What a settle draws that makes no rows.
+const NOTHING: Drawn = Drawn {
+    front: 0,
+    stamp: 0,
+    ids: Ids {
+        cart: None,
+        customer: None,
+        address: None,
+        order: None,
+    },
+};
 
-/// Makes the reply around a page, in place of what the text was. A refusal leaves some front of it,
-/// or none.
-pub(crate) fn make_reply(reply: &mut Text, page: &Page, close: bool) -> Result<(), Memory>
-    ensures { OnOk result (reply.new ≡ spec.reply page.now close) }
+/// Makes the reply around the page of a refusal.
+pub(crate) fn refusal_reply(
+    alloc: Global,
+    reply: &mut Reply,
+    refusal: Refusal,
+    form: Form,
+) -> Result<(), Memory>
+    ensures { OnOk result (reply.new.bytes ≡ replies.reply (page_of refusal) form) }
 {
-    reply.clear();
-    let Some(len) = page_len(page) else {
-        return Err(Memory);
-    };
-    reply.reserve(len.saturating_add(HEAD_ROOM))?;
-    push_head(reply, page, len, close)?;
-    push_page(reply, page)
+    let draft = Draft::Fixed(refusal_page(alloc, refusal)?);
+    reply.reserve(&draft)?;
+    reply.finish(&draft, &NOTHING, form);
+    Ok(())
 }
 
-/// Adds the head of a reply around a page of so many bytes.
-#[tactic(auto, unfolding(crate::specs::Replies::reply_head))]
-fn push_head(text: &mut Text, page: &Page, len: usize, close: bool) -> Result<(), Memory>
-    ensures { OnOk result (text.new ≡ text.old ++ spec.reply_head page.now len close) }
-{
-    text.push(b"HTTP/1.1 ")?;
-    text.push_decimal(u64::from(page.status))?;
-    text.push(b" ")?;
-    text.push(phrase_of(page))?;
-    text.push(b"\r\nContent-Type: text/html; charset=utf-8\r\nContent-Length: ")?;
-    text.push_decimal(len as u64)?;
-    text.push(head_end(close))
-}
-
-/// The reason phrase of a page's status.
-fn phrase_of(page: &Page) -> &[u8]
-    ensures { result.now ≡ spec.phrase_of page.now }
-{
-    if page.status == 200 {
-        b"OK"
-    } else {
-        page.title.bytes()
-    }
-}
-
-/// The end of a head, which says whether the connection ends.
-fn head_end(close: bool) -> &'static [u8]
-    ensures { result.now ≡ spec.head_end close }
-{
-    if close {
-        b"\r\nConnection: close\r\n\r\n"
-    } else {
-        b"\r\n\r\n"
-    }
-}
-
-/// The page of a message that is refused.
-pub(crate) fn refused_page(alloc: Global, status: u16) -> Result<Page, Memory>
-    ensures { IfOk result (λ page. page ≡ spec.refused_page status) }
+/// Why a message is refused whose head ends with this status.
+pub(crate) fn refused(status: u16) -> Refusal
+    ensures { result ≡ spec.refusal_of status }
 {
     if status == 400 {
-        refusal_page(alloc, Refusal::BadRequest)
+        Refusal::BadRequest
     } else {
-        refusal_page(alloc, Refusal::NotServedYet)
+        Refusal::NotServedYet
     }
 }

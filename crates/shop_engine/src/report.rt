@@ -8,8 +8,12 @@ pub enum PointKind {
     Plain,
     /// The tables.
     At,
+    /// A change that it made, whose number is the front.
+    Change,
     /// Rows kept changing: what each of the tries met.
     Busy(Listed<Conflict>),
+    /// The log, which has as many changes as it may have: the front.
+    Full,
 }
 
 /// What an answer stands on.

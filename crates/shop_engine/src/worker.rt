@@ -4,14 +4,12 @@ ghost use Rattle.shop_engine.specs.Workers.{IsPosted, at_first};
 
 use shop_attempt::Store;
 use shop_model::Scale;
+use shop_pages::Reply;
 use shop_search::Index;
-use shop_text::{Memory, Text};
+use shop_text::Memory;
 use std::alloc::Global;
 use std::marker::Model;
 use std::sync::Arc;
-
-/// The bytes for which a worker makes room at first: those of most replies.
-const REPLY_ROOM: usize = 2_048;
 
 /// Serves the requests of one caller from its seat at a shop, over one connection after another.
 #[derive(Drop)]
@@ -24,7 +22,7 @@ pub struct Worker<St: Store> {
     pub(crate) accepted: u64,
     pub(crate) last: u64,
     /// The reply that is being made. Its room serves one request after another.
-    pub(crate) reply: Text,
+    pub(crate) reply: Reply,
 }
 
 impl<St: Store> Model for Worker<St> {
@@ -62,7 +60,7 @@ impl<St: Store> Worker<St> {
         }) }
     {
         Ok(Worker {
-            reply: Text::with_capacity(alloc, REPLY_ROOM)?,
+            reply: Reply::new(alloc)?,
             store,
             index,
             caller,

@@ -9,7 +9,7 @@ invariant-loop-request g l =
     (record { left = g.S.Source.left l.fn.source; held = g.K.Sink.held l.fn.sink; clock = g.C.Clock.readings l.fn.clock })
     (record { left = g.S.Source.left l.source; held = g.K.Sink.held l.sink; clock = g.C.Clock.readings l.clock })
     (g.S.Source.faults l.fn.source) (g.S.Source.faults l.source) (g.K.Sink.faults l.fn.sink) (g.K.Sink.faults l.sink)
-    l.buffer l.points
+    l.buffer l.points.items
     × StillMarked (g.St.Store.marked l.fn.worker.store) (g.St.Store.marked l.worker.store)
 
 abbrev pub decreases-loop-request : goal.decreases-loop-request

@@ -1,24 +1,39 @@
-use Rattle.shop_engine.proofs.Trying.{never_waits, never_else, done_is, again_is}
+use Rattle.shop_engine.proofs.Trying.{shown_is, changed_is, full_is, again_is, no_memory, no_room, never_else}
+use Rattle.std.proofs.Common.{sym, ◌∙◌}
 use Rattle.shop_engine.proofs.tries.try_once.Goals as goal
 
 pub unreachable-requires : goal.unreachable-requires
 unreachable-requires g c =
-    never_waits _ _ _ _ _ _ _ _ _ _ c.settle.ensures.follows c.settle.ensures.valid c.in-Ready.ensures.attempted c.in-Done.ensures.settled c.in-Waiting.is
-
-pub unreachable-requires-in_default : goal.unreachable-requires-in_default
-unreachable-requires-in_default g c =
     let settled = c.settle-in-Contradiction.ensures in
-    never_else _ _ _ _ _ _ _ _ settled.follows settled.valid c.in-Contradiction.ensures.attempted settled.settled c.in_default.not-Stale
+    never_else _ _ _ _ _ _ _ _ settled.follows settled.valid c.in-Contradiction.ensures.attempted settled.settled c.in_default-settle.not-Stale
 
-pub returns-in-Fixed-clause-tried : goal.returns-in-Fixed-clause-tried
-returns-in-Fixed-clause-tried g c =
+pub returns-in_default-clause-tried : goal.returns-in_default-clause-tried
+returns-in_default-clause-tried g c = no_room _ _ _ c.attempt.ensures.looked
+
+pub returns-then-changes-clause-tried : goal.returns-then-changes-clause-tried
+returns-then-changes-clause-tried g c =
     let settled = c.settle.ensures in
-    done_is _ _ _ _ _ _ _ _ _ _ c.attempt.ensures.looked settled.follows settled.valid settled.settles c.in-Ready.ensures.attempted c.in-Done.ensures.settled c.in-Fixed.is
+    changed_is _ _ _ _ _ _ _ _ _ _ _ c.attempt.ensures.looked settled.follows settled.valid settled.settles c.in-Ready.ensures.attempted c.in-Done.ensures.settled (sym c.if-changes.ensures) c.finish.ensures
+
+pub returns-in-Done-clause-tried : goal.returns-in-Done-clause-tried
+returns-in-Done-clause-tried g c =
+    let settled = c.settle.ensures in
+    shown_is _ _ _ _ _ _ _ _ _ _ _ c.attempt.ensures.looked settled.follows settled.valid settled.settles c.in-Ready.ensures.attempted c.in-Done.ensures.settled (sym c.is_some-changes.ensures ∙ c.if-changes.false) c.finish.ensures
 
 pub returns-in-Stale-clause-tried : goal.returns-in-Stale-clause-tried
 returns-in-Stale-clause-tried g c =
     let settled = c.settle.ensures in
     again_is _ _ _ _ _ _ _ _ c.attempt.ensures.looked settled.follows settled.settles c.in-Ready.ensures.attempted.attempts c.in-Stale.ensures.settled
+
+pub returns-in-Full-clause-tried : goal.returns-in-Full-clause-tried
+returns-in-Full-clause-tried g c =
+    let settled = c.settle.ensures in
+    full_is _ _ _ _ _ _ _ _ _ c.attempt.ensures.looked settled.follows settled.valid settled.settles c.in-Ready.ensures.attempted c.in-Full.ensures.settled
+
+pub returns-in-Ready-clause-tried : goal.returns-in-Ready-clause-tried
+returns-in-Ready-clause-tried g c =
+    let settled = c.settle.ensures in
+    no_memory _ _ _ _ _ c.attempt.ensures.looked settled.follows settled.settles c.in-Memory-settle.ensures.settled
 
 pub returns-in-Stale-settle-clause-tried : goal.returns-in-Stale-settle-clause-tried
 returns-in-Stale-settle-clause-tried g c =

@@ -1,0 +1,71 @@
+-- What a request may read, it may read after a longer log.
+use Rattle.std.proofs.Common.{◌≡◌, ℕ, ◌+◌, ◌%◌, ◌<◌, ◌≤◌, List, length, take, Some, sym, ◌∙◌, ap, subst, arith, ⊎_elim, inl, inr, ◌⊎◌}
+use Rattle.std.proofs.lemmas.Bool.{cases_lt}
+use Rattle.std.proofs.lemmas.List.{take-append-le, take_all}
+use Rattle.shop_log.specs.Histories.{Extends}
+use Rattle.shop_model.specs.declared.requests.Request.{Request}
+use Rattle.shop_model.specs.declared.requests.Request.TheVariants.{Home, NewProducts, BestSellers, ProductDetail, SearchRequest, SearchResults, CartRequest}
+use Rattle.shop_model.specs.declared.tables.Tables.{Tables}
+use Rattle.shop_model.specs.CartAsked.{CartAsked}
+use Rattle.shop_model.specs.Lookups.{row_numbered}
+use Rattle.shop_model.specs.Sound.{Has}
+use Rattle.shop_history.specs.declared.acts.Entry.{Entry}
+use Rattle.shop_history.specs.declared.keys.Key.{Key}
+use Rattle.shop_history.specs.declared.keys.Key.TheVariants as keys
+use Rattle.shop_history.specs.Logs.{tables}
+use Rattle.shop_attempt.specs.Seats.{Seat, Follows}
+use Rattle.shop_browse.specs.Footprints.{IsAmong, WasOnCart, IsCartItem, drawn_item, IsAbout, InFootprint, IsLabel}
+use Rattle.shop_browse.proofs.Items.{same_size}
+
+drawn_later : (t : Tables) (log longer : List Entry) (draw : ℕ) → drawn_item (tables t log) draw ≡ drawn_item (tables t longer) draw
+drawn_later t log longer draw = ap (λ n. 1 + draw % n) (same_size t log ∙ sym (same_size t longer))
+
+-- a beginning of a log is one of a longer log
+front_later : (log longer : List Entry) (front : ℕ) → Extends log longer → (more : ℕ) × (take more longer ≡ take front log)
+front_later log longer front extends = ⊎_elim
+    (λ (behind : length log < front).
+    (length log, ap (take (length log)) extends.is ∙ take-append-le (length log) log extends.rest (omega arith) ∙ take_all (length log) log (omega arith) ∙ sym (take_all front log (omega (arith, behind)))))
+    (λ (within : front ≤ length log). (front, ap (take front) extends.is ∙ take-append-le front log extends.rest within))
+    (cases_lt (length log) front)
+
+on_cart_later : (t : Tables) (log longer : List Entry) (cart item : ℕ) → Extends log longer → WasOnCart t log cart item → WasOnCart t longer cart item
+on_cart_later t log longer cart item extends was =
+    let same = front_later log longer was.front extends in
+    record {
+      front = same.0;
+      row = was.row;
+      there = ap (λ (l : List Entry). row_numbered (tables t l).carts cart) same.1 ∙ was.there;
+      line = was.line;
+    }
+
+cart_item_later : (t : Tables) (log longer : List Entry) (asked : CartAsked) (draw item : ℕ) → Extends log longer → IsCartItem t log asked draw item → IsCartItem t longer asked draw item
+cart_item_later t log longer asked draw item extends may = ⊎_elim
+    (λ (named : (asked.item ≡ Some item) ⊎ IsAmong item asked.sets). inl named)
+    (λ (other : ((cart : ℕ) × (asked.ids.cart ≡ Some cart) × WasOnCart t log cart item) ⊎ (item ≡ drawn_item (tables t log) draw)). ⊎_elim
+    (λ (on : (cart : ℕ) × (asked.ids.cart ≡ Some cart) × WasOnCart t log cart item). inr (inl (on.0, on.1, on_cart_later t log longer on.0 item extends on.2)))
+    (λ (is : item ≡ drawn_item (tables t log) draw). inr (inr (is ∙ drawn_later t log longer draw)))
+    other)
+    may
+
+about_later : (t : Tables) (log longer : List Entry) (request : Request) (draw : ℕ) (key : Key) → Extends log longer → IsAbout t log request draw key → IsAbout t longer request draw key
+about_later t log longer (Home asked) draw key extends may =
+    subst (λ n. ((c : ℕ) × (asked.ids.c ≡ Some c) × (key ≡ keys.Customer c)) ⊎ (key ≡ keys.Item n)) (drawn_later t log longer draw) may
+about_later t log longer (NewProducts asked) draw key extends may = may
+about_later t log longer (BestSellers asked) draw key extends may = may
+about_later t log longer (ProductDetail asked) draw key extends may = may
+about_later t log longer (SearchRequest asked) draw key extends may = subst (λ n. key ≡ keys.Item n) (drawn_later t log longer draw) may
+about_later t log longer (SearchResults asked) draw key extends may = may
+about_later t log longer (CartRequest asked) draw key extends may = ⊎_elim
+    (λ (cart : (id : ℕ) × (asked.ids.cart ≡ Some id) × (key ≡ keys.Cart id)). inl cart)
+    (λ (item : (id : ℕ) × IsCartItem t log asked draw id × (key ≡ keys.Item id)). inr (item.0, cart_item_later t log longer asked draw item.0 extends item.1, item.2))
+    may
+
+footprint_longer : (t : Tables) (log longer : List Entry) (request : Request) (draw : ℕ) (key : Key) → Extends log longer → InFootprint t log request draw key → InFootprint t longer request draw key
+footprint_longer t log longer request draw key extends may = ⊎_elim
+    (λ (about : IsAbout t log request draw key). inl (about_later t log longer request draw key extends about))
+    (λ (label : IsLabel (tables t log) key). inr (label.0, subst (λ n. Has n label.0) (same_size t log ∙ sym (same_size t longer)) label.1, label.2))
+    may
+
+pub footprint_later : (old new : Seat) (request : Request) (draw : ℕ) (key : Key) → Follows old new → InFootprint old.opening old.seen request draw key → InFootprint new.opening new.seen request draw key
+footprint_later old new request draw key follows may =
+    footprint_longer new.opening old.seen new.seen request draw key follows.grows (subst (λ t. InFootprint t old.seen request draw key) (sym follows.opening) may)
