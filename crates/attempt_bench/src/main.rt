@@ -9,10 +9,10 @@ mod runs;
 
 use runs::{Shop, run};
 use shop_model::{
-    BestSellers, Home, IdsAsked, NewProducts, ProductDetail, Request, Scale, SearchKind,
-    SearchRequest, SearchResults, Subject,
+    BestSellers, CartRequest, Home, IdsAsked, NewProducts, ProductDetail, Request, Scale,
+    SearchKind, SearchRequest, SearchResults, Subject,
 };
-use shop_text::{Memory, Text};
+use shop_text::{Listed, Memory, Text};
 use std::alloc::Global;
 use std::env::{self, Env};
 use std::io;
@@ -26,7 +26,8 @@ struct Asked {
     scale: Scale,
 }
 
-/// The request of an interaction: item 1, subject NON-FICTION, a word of titles.
+/// The request of an interaction: item 1, which goes into a new cart, subject NON-FICTION, a word of
+/// titles.
 fn request_named(alloc: Global, name: &[u8]) -> Result<Option<Request>, Memory> {
     let ids = IdsAsked {
         c: None,
@@ -47,6 +48,13 @@ fn request_named(alloc: Global, name: &[u8]) -> Result<Option<Request>, Memory> 
         let kind = SearchKind::Title;
         let text = Text::copy(alloc, b"HARBOUR")?;
         Ok(Some(Request::SearchResults(SearchResults { kind, text, ids })))
+    } else if name == b"shopping_cart".as_slice() {
+        let sets = Listed::new(alloc);
+        Ok(Some(Request::CartRequest(CartRequest {
+            item: Some(1),
+            sets,
+            ids,
+        })))
     } else {
         Ok(None)
     }

@@ -6,8 +6,9 @@ ghost use Rattle.shop_book.specs.Solos.{seat_of};
 
 use shop_attempt::{Settle, Store};
 use shop_book::{Book, Solo};
-use shop_browse::{Ask, Attempted, attempt};
+use shop_browse::{Ask, Attempted};
 use shop_model::{Request, Scale};
+use shop_order::attempt;
 use shop_populate::populate;
 use shop_search::Index;
 use shop_text::Memory;

@@ -181,7 +181,8 @@ fn targets_are_refused(rt: HostRuntime) -> Result<(), Fail> {
         ("/home?c=00000000010", NOT_SERVED),
         ("/HOME", NOT_SERVED),
         ("/home/", NOT_SERVED),
-        ("/shopping_cart", NOT_SERVED),
+        ("/shopping_cart/", NOT_SERVED),
+        ("/shopping_cart?item=", NOT_SERVED),
         ("/product_detail", NOT_SERVED),
         ("/product_detail?item=-1", NOT_SERVED),
     ] {

@@ -4,6 +4,12 @@
 #[cfg(test)]
 mod connections;
 #[cfg(test)]
+mod limits;
+#[cfg(test)]
+mod points;
+#[cfg(test)]
 mod statuses;
 #[cfg(test)]
 mod streams;
+#[cfg(test)]
+mod workers;

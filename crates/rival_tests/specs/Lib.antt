@@ -1,0 +1,4 @@
+pub mod Guests
+pub mod GuestView
+pub mod Rivals
+pub mod RivalledView

@@ -1,0 +1,25 @@
+-- What a seat means over a book that a rival changes too.
+use Rattle.std.specs.Prelude.{◌≡◌, ◌≢◌, ℕ, length, None, IsSome}
+use Rattle.shop_model.specs.Scales.{ScaleRow}
+use Rattle.shop_history.specs.Logs.{entries_of}
+use Rattle.shop_attempt.specs.Seats.{Seat}
+use Rattle.rival_tests.specs.Guests.{GuestValue}
+
+-- the seat of the caller, and how many changes of the rival are to come
+pub record RivalledValue : Type 0 where
+  pub guest : GuestValue
+  pub changes : ℕ
+
+-- caller 1 has the seat, and the scale is that of the opening tables
+pub record IsFitting (guest : GuestValue) (scale : ScaleRow) : Type 0 where
+  pub caller : guest.visitor.caller ≡ 1
+  pub scaled : scale.items ≡ length guest.book.opening.tables.items
+
+-- the same seat, of one caller among others
+abbrev pub among : Seat → Seat
+among seat = record seat { latest = None }
+
+-- where the caller is the only one, the log seen has no more entries of others than before
+abbrev pub LeavesOthers : Seat → Seat → Type 0
+LeavesOthers old new =
+    IsSome old.latest → (caller : ℕ) → caller ≢ old.caller → entries_of caller new.seen ≡ entries_of caller old.seen

@@ -1,0 +1,114 @@
+//! Connections of caller 1 at the desk with seed 0, where caller 2 changes the cart meanwhile.
+use crate::Rivalled;
+use shop_attempt::Conflict;
+use shop_book::Book;
+use shop_edges::{BytesIn, BytesOut, ListClock};
+use shop_engine::{Ended, Point, PointKind, Report, Worker, serve_connection};
+use shop_history::Key;
+use shop_model::Scale;
+use shop_populate::populate;
+use shop_search::Index;
+use shop_text::{Listed, Text};
+use std::alloc::Global;
+use std::sync::Arc;
+use std::test::Fail;
+
+/// Makes cart 1, and then adds to it twice.
+const INPUT: &[u8] = b"GET /shopping_cart HTTP/1.1\r\nHost: shop\r\n\r\n\
+GET /shopping_cart?cart=1&item=1 HTTP/1.1\r\nHost: shop\r\n\r\n\
+GET /shopping_cart?cart=1&item=1 HTTP/1.1\r\nHost: shop\r\n\r\n";
+
+const BUSY: &[u8] =
+    b"HTTP/1.1 503 Service Unavailable\r\nContent-Type: text/html; charset=utf-8\r\n\
+Content-Length: 106\r\n\r\n\
+<html><head><title>Service Unavailable</title></head><body>
+<p>The rows kept changing.</p>
+</body></html>
+";
+
+/// A worker of caller 1, at whose cart caller 2 makes so many changes.
+fn worker_among(alloc: Global, changes: u32) -> Result<Worker<Rivalled>, Fail> {
+    let scale = Scale::desk();
+    let tables = populate(alloc, 0, &scale)?;
+    let index = Arc::new(alloc, Index::build(alloc, &tables)?)?;
+    let shared = Arc::try_clone(&index).ok().ok_or("no twin")?;
+    let book = Book::open(alloc, tables, 100)?;
+    let store = Rivalled::new(alloc, book, shared, scale, changes);
+    Ok(Worker::new(alloc, store, 1, 0, scale, index)?)
+}
+
+/// What comes of the input while caller 2 makes so many changes.
+fn served(alloc: Global, changes: u32) -> Result<(Report, BytesOut), Fail> {
+    let mut worker = worker_among(alloc, changes)?;
+    let mut source = BytesIn::new(Text::copy(alloc, INPUT)?, 1_000_000, Listed::new(alloc));
+    let mut sink = BytesOut::new(alloc, 1_000_000, Listed::new(alloc));
+    let mut readings = Listed::new(alloc);
+    readings.push(1_000)?;
+    let mut clock = ListClock::new(alloc, readings)?;
+    let report = serve_connection(alloc, &mut worker, &mut source, &mut sink, &mut clock);
+    Ok((report, sink))
+}
+
+/// Whether a point is that of this change, made at this try.
+fn is_change(point: &Point, front: u64, tries: u32) -> bool {
+    matches!(point.kind, PointKind::Change) && (point.front, point.tries) == (front, tries)
+}
+
+/// Whether conflicts are those of cart 1 with one change after another.
+fn are_rising(conflicts: &[Conflict]) -> bool {
+    for (before, conflict) in conflicts.iter().enumerate() {
+        let read = before as u64 + 1;
+        if !matches!(conflict.key, Key::Cart(1))
+            || (conflict.read, conflict.found) != (read, read + 1)
+        {
+            return false;
+        }
+    }
+    true
+}
+
+/// How often these bytes stand in others.
+fn count_of(bytes: &[u8], part: &[u8]) -> usize {
+    bytes
+        .windows(part.len().max(1))
+        .filter(|window| *window == part)
+        .count()
+}
+
+#[test]
+fn eight_changes_of_another_caller_are_too_many(rt: HostRuntime) -> Result<(), Fail> {
+    let alloc = rt.alloc();
+    let (report, sink) = served(alloc, 8)?;
+    assert_eq!(rt; report.end, Ended::Closed);
+    let [first, second, third] = report.points.as_slice() else {
+        return Err("not three points".into());
+    };
+    assert!(rt; is_change(first, 1, 1));
+    let PointKind::Busy(conflicts) = &second.kind else {
+        return Err("not busy".into());
+    };
+    assert_eq!(rt;
+        (second.front, second.tries, conflicts.as_slice().len()),
+        (0, 8, 8)
+    );
+    assert!(rt; are_rising(conflicts.as_slice()));
+    assert!(rt; is_change(third, 10, 1));
+    assert_eq!(rt; count_of(sink.bytes(), BUSY), 1);
+    assert_eq!(rt; count_of(sink.bytes(), b"HTTP/1.1 200 OK"), 2);
+    Ok(())
+}
+
+#[test]
+fn seven_changes_of_another_caller_are_not(rt: HostRuntime) -> Result<(), Fail> {
+    let alloc = rt.alloc();
+    let (report, sink) = served(alloc, 7)?;
+    assert_eq!(rt; report.end, Ended::Closed);
+    let [first, second, third] = report.points.as_slice() else {
+        return Err("not three points".into());
+    };
+    assert!(rt; is_change(first, 1, 1));
+    assert!(rt; is_change(second, 9, 8));
+    assert!(rt; is_change(third, 10, 1));
+    assert_eq!(rt; count_of(sink.bytes(), b"HTTP/1.1 200 OK"), 3);
+    Ok(())
+}
