@@ -4,8 +4,6 @@
 #[cfg(test)]
 mod answers;
 #[cfg(test)]
-mod carts;
-#[cfg(test)]
 mod heads;
 #[cfg(test)]
 mod lists;
