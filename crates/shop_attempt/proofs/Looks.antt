@@ -1,10 +1,10 @@
 -- What calls that settle nothing leave, what their reads say, and the conflict that a stale one makes.
-use Rattle.std.proofs.Common.{◌≡◌, ◌≢◌, ℕ, zero, suc, ◌-◌, ◌<◌, ◌≤◌, eqb, List, [], ◌∷◌, ◌++◌, length, Some, IsSome, slice_get, refl, sym, ◌∙◌, ap, subst, arith, ⊎_elim}
+use Rattle.std.proofs.Common.{◌≡◌, ◌≢◌, ℕ, zero, suc, ◌-◌, ◌<◌, ◌≤◌, eqb, List, [], ◌∷◌, ◌++◌, length, get_or, Some, IsSome, slice_get, refl, sym, ◌∙◌, ap, subst, arith, ⊎_elim}
 use Rattle.std.proofs.lemmas.Bool.{eq-eqb, ne_eqb, cond-true, cond-false, cases_eq, cases_lt}
 use Rattle.std.proofs.lemmas.List.{append_cancel_left, append-nil}
 use Rattle.std.proofs.lemmas.List.Elements.{filter-append}
 use Rattle.shop_log.specs.Histories.{Extends}
-use Rattle.shop_log.proofs.Extending.{extends_self, extends_trans}
+use Rattle.shop_log.proofs.Extending.{extends_self, extends_trans, extends_length}
 use Rattle.shop_log.proofs.Versions.{true_now, true_longer, version_before}
 use Rattle.shop_model.specs.declared.tables.Tables.{Tables}
 use Rattle.shop_history.specs.declared.acts.Entry.{Entry}
@@ -79,6 +79,20 @@ pub all_since_later : (old now later : Seat) (reads : List ReadOf) → Looked no
 all_since_later old now later [] looked are = tt
 all_since_later old now later (read ∷ reads) looked are = (since_later old now later read looked are.0, all_since_later old now later reads looked are.1)
 
+-- a read of a later part of a call is one of the call
+pub since_earlier : (start middle now : Seat) (read : ReadOf) → Looked start middle → Looked middle now → IsReadSince middle now read → IsReadSince start now read
+since_earlier start middle now read first second is = record {
+  holds = is.holds;
+  since = λ early.
+      let at : version_of now.opening middle.seen read.key ≡ read.version = is.since (omega (arith, early, extends_length start.seen middle.seen first.follows.grows)) in
+      version_before history now.opening read.key start.seen middle.seen first.follows.grows (omega (arith, at, early)) ∙ at;
+}
+
+pub all_since_earlier : (start middle now : Seat) (reads : List ReadOf) → Looked start middle → Looked middle now → AreReadSince middle now reads → AreReadSince start now reads
+all_since_earlier start middle now [] first second are = tt
+all_since_earlier start middle now (read ∷ reads) first second are =
+    (since_earlier start middle now read first second are.0, all_since_earlier start middle now reads first second are.1)
+
 pub are_true : (old now : Seat) (reads : List ReadOf) → AreReadSince old now reads → AreTrue now.opening now.seen reads
 are_true old now [] are = tt
 are_true old now (read ∷ reads) are = (are.0.holds, are_true old now reads are.1)
@@ -93,6 +107,12 @@ pub shows_push : (t : Tables) (reads : List ReadOf) (read : ReadOf) → Shows t 
 shows_push t [] read shows = (tt, shows.0)
 shows_push t (first ∷ reads) read shows =
     let behind = shows_push t reads read shows.1 in ((shows.0, behind.0), behind.1)
+
+-- one read of several
+pub shows_at : (t : Tables) (reads : List ReadOf) (i : ℕ) (read : ReadOf) → i < length reads → read ≡ get_or reads i read → Shows t reads → row_of t read.key ≡ read.row
+shows_at t [] i read within at shows = absurd (omega (arith, within))
+shows_at t (first ∷ reads) zero read within at shows = subst (λ (r : ReadOf). row_of t r.key ≡ r.row) (sym at) shows.0
+shows_at t (first ∷ reads) (suc i) read within at shows = let behind : i < length reads = omega (arith, within) in shows_at t reads i read behind at shows.1
 
 -- the same of a read that was noted
 

@@ -1,57 +1,51 @@
 -- From reads and a page to an attempt.
-use Rattle.std.proofs.Common.{◌≡◌, ℕ, List, [], ◌∷◌, Option, Some, None, refl, sym, ◌∙◌, ap, arith, subst}
-use Rattle.shop_log.proofs.Extending.{extends_length}
-use Rattle.shop_log.proofs.Versions.{version_before}
+use Rattle.std.proofs.Common.{◌≡◌, ℕ, List, [], ◌∷◌, ◌++◌, Option, Some, None, refl, sym, ◌∙◌, ap, subst}
 use Rattle.shop_model.specs.declared.page.Page.{Page}
 use Rattle.shop_model.specs.declared.requests.Request.{Request}
 use Rattle.shop_model.specs.declared.tables.Tables.{Tables}
 use Rattle.shop_model.specs.Catalogues.{Catalogue, catalogue}
 use Rattle.shop_history.specs.declared.drafts.Draft.TheVariants.{Fixed}
 use Rattle.shop_history.specs.Acts.{act_of, ChangesNothing}
-use Rattle.shop_history.specs.Logs.{history, version_of}
 use Rattle.shop_attempt.specs.declared.attempts.ReadOf.{ReadOf}
-use Rattle.shop_attempt.specs.Reads.{Agrees, AreTrue, IsReadSince}
-use Rattle.shop_attempt.specs.Seats.{Seat, Looked}
-use Rattle.shop_browse.specs.Attempts.{AreReadFor, Fits, IsPageOf, IsAttempt, AttemptedAs, attempt_of, reading}
+use Rattle.shop_attempt.specs.Reads.{Agrees, AreTrue}
+use Rattle.shop_attempt.specs.Seats.{Seat}
+use Rattle.shop_browse.specs.Attempts.{IsReadFor, AreReadFor, Fits, IsPageOf, IsAttempt, AttemptedAs, attempt_of, reading}
 
 -- tables that agree with reads fit them
 fits : (c : Catalogue) (opening t : Tables) (reads : List ReadOf) → c ≡ catalogue opening → Agrees opening t reads → Fits c t reads
 fits c opening t reads is agrees = record { sound = agrees.sound; named = agrees.catalogue ∙ sym is; shows = agrees.shows }
 
-true_for : (start now : Seat) (request : Request) (draw : ℕ) (reads : List ReadOf) → AreReadFor start now request draw reads → AreTrue now.opening now.seen reads
+pub true_for : (start now : Seat) (request : Request) (draw : ℕ) (reads : List ReadOf) → AreReadFor start now request draw reads → AreTrue now.opening now.seen reads
 true_for start now request draw [] are = tt
 true_for start now request draw (read ∷ reads) are = (are.0.since.holds, true_for start now request draw reads are.1)
 
-attempts : (start now : Seat) (request : Request) (moment draw : ℕ) (reads : List ReadOf) → AreReadFor start now request draw reads → IsAttempt start now request moment draw (reading moment draw reads)
-attempts start now request moment draw reads are = record {
+pub reads_only : (start now : Seat) (request : Request) (moment draw : ℕ) (reads : List ReadOf) → AreReadFor start now request draw reads → IsAttempt start now request moment draw (reading moment draw reads)
+reads_only start now request moment draw reads are = record {
   at = refl;
   drew = refl;
   reads = are;
   faithful = record { reads_are = true_for start now request draw reads are; makes = tt };
 }
 
+-- one read more
+pub for_push : (start now : Seat) (request : Request) (draw : ℕ) (reads : List ReadOf) (read : ReadOf) → AreReadFor start now request draw reads → IsReadFor start now request draw read
+    → AreReadFor start now request draw (reads ++ read ∷ [])
+for_push start now request draw [] read are is = (is, tt)
+for_push start now request draw (first ∷ reads) read are is = (are.0, for_push start now request draw reads read are.1 is)
+
 -- what an attempt with these reads and this page is
 pub attempted_of : (start now : Seat) (request : Request) (moment draw : ℕ) (c : Catalogue) (reads : List ReadOf) (page : Option Page)
     → act_of request draw ≡ None → c ≡ catalogue now.opening → AreReadFor start now request draw reads → IsPageOf c request draw reads page
     → AttemptedAs start now request moment draw (attempt_of reads moment draw page)
 attempted_of start now request moment draw c reads (Some page) nothing is are shows = record {
-  attempts = attempts start now request moment draw reads are;
+  attempts = reads_only start now request moment draw reads are;
   drafts = λ t agrees. record {
     alone = subst (ChangesNothing t) (sym nothing) tt;
     page_is = ap Fixed (shows t (fits c now.opening t reads is agrees));
   };
 }
 attempted_of start now request moment draw c reads None nothing is are never = record {
-  attempts = attempts start now request moment draw reads are;
+  attempts = reads_only start now request moment draw reads are;
   reading = refl;
   never = λ t agrees. never t (fits c now.opening t reads is agrees);
-}
-
--- a read of a later part of a call is one of the call
-pub since_earlier : (start middle now : Seat) (read : ReadOf) → Looked start middle → Looked middle now → IsReadSince middle now read → IsReadSince start now read
-since_earlier start middle now read first second is = record {
-  holds = is.holds;
-  since = λ early.
-      let at : version_of now.opening middle.seen read.key ≡ read.version = is.since (omega (arith, early, extends_length start.seen middle.seen first.follows.grows)) in
-      version_before history now.opening read.key start.seen middle.seen first.follows.grows (omega (arith, at, early)) ∙ at;
 }

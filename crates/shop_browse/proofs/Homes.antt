@@ -1,5 +1,5 @@
 -- Home: for anyone, for a customer, and for none that there is.
-use Rattle.std.proofs.Common.{◌≡◌, ℕ, ◌+◌, ◌%◌, List, [], ◌∷◌, ◌++◌, length, Option, Some, None, refl, sym, ◌∙◌, ap, subst, inl, inr}
+use Rattle.std.proofs.Common.{◌≡◌, ℕ, ◌+◌, ◌%◌, List, [], ◌∷◌, ◌++◌, length, Option, Some, None, refl, sym, ◌∙◌, ap, inl, inr}
 use Rattle.shop_model.specs.declared.page.Page.{Page}
 use Rattle.shop_model.specs.declared.refusal.Refusal.TheVariants.{NoCustomer}
 use Rattle.shop_model.specs.declared.requests.Home as home_asked
@@ -11,22 +11,20 @@ use Rattle.shop_model.specs.Lookups.{row_numbered}
 use Rattle.shop_model.specs.Refusals.{page_of}
 use Rattle.shop_model.specs.Rows.{CustomerRow}
 use Rattle.shop_model.specs.Show.{home, home_page, home_or_refusal}
-use Rattle.shop_history.specs.declared.keys.Key.{Key}
 use Rattle.shop_history.specs.declared.keys.Key.TheVariants as key
 use Rattle.shop_history.specs.declared.keys.Row.{Row}
 use Rattle.shop_history.specs.declared.keys.Row.TheVariants as row
 use Rattle.shop_history.specs.Keys.{row_of, shown}
 use Rattle.shop_attempt.specs.declared.attempts.ReadOf.{ReadOf}
-use Rattle.shop_attempt.specs.Reads.{Shows, IsReadOf}
+use Rattle.shop_attempt.specs.Reads.{IsReadOf}
 use Rattle.shop_attempt.specs.Seats.{Seat, Looked}
-use Rattle.shop_attempt.proofs.Looks.{since_later, looked_self, shows_push}
+use Rattle.shop_attempt.proofs.Looks.{since_earlier, since_later, looked_self, shows_push}
 use Rattle.shop_browse.specs.declared.promotion.Promotion.{Promotion}
 use Rattle.shop_browse.specs.Attempts.{IsReadFor, AreReadFor, IsPageOf}
 use Rattle.shop_browse.specs.Promotions.{IsPromotionOf, promotion_reads, ArePromotionReads, IsShownBy}
-use Rattle.shop_browse.proofs.Attempting.{since_earlier}
 use Rattle.shop_browse.proofs.Labelling.{read_since}
 use Rattle.shop_browse.proofs.Pages.{promotes, page_shown}
-use Rattle.shop_browse.proofs.Promotions.{for_push}
+use Rattle.shop_browse.proofs.Attempting.{for_push}
 
 -- what may be read
 

@@ -1,5 +1,5 @@
 -- Reads of single rows, and what they say of the tables.
-use Rattle.std.proofs.Common.{◌≡◌, ℕ, ◌-◌, ◌≤◌, true, List, length, Option, Some, None, refl, sym, ◌∙◌, ap, subst, inl, inr, arith}
+use Rattle.std.proofs.Common.{◌≡◌, ℕ, ◌-◌, true, List, length, Option, Some, None, refl, sym, ◌∙◌, ap, subst, arith}
 use Rattle.std.proofs.lemmas.Option.{slice_get_within}
 use Rattle.shop_model.specs.declared.page.Page.{Page}
 use Rattle.shop_model.specs.declared.requests.Request.{Request}
@@ -45,7 +45,7 @@ pub item_within : (t : Tables) (id : ℕ) (r : Row) → r ≡ row_of t (key.Item
 item_within t id r is found = found_within t.items id (row_numbered t.items id) refl (subst (λ x. is_item x ≡ true) is found)
 
 -- the label of an item that is there
-same_label : (one other : Label) → row.Label one ≡ row.Label other → one ≡ other
+pub same_label : (one other : Label) → row.Label one ≡ row.Label other → one ≡ other
 same_label one other is = cc
 
 pub label_found : (t : Tables) (o : Option ItemRow) (x : ItemRow) (label : Label) → o ≡ Some x → shown (λ item. row.Label (label_of t item)) o ≡ row.Label label → label ≡ label_of t x

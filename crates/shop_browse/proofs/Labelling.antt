@@ -1,18 +1,37 @@
 -- The labels of items, read one after another.
-use Rattle.std.proofs.Common.{◌≡◌, ℕ, List, [], ◌∷◌, ◌++◌, map, refl, sym, ◌∙◌, ap, subst}
+use Rattle.std.proofs.Common.{◌≡◌, ℕ, List, [], ◌∷◌, ◌++◌, length, map, All, refl, sym, ◌∙◌, ap, subst, inr}
 use Rattle.std.proofs.lemmas.List.{append_assoc, append-nil, map-append}
+use Rattle.std.proofs.lemmas.List.Elements.{All-head, All-tail}
+use Rattle.shop_model.specs.declared.requests.Request.{Request}
+use Rattle.shop_model.specs.Sound.{Has}
 use Rattle.shop_history.specs.declared.keys.Key.{Key}
 use Rattle.shop_history.specs.declared.keys.Key.TheVariants.{Label}
+use Rattle.shop_history.specs.Logs.{tables}
 use Rattle.shop_attempt.specs.declared.attempts.ReadOf.{ReadOf}
-use Rattle.shop_attempt.specs.Reads.{IsReadOf, IsReadSince}
+use Rattle.shop_attempt.specs.Reads.{IsReadOf, IsReadSince, AreReadSince}
 use Rattle.shop_attempt.specs.Seats.{Seat, Looked, IsReadAt}
 use Rattle.shop_attempt.proofs.Looks.{looked_trans, since_now, since_push, all_since_later}
-use Rattle.shop_browse.specs.Attempts.{AddsLabels}
+use Rattle.shop_browse.specs.Attempts.{AddsLabels, AreReadFor}
+use Rattle.shop_browse.specs.Lists.{AreLabels}
 
 -- what was read just now is a read of the call
 pub read_since : (start now : Seat) (key : Key) (read : ReadOf) → Looked start now → IsReadOf now key read → IsReadSince start now read
 read_since start now key read looked is =
     since_now start now read.key read.row read.version looked (subst (λ (k : Key). IsReadAt now k (read.row, read.version)) (sym is.key_is) is.is)
+
+-- labels of items that there are may be read by any request
+pub labels_for : (start now : Seat) (request : Request) (draw : ℕ) (items : List ℕ) (labels : List ReadOf) → All (Has (length (tables now.opening now.seen).items)) items
+    → AreLabels items labels → AreReadSince start now labels → AreReadFor start now request draw labels
+labels_for start now request draw [] [] within are since = tt
+labels_for start now request draw [] (read ∷ labels) within are since = absurd cc
+labels_for start now request draw (item ∷ items) [] within are since = absurd cc
+labels_for start now request draw (item ∷ items) (read ∷ labels) within are since =
+    let has = Has (length (tables now.opening now.seen).items) in
+    let key_is : read.key ≡ Label item = cc in
+    let others : AreLabels items labels = cc in (
+      record { since = since.0; footprint = inr (item, All-head has item items within, key_is) },
+      labels_for start now request draw items labels (All-tail has item items within) others since.1,
+    )
 
 pub no_labels : (seat : Seat) (reads : List ReadOf) → AddsLabels seat seat [] reads reads
 no_labels seat reads = record { labels = []; added = sym (append-nil reads); keys = refl; since = tt }

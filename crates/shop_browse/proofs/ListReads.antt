@@ -1,6 +1,6 @@
 -- From reads of a list and of labels to an attempt.
-use Rattle.std.proofs.Common.{Result, IfOk, ◌≡◌, ℕ, ◌+◌, ◌<◌, List, [], ◌∷◌, ◌++◌, length, All, codes, Option, Some, None, inl, inr, refl, sym, ◌∙◌, ap, subst, arith}
-use Rattle.std.proofs.lemmas.List.{length-map}
+use Rattle.std.proofs.Common.{Result, IfOk, ◌≡◌, ℕ, ◌+◌, ◌<◌, List, [], ◌∷◌, ◌++◌, length, All, codes, Option, Some, None, inl, refl, sym, ◌∙◌, ap, subst, arith}
+use Rattle.std.proofs.lemmas.List.Elements.{All-nil}
 use Rattle.std.proofs.lemmas.Result.{IfOk-weaker}
 use Rattle.shop_model.specs.declared.page.Block.{Block}
 use Rattle.shop_model.specs.declared.page.Block.TheVariants.{Heading, Para}
@@ -13,54 +13,43 @@ use Rattle.shop_model.specs.declared.requests.Request.TheVariants as request
 use Rattle.shop_model.specs.declared.requests.SearchKind.{SearchKind}
 use Rattle.shop_model.specs.declared.requests.SearchResults.{SearchResults}
 use Rattle.shop_model.specs.declared.tables.Tables.{Tables}
-use Rattle.shop_model.specs.Catalogues.{Catalogue, catalogue, naming, found}
+use Rattle.shop_model.specs.Catalogues.{Catalogue, catalogue, found}
 use Rattle.shop_model.specs.Lines.{list_page, new_products, best_sellers, search_results}
 use Rattle.shop_model.specs.Kinds.{kind_name}
 use Rattle.shop_model.specs.Subjects.{subject_name}
 use Rattle.shop_model.specs.Rankings.{newest, best}
 use Rattle.shop_model.specs.Show.{show}
 use Rattle.shop_model.specs.Sound.{Has, Sound}
-use Rattle.shop_model.proofs.Lists.{all_head, all_tail}
-use Rattle.shop_history.specs.declared.acts.Entry.{Entry}
 use Rattle.shop_history.specs.declared.keys.Key.{Key}
 use Rattle.shop_history.specs.declared.keys.Key.TheVariants as key
 use Rattle.shop_history.specs.declared.keys.Row.{Row}
 use Rattle.shop_history.specs.Keys.{row_of}
 use Rattle.shop_history.specs.Logs.{tables}
-use Rattle.shop_history.proofs.Carts.{same_catalogue}
 use Rattle.shop_history.proofs.Goods.{good_log}
 use Rattle.shop_attempt.specs.declared.attempts.ReadOf.{ReadOf}
 use Rattle.shop_attempt.specs.Reads.{IsReadOf, AreReadSince}
 use Rattle.shop_attempt.specs.Seats.{Seat, IsSeat, Looked}
-use Rattle.shop_attempt.proofs.Looks.{since_later, shows_push}
+use Rattle.shop_attempt.proofs.Looks.{since_later, all_since_earlier, shows_push}
 use Rattle.shop_browse.specs.declared.attempted.Attempted.{Attempted}
-use Rattle.shop_browse.specs.Attempts.{AddsLabels, AreReadFor, IsReadFor, IsPageOf, AttemptedAs, attempt_of}
+use Rattle.shop_browse.specs.Attempts.{AddsLabels, AreReadFor, IsPageOf, AttemptedAs, attempt_of}
 use Rattle.shop_browse.specs.Footprints.{IsAbout}
 use Rattle.shop_browse.specs.Lists.{listed, AreLabels, IsListPage, ReadsList, AttemptsList}
-use Rattle.shop_browse.proofs.Attempting.{attempted_of, since_earlier}
-use Rattle.shop_browse.proofs.Labelling.{read_since}
-use Rattle.shop_browse.proofs.Within.{listed_within, found_within, no_ids}
+use Rattle.shop_browse.proofs.Attempting.{attempted_of, for_push}
+use Rattle.shop_browse.proofs.Items.{same_size}
+use Rattle.shop_browse.proofs.Labelling.{read_since, labels_for}
+use Rattle.shop_browse.proofs.Within.{listed_within, found_within}
 
--- a log keeps the number of items, and sound tables
-
-many_items : (t : Tables) (log : List Entry) → length (tables t log).items ≡ length t.items
-many_items t log =
-    sym (length-map (tables t log).items naming) ∙ ap (λ (c : Catalogue). length c.items) (same_catalogue t log) ∙ length-map t.items naming
+-- a log keeps tables sound
 
 seat_sound : (seat : Seat) → IsSeat seat → Sound (tables seat.opening seat.seen)
 seat_sound seat valid = (good_log seat.opening (seat.limit + 1) valid.good seat.seen valid.legal (omega (arith, valid.short))).sound
 
 -- a list was read, then its labels
 
-all_earlier : (start middle now : Seat) (reads : List ReadOf) → Looked start middle → Looked middle now → AreReadSince middle now reads → AreReadSince start now reads
-all_earlier start middle now [] first second are = tt
-all_earlier start middle now (read ∷ reads) first second are =
-    (since_earlier start middle now read first second are.0, all_earlier start middle now reads first second are.1)
-
 ids_within : (middle now : Seat) (key : Key) (list : ReadOf) → IsSeat middle → Looked middle now → IsReadOf middle key list → All (Has (length now.opening.items)) (listed list.row)
 ids_within middle now key list valid looked is =
     let t : Tables = tables middle.opening middle.seen in
-    let many : length t.items ≡ length now.opening.items = many_items middle.opening middle.seen ∙ ap (λ (u : Tables). length u.items) (sym looked.follows.opening) in
+    let many : length t.items ≡ length now.opening.items = same_size middle.opening middle.seen ∙ ap (λ (u : Tables). length u.items) (sym looked.follows.opening) in
     subst (λ (n : ℕ). All (Has n) (listed list.row)) many
     (subst (λ (r : Row). All (Has (length t.items)) (listed r)) (sym is.is.row) (listed_within t key (seat_sound middle valid)))
 
@@ -72,28 +61,15 @@ list_read start middle now key list items before labels first valid is second no
       key_is = is.key_is;
       are = subst (λ (ids : List ℕ). AreLabels ids labels) are (subst (AreLabels items) (sym same) adds.keys);
       list_since = since_later start middle now list second (read_since start middle key list first is);
-      labels_since = subst (AreReadSince start now) (sym same) (all_earlier start middle now adds.labels first second adds.since);
+      labels_since = subst (AreReadSince start now) (sym same) (all_since_earlier start middle now adds.labels first second adds.since);
       within = ids_within middle now key list valid second is;
     }
 
--- these reads are in the footprint
-
-labels_for : (start now : Seat) (request : Request) (draw : ℕ) (items : List ℕ) (labels : List ReadOf) → AreLabels items labels → AreReadSince start now labels
+-- the labels of items that the opening has
+opening_labels : (start now : Seat) (request : Request) (draw : ℕ) (items : List ℕ) (labels : List ReadOf) → AreLabels items labels → AreReadSince start now labels
     → All (Has (length now.opening.items)) items → AreReadFor start now request draw labels
-labels_for start now request draw items [] are since within = tt
-labels_for start now request draw [] (read ∷ labels) are since within = absurd cc
-labels_for start now request draw (item ∷ items) (read ∷ labels) are since within =
-    let has : Has (length now.opening.items) item = all_head (Has (length now.opening.items)) item items within in
-    let here : Has (length (tables now.opening now.seen).items) item = subst (λ (n : ℕ). Has n item) (sym (many_items now.opening now.seen)) has in
-    let behind : All (Has (length now.opening.items)) items = all_tail (Has (length now.opening.items)) item items within in
-    let key_is : read.key ≡ key.Label item = cc in
-    let others : AreLabels items labels = cc in
-    (record { since = since.0; footprint = inr (item, here, key_is) }, labels_for start now request draw items labels others since.1 behind)
-
-for_push : (start now : Seat) (request : Request) (draw : ℕ) (reads : List ReadOf) (read : ReadOf) → AreReadFor start now request draw reads → IsReadFor start now request draw read
-    → AreReadFor start now request draw (reads ++ read ∷ [])
-for_push start now request draw [] read are is = (is, tt)
-for_push start now request draw (first ∷ reads) read are is = (are.0, for_push start now request draw reads read are.1 is)
+opening_labels start now request draw items labels are since within =
+    labels_for start now request draw items labels (subst (λ n. All (Has n) items) (sym (same_size now.opening now.seen)) within) are since
 
 -- the attempt of a list that was read, behind the labels on it
 
@@ -101,7 +77,7 @@ list_for : (start now : Seat) (request : Request) (draw : ℕ) (key : Key) (list
     → IsAbout now.opening now.seen request draw key → AreReadFor start now request draw (labels ++ list ∷ [])
 list_for start now request draw key list labels read about =
     for_push start now request draw labels list
-    (labels_for start now request draw (listed list.row) labels read.are read.labels_since read.within)
+    (opening_labels start now request draw (listed list.row) labels read.are read.labels_since read.within)
     (record {
       since = read.list_since;
       footprint = inl (subst (IsAbout now.opening now.seen request draw) (sym read.key_is) about);
@@ -149,7 +125,7 @@ best_attempted start now asked moment draw head result is =
 -- the attempt of items that a search found
 
 few_within : (seat : Seat) (kind : SearchKind) (text : List ℕ) (items : List ℕ) → items ≡ found (catalogue seat.opening) kind text → (0 < length items → IsSeat seat) → All (Has (length seat.opening.items)) items
-few_within seat kind text [] are valid = no_ids (Has (length seat.opening.items)) [] refl
+few_within seat kind text [] are valid = All-nil (Has (length seat.opening.items))
 few_within seat kind text (item ∷ items) are valid =
     subst (All (Has (length seat.opening.items))) (sym are) (found_within seat.opening kind text (valid (omega arith)).good.sound)
 
@@ -181,5 +157,5 @@ found_attempted start now asked moment draw c items those_items before reads tho
     = few_within now asked.kind asked.text those_items (are ∙ ap (λ (d : Catalogue). found d asked.kind asked.text) today) valid in
     let of_reads : IsListPage asked.ids title head those_items reads page = subst (λ (l : List ReadOf). IsListPage asked.ids title head those_items l page) same is in
     attempted_of start now asks moment draw c reads page refl today
-    (labels_for start now asks draw those_items reads (subst (AreLabels those_items) (sym all) adds.keys) (subst (AreReadSince start now) (sym all) adds.since) within)
+    (opening_labels start now asks draw those_items reads (subst (AreLabels those_items) (sym all) adds.keys) (subst (AreReadSince start now) (sym all) adds.since) within)
     (page_found c asks draw asked.kind asked.text those_items reads asked.ids title head page are of_reads (λ t. search_shows t asked draw head head_is))

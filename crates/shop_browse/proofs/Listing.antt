@@ -1,8 +1,7 @@
 -- The lines of lists, from reads of labels.
-use Rattle.std.proofs.Common.{Bool, Result, IfOk, ◌≡◌, ℕ, zero, suc, ◌+◌, ◌-◌, ◌<◌, true, false, List, [], ◌∷◌, ◌++◌, length, map, take, get_or, All, Option, Some, None, option_map, unwrap_or, codes, refl, sym, ◌∙◌, ap, subst, arith}
-use Rattle.std.proofs.lemmas.Bool.{cond-false, ne_eqb}
+use Rattle.std.proofs.Common.{Bool, Result, IfOk, ◌≡◌, ℕ, ◌+◌, ◌<◌, true, false, List, [], ◌∷◌, ◌++◌, length, map, take, get_or, All, Option, Some, None, option_map, unwrap_or, codes, refl, sym, ◌∙◌, ap, arith}
 use Rattle.std.proofs.lemmas.List.{append_assoc, map-append, length-map, get_or-map, take_more}
-use Rattle.std.proofs.lemmas.Option.{slice_get-get_or}
+use Rattle.std.proofs.lemmas.List.Elements.{All-nil, All-cons}
 use Rattle.shop_model.specs.declared.page.Block.{Block}
 use Rattle.shop_model.specs.declared.page.Block.TheVariants.{Para}
 use Rattle.shop_model.specs.declared.requests.IdsAsked.{IdsAsked}
@@ -18,15 +17,14 @@ use Rattle.shop_history.specs.declared.keys.Label.{Label}
 use Rattle.shop_history.specs.declared.keys.Row.{Row}
 use Rattle.shop_history.specs.declared.keys.Row.TheVariants as row
 use Rattle.shop_history.specs.Keys.{shown, label_of, row_of}
+use Rattle.shop_history.proofs.Places.{some_row}
 use Rattle.shop_attempt.specs.declared.attempts.ReadOf.{ReadOf}
 use Rattle.shop_attempt.specs.Reads.{Shows}
+use Rattle.shop_attempt.proofs.Looks.{shows_at}
 use Rattle.shop_browse.specs.Lists.{AreLabels, AddsShown}
-use Rattle.shop_browse.proofs.Within.{all_cons, no_ids}
+use Rattle.shop_browse.proofs.Items.{same_label}
 
 -- a row that shows a label
-
-same_label : (one other : Label) → row.Label one ≡ row.Label other → one ≡ other
-same_label one other same = cc
 
 shown_label : (t : Tables) (o : Option ItemRow) (label : Label) → shown (λ item. row.Label (label_of t item)) o ≡ row.Label label
     → unwrap_or (option_map (λ i. line_label i.title (author_of t i).first (author_of t i).last) o) [] ≡ line_label label.title label.first label.last
@@ -35,19 +33,10 @@ shown_label t (Some x) label is = ap (λ (l : Label). line_label l.title l.first
 
 -- an item that there is has a label
 
-row_within : {A : Type 0} (rows : List A) (id : ℕ) (d : A) → Has (length rows) id → row_numbered rows id ≡ Some (get_or rows (id - 1) d)
-row_within rows id d has =
-    cond-false _ _ _ (ne_eqb id 0 (λ e. omega (arith, e, has.first)))
-    ∙ slice_get-get_or rows (id - 1) d (omega (arith, has.first, has.last))
-
 not_shown : (t : Tables) (o : Option ItemRow) (x : ItemRow) (r : Row) → o ≡ Some x → shown (λ item. row.Label (label_of t item)) o ≡ r
     → ((label : Label) → r ≡ row.Label label → ⊥) → ⊥
 not_shown t o x r there is other =
     other (label_of t x) (sym is ∙ ap (shown (λ item. row.Label (label_of t item))) there)
-
-some_item : {A : Type 0} (rows : List A) (id : ℕ) → Has (length rows) id → (x : A) × (row_numbered rows id ≡ Some x)
-some_item [] id has = absurd (omega (arith, has.first, has.last))
-some_item (x ∷ rows) id has = (get_or (x ∷ rows) (id - 1) x, row_within (x ∷ rows) id x has)
 
 -- the line of an item whose label was read
 
@@ -61,15 +50,10 @@ line_added old new ids item label text read key_is row_is text_is added = λ t s
 pub no_line : (old new : List Block) (ids : IdsAsked) (item : ℕ) (read : ReadOf) → read.key ≡ key.Label item → ((label : Label) → read.row ≡ row.Label label → ⊥)
     → AddsShown (λ t. list_line t ids item ∷ []) (item ∷ []) (read ∷ []) old new false
 no_line old new ids item read key_is other = λ t have shows.
-    let there : (x : ItemRow) × (row_numbered t.items item ≡ Some x) = some_item t.items item (have 0 item (omega arith)) in
+    let there : (x : ItemRow) × (row_numbered t.items item ≡ Some x) = some_row t.items item (have 0 item (omega arith)) in
     not_shown t (row_numbered t.items item) there.0 read.row there.1 (ap (row_of t) (sym key_is) ∙ shows.0) other
 
 -- the lines of items whose labels were read
-
-shows_at : (t : Tables) (reads : List ReadOf) (i : ℕ) (read : ReadOf) → i < length reads → read ≡ get_or reads i read → Shows t reads → Shows t (read ∷ [])
-shows_at t [] i read within at shows = absurd (omega (arith, within))
-shows_at t (first ∷ reads) zero read within at shows = subst (λ (r : ReadOf). Shows t (r ∷ [])) (sym at) (shows.0, tt)
-shows_at t (first ∷ reads) (suc i) read within at shows = let behind : i < length reads = omega (arith, within) in shows_at t reads i read behind at shows.1
 
 as_many : (items : List ℕ) (labels : List ReadOf) → AreLabels items labels → length labels ≡ length items
 as_many items labels are = sym (length-map labels (λ (r : ReadOf). r.key)) ∙ ap length are ∙ length-map items key.Label
@@ -90,21 +74,19 @@ lines_more old blocks new ids items i labels read are within at so_far added t s
     let item : ℕ = get_or items i 0 in
     let lines : List Block = map (list_line t ids) (take i items) in
     let behind : i < length labels = omega (arith, within, as_many items labels are) in
-    added t (shows_at t labels i read behind at shows)
+    added t (shows_at t labels i read behind at shows, tt)
     ∙ ap (λ (b : List Block). b ++ list_line t ids item ∷ []) (so_far t shows)
     ∙ append_assoc old lines (list_line t ids item ∷ [])
     ∙ ap (λ (b : List Block). old ++ b) (sym (map-append (list_line t ids) (take i items) (item ∷ [])))
     ∙ ap (λ (l : List ℕ). old ++ map (list_line t ids) l) (sym (take_more items i 0 within))
-
-all_one : (P : ℕ → Type 0) (x : ℕ) → P x → All P (x ∷ [])
-all_one P x is = all_cons P x [] is (no_ids P [] refl)
 
 pub none_at : (blocks new : List Block) (lines : Tables → List Block) (items : List ℕ) (i : ℕ) (labels : List ReadOf) (read : ReadOf) → AreLabels items labels → i < length items → read ≡ get_or labels i read
     → AddsShown lines (get_or items i 0 ∷ []) (read ∷ []) blocks new false
     → (t : Tables) → All (Has (length t.items)) items → Shows t labels → ⊥
 none_at blocks new lines items i labels read are within at never t have shows =
     let behind : i < length labels = omega (arith, within, as_many items labels are) in
-    never t (all_one (Has (length t.items)) (get_or items i 0) (have i 0 within)) (shows_at t labels i read behind at shows)
+    let has : ℕ → Type 0 = Has (length t.items) in
+    never t (All-cons has (get_or items i 0) [] (have i 0 within) (All-nil has)) (shows_at t labels i read behind at shows, tt)
 
 -- all lines, or the word for none
 

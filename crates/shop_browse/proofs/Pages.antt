@@ -1,14 +1,14 @@
 -- From what a promotion shows to the pages that have one.
-use Rattle.std.proofs.Common.{◌≡◌, ℕ, ◌+◌, ◌%◌, List, [], ◌∷◌, ◌++◌, length, Option, Some, None, refl, sym, ◌∙◌, ap, subst}
-use Rattle.std.proofs.lemmas.List.{length-map}
+use Rattle.std.proofs.Common.{◌≡◌, ℕ, ◌+◌, ◌%◌, List, length, Option, Some, None, refl, sym, ◌∙◌, subst}
 use Rattle.shop_model.specs.declared.page.Page.{Page}
 use Rattle.shop_model.specs.declared.requests.SearchRequest as search_asked
 use Rattle.shop_model.specs.declared.requests.Request.{Request}
 use Rattle.shop_model.specs.declared.requests.Request.TheVariants.{SearchRequest}
 use Rattle.shop_model.specs.declared.tables.Tables.{Tables}
-use Rattle.shop_model.specs.Catalogues.{Catalogue, catalogue, naming}
+use Rattle.shop_model.specs.Catalogues.{Catalogue, catalogue}
 use Rattle.shop_model.specs.Show.{show, search_request}
 use Rattle.shop_model.specs.Sound.{Sound}
+use Rattle.shop_history.proofs.Carts.{same_items}
 use Rattle.shop_attempt.specs.declared.attempts.ReadOf.{ReadOf}
 use Rattle.shop_attempt.specs.Reads.{Shows}
 use Rattle.shop_browse.specs.declared.promotion.Promotion.{Promotion}
@@ -16,16 +16,11 @@ use Rattle.shop_browse.specs.Attempts.{Fits, IsPageOf}
 use Rattle.shop_browse.proofs.Promotions.{none_some, same_some}
 use Rattle.shop_browse.specs.Promotions.{IsPromotionOf, promotion_reads, Promotes, IsShownBy}
 
--- as many items as the opening tables
-same_items : (opening t : Tables) (c : Catalogue) → c ≡ catalogue opening → catalogue t ≡ c → length t.items ≡ length opening.items
-same_items opening t c is named =
-    sym (length-map t.items naming) ∙ ap (λ (d : Catalogue). length d.items) (named ∙ is) ∙ length-map opening.items naming
-
 -- tables of this catalogue that show what was read show the promotion of the drawn item
 pub promotes : (opening t : Tables) (c : Catalogue) (items draw : ℕ) (promotion : Promotion) → IsPromotionOf (1 + draw % items) promotion → items ≡ length opening.items → c ≡ catalogue opening
     → Sound t → catalogue t ≡ c → Shows t (promotion_reads promotion) → Promotes t draw promotion
 promotes opening t c items draw promotion drawn scale is sound named shows = record {
-  drawn = subst (λ n. IsPromotionOf (1 + draw % n) promotion) (scale ∙ sym (same_items opening t c is named)) drawn;
+  drawn = subst (λ n. IsPromotionOf (1 + draw % n) promotion) (scale ∙ sym (same_items opening t (named ∙ is))) drawn;
   sound = sound;
   shows = shows;
 }

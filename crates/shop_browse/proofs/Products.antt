@@ -1,10 +1,9 @@
 -- The reads of Product Detail, and the page of an item and its author's names.
-use Rattle.std.proofs.Common.{◌≡◌, ℕ, true, List, [], ◌∷◌, length, Option, Some, None, refl, sym, ◌∙◌, ap, subst, inl, inr}
+use Rattle.std.proofs.Common.{◌≡◌, true, [], ◌∷◌, length, Some, None, refl, sym, ◌∙◌, ap, subst, inl, inr}
 use Rattle.shop_model.specs.declared.author.Author.{Author}
 use Rattle.shop_model.specs.declared.page.Page.{Page}
 use Rattle.shop_model.specs.declared.requests.IdsAsked.{IdsAsked}
 use Rattle.shop_model.specs.declared.requests.ProductDetail as asked_for
-use Rattle.shop_model.specs.declared.requests.Request.TheVariants.{ProductDetail}
 use Rattle.shop_model.specs.declared.tables.Tables.{Tables}
 use Rattle.shop_model.specs.Lookups.{row_numbered, author_of}
 use Rattle.shop_model.specs.Products.{product_page, product_or_refusal, author_line}

@@ -1,17 +1,15 @@
 -- The reads of a promotion, and what they show.
-use Rattle.std.proofs.Common.{◌≡◌, ℕ, zero, suc, ◌+◌, ◌%◌, ◌<◌, ◌≤◌, true, false, Bool, List, [], ◌∷◌, ◌++◌, length, map, take, get_or, All, Option, Some, None, option_map, unwrap_or, codes, refl, sym, ◌∙◌, ap, subst, inl, inr, arith, ⊎_elim}
+use Rattle.std.proofs.Common.{◌≡◌, ℕ, ◌+◌, ◌%◌, ◌<◌, ◌≤◌, true, false, Bool, List, [], ◌∷◌, ◌++◌, length, map, take, get_or, All, Option, Some, None, option_map, unwrap_or, codes, refl, sym, ◌∙◌, ap, subst, inl, arith}
 use Rattle.std.proofs.Math.Nat.{mod-lt}
 use Rattle.std.proofs.lemmas.List.{append_assoc, map-append, take_more, take_all, length-map, get_or-map}
 use Rattle.shop_model.specs.declared.page.Block.{Block}
 use Rattle.shop_model.specs.declared.requests.IdsAsked.{IdsAsked}
-use Rattle.shop_model.specs.declared.requests.Request.{Request}
 use Rattle.shop_model.specs.declared.tables.Tables.{Tables}
-use Rattle.shop_model.specs.Lookups.{row_numbered, title_of, related_of}
+use Rattle.shop_model.specs.Lookups.{row_numbered, title_of}
 use Rattle.shop_model.specs.Rows.{ItemRow}
 use Rattle.shop_model.specs.Show.{promoted, promo}
 use Rattle.shop_model.specs.Sound.{Sound, Has}
 use Rattle.shop_model.specs.Targets.{item_link}
-use Rattle.shop_model.proofs.Lists.{all_head, all_tail}
 use Rattle.shop_history.specs.declared.keys.Key.{Key}
 use Rattle.shop_history.specs.declared.keys.Key.TheVariants as key
 use Rattle.shop_history.specs.declared.keys.Label.{Label}
@@ -20,34 +18,20 @@ use Rattle.shop_history.specs.declared.keys.Row.TheVariants as row
 use Rattle.shop_history.specs.Keys.{row_of, shown, label_of}
 use Rattle.shop_history.specs.Logs.{tables}
 use Rattle.shop_history.proofs.Goods.{good_log}
-use Rattle.shop_history.proofs.Places.{row_none, all_numbered}
+use Rattle.shop_history.proofs.Places.{some_row, all_numbered}
 use Rattle.shop_attempt.specs.declared.attempts.ReadOf.{ReadOf}
-use Rattle.shop_attempt.specs.Reads.{Shows, IsReadOf, AreReadSince}
+use Rattle.shop_attempt.specs.Reads.{IsReadOf}
 use Rattle.shop_attempt.specs.Seats.{Seat, IsSeat, Looked}
-use Rattle.shop_attempt.proofs.Looks.{since_later, looked_trans, shows_push}
+use Rattle.shop_attempt.proofs.Looks.{since_later, all_since_earlier, looked_trans, shows_push, shows_at}
 use Rattle.shop_browse.specs.declared.promotion.Promotion.{Promotion}
-use Rattle.shop_browse.specs.Attempts.{AddsLabels, IsReadFor, AreReadFor}
-use Rattle.shop_browse.specs.Footprints.{drawn_item, IsAbout, InFootprint}
-use Rattle.shop_browse.specs.Promotions.{related_in, IsPromotionOf, promotion_reads, ArePromotionReads, ShowsLabels, IsLinkOf, AddsFirst, Added, AddsLinks, Promotes, AddsPromotion}
-use Rattle.shop_browse.proofs.Attempting.{since_earlier}
+use Rattle.shop_browse.specs.Attempts.{AddsLabels, AreReadFor}
+use Rattle.shop_browse.specs.Footprints.{drawn_item, IsAbout}
+use Rattle.shop_browse.specs.Promotions.{related_in, ArePromotionReads, ShowsLabels, IsLinkOf, AddsFirst, Added, AddsLinks, AddsPromotion}
+use Rattle.shop_browse.proofs.Attempting.{for_push}
 use Rattle.shop_browse.proofs.Items.{same_size, item_found}
-use Rattle.shop_browse.proofs.Labelling.{read_since}
+use Rattle.shop_browse.proofs.Labelling.{read_since, labels_for}
 
--- an item that there is, and the one that a word draws
-
--- its row
-record IsRow (items : List ItemRow) (id : ℕ) : Type 0 where
-  item : ItemRow
-  is : row_numbered items id ≡ Some item
-
-row_in : (items : List ItemRow) (id : ℕ) (o : Option ItemRow) → row_numbered items id ≡ o → Has (length items) id → IsRow items id
-row_in items id None is has =
-    ⊎_elim (λ (none : id ≡ 0). absurd (omega (arith, none, has.first))) (λ (past : length items < id). absurd (omega (arith, past, has.last))) (row_none items id is)
-row_in items id (Some x) is has = record { item = x; is = is }
-
-row_is : (items : List ItemRow) (id : ℕ) → Has (length items) id → IsRow items id
-row_is items id has = row_in items id (row_numbered items id) refl has
-
+-- the item that a word draws
 drawn_there : (t : Tables) (draw : ℕ) → Sound t → Has (length t.items) (drawn_item t draw)
 drawn_there t draw sound =
     let below : draw % length t.items < length t.items = mod-lt draw (omega (arith, sound.six)) in
@@ -64,30 +48,6 @@ related_there t id r sound is =
     subst (λ x. All (Has (length t.items)) (related_in x)) (sym is) (related_found t.items id (row_numbered t.items id) refl sound.names.related)
 
 -- what may be read
-
-labels_for : (start now : Seat) (request : Request) (draw : ℕ) (ids : List ℕ) (labels : List ReadOf) → All (Has (length (tables now.opening now.seen).items)) ids
-    → map (λ r. r.key) labels ≡ map key.Label ids → AreReadSince start now labels → AreReadFor start now request draw labels
-labels_for start now request draw [] [] all keys are = tt
-labels_for start now request draw [] (read ∷ reads) all keys are = absurd cc
-labels_for start now request draw (id ∷ ids) [] all keys are = absurd cc
-labels_for start now request draw (id ∷ ids) (read ∷ reads) all keys are =
-    let has = Has (length (tables now.opening now.seen).items) in
-    let first : read.key ≡ key.Label id = cc in
-    let rest : map (λ (r : ReadOf). r.key) reads ≡ map key.Label ids = cc in (
-      record { since = are.0; footprint = inr (id, all_head has id ids all, first) },
-      labels_for start now request draw ids reads (all_tail has id ids all) rest are.1,
-    )
-
-all_earlier : (start middle now : Seat) (reads : List ReadOf) → Looked start middle → Looked middle now → AreReadSince middle now reads → AreReadSince start now reads
-all_earlier start middle now [] first second are = tt
-all_earlier start middle now (read ∷ reads) first second are =
-    (since_earlier start middle now read first second are.0, all_earlier start middle now reads first second are.1)
-
-pub for_push : (start now : Seat) (request : Request) (draw : ℕ) (reads : List ReadOf) (read : ReadOf) → AreReadFor start now request draw reads → IsReadFor start now request draw read
-    → AreReadFor start now request draw (reads ++ read ∷ [])
-for_push start now request draw [] read are is = (is, tt)
-for_push start now request draw (first ∷ reads) read are is = (are.0, for_push start now request draw reads read are.1 is)
-
 pub promotion_read : (start middle now : Seat) (draw drawn : ℕ) (item : ReadOf) (ids : List ℕ) (before labels : List ReadOf) → Looked start middle → IsSeat middle → Looked middle now
     → IsReadOf middle (key.Item drawn) item → drawn ≡ 1 + draw % length start.opening.items → ids ≡ related_in item.row → before ≡ [] → AddsLabels middle now ids before labels
     → ArePromotionReads start now draw (record { item = item; labels = labels })
@@ -105,7 +65,7 @@ promotion_read start middle now draw drawn item ids before labels first seat sec
     let key_is : item.key ≡ key.Item (drawn_item t draw) = is.key_is ∙ ap key.Item (is_drawn ∙ ap (λ n. 1 + draw % n) (sym size)) in
     for_push start now request draw labels item
     (subst (AreReadFor start now request draw) (sym labels_are)
-    (labels_for start now request draw ids adds.labels there adds.keys (all_earlier start middle now adds.labels first second adds.since)))
+    (labels_for start now request draw ids adds.labels there adds.keys (all_since_earlier start middle now adds.labels first second adds.since)))
     (record {
       since = since_later start middle now item second (read_since start middle (key.Item drawn) item first is);
       footprint = inl (subst (IsAbout now.opening now.seen request draw) (sym key_is) (about now.opening now.seen));
@@ -130,15 +90,10 @@ link_is ids read id label link is_key is_label is_link t other has key_is shows 
 
 pub no_link : (ids : IdsAsked) (read : ReadOf) → ((label : Label) → read.row ≡ row.Label label → ⊥) → IsLinkOf ids read None
 no_link ids read apart t id has key_is shows =
-    let there : IsRow t.items id = row_is t.items id has in
-    absurd (apart (label_of t there.item) (sym (ap (row_of t) (sym key_is) ∙ shows) ∙ ap (shown (λ item. row.Label (label_of t item))) there.is))
+    let there : (x : ItemRow) × (row_numbered t.items id ≡ Some x) = some_row t.items id has in
+    absurd (apart (label_of t there.0) (sym (ap (row_of t) (sym key_is) ∙ shows) ∙ ap (shown (λ item. row.Label (label_of t item))) there.1))
 
 -- one label of several
-
-shows_at : (t : Tables) (labels : List ReadOf) (i : ℕ) (read : ReadOf) → i < length labels → read ≡ get_or labels i read → Shows t labels → row_of t read.key ≡ read.row
-shows_at t [] i read lt is shows = absurd (omega (arith, lt))
-shows_at t (first ∷ labels) zero read lt is shows = subst (λ (r : ReadOf). row_of t r.key ≡ r.row) (sym is) shows.0
-shows_at t (first ∷ labels) (suc i) read lt is shows = shows_at t labels i read (omega (arith, lt)) is shows.1
 
 as_many : (t : Tables) (items : List ℕ) (labels : List ReadOf) → ShowsLabels t items labels → length labels ≡ length items
 as_many t items labels shows =
@@ -207,5 +162,5 @@ promotion_added ids promotion item labels old new all is_item is_labels adds t d
 pub no_promotion : (ids : IdsAsked) (promotion : Promotion) (old new : List Block) → ((item : ItemRow) → promotion.item.row ≡ row.Item item → ⊥) → AddsPromotion ids promotion old new false
 no_promotion ids promotion old new apart t draw promotes =
     let shows = shows_push t promotion.labels promotion.item promotes.shows in
-    let there : IsRow t.items (drawn_item t draw) = row_is t.items (drawn_item t draw) (drawn_there t draw promotes.sound) in
-    absurd (apart there.item (sym (ap (row_of t) (sym promotes.drawn.key_is) ∙ shows.1) ∙ ap (shown row.Item) there.is))
+    let there : (x : ItemRow) × (row_numbered t.items (drawn_item t draw) ≡ Some x) = some_row t.items (drawn_item t draw) (drawn_there t draw promotes.sound) in
+    absurd (apart there.0 (sym (ap (row_of t) (sym promotes.drawn.key_is) ∙ shows.1) ∙ ap (shown row.Item) there.1))

@@ -1,8 +1,8 @@
 -- The ids on lists and those that searches find are ids of items.
-use Rattle.std.proofs.Common.{◌≡◌, ℕ, zero, suc, ◌+◌, ◌<◌, cond, true, false, List, [], ◌∷◌, length, map, filter, take, get_or, All, Option, Some, None, refl, arith}
+use Rattle.std.proofs.Common.{◌≡◌, ℕ, ◌+◌, cond, true, false, List, [], ◌∷◌, length, map, filter, take, get_or, All, Option, Some, None, refl, arith}
 use Rattle.std.specs.declared.cmp.Ordering.{Ordering}
 use Rattle.std.specs.Ordering.{is_gt}
-use Rattle.std.proofs.lemmas.List.Elements.{All-map, All-filter, All-take}
+use Rattle.std.proofs.lemmas.List.Elements.{All-cons, All-map, All-filter, All-take}
 use Rattle.shop_model.specs.declared.requests.SearchKind.{SearchKind}
 use Rattle.shop_model.specs.declared.subject.Subject.{Subject}
 use Rattle.shop_model.specs.declared.tables.Tables.{Tables}
@@ -23,17 +23,13 @@ use Rattle.shop_browse.specs.Lists.{listed}
 -- what holds of all elements holds of all in order
 
 module _ {A : Type 0} (P : A → Type 0) where
-  pub all_cons : (x : A) (xs : List A) → P x → All P xs → All P (x ∷ xs)
-  all_cons x xs is all zero d within = is
-  all_cons x xs is all (suc k) d within = let behind : k < length xs = omega (arith, within) in all k d behind
-
   all_put : (order : A → A → Ordering) (x : A) (xs : List A) → P x → All P xs → All P (put_among order x xs)
   unfolding put_among
-  all_put order x [] is all = all_cons x [] is all
+  all_put order x [] is all = All-cons P x [] is all
   all_put order x (y ∷ ys) is all =
       elim (is_gt (order x y)) as (λ b. All P (cond b (y ∷ put_among order x ys) (x ∷ y ∷ ys))) [
-        | true ↦ all_cons y (put_among order x ys) (all_head P y ys all) (all_put order x ys is (all_tail P y ys all))
-        | false ↦ all_cons x (y ∷ ys) is all
+        | true ↦ All-cons P y (put_among order x ys) (all_head P y ys all) (all_put order x ys is (all_tail P y ys all))
+        | false ↦ All-cons P x (y ∷ ys) is all
       ]
 
   all_ordered : (order : A → A → Ordering) (xs : List A) → All P xs → All P (in_order order xs)

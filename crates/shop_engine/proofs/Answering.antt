@@ -1,16 +1,12 @@
 -- How the point of a request makes a round.
-use Rattle.std.proofs.Common.{◌≡◌, ℕ, ◌≤◌, max, min, List, [], ◌∷◌, ◌++◌, length, Option, Some, slice_get, refl, sym, ◌∙◌, ap, subst, arith, length-append}
+use Rattle.std.proofs.Common.{◌≡◌, ℕ, List, [], ◌∷◌, ◌++◌, Option, refl, sym, ◌∙◌, ap, subst}
 use Rattle.std.specs.Io.KnownBytes.{Appends}
 use Rattle.std.proofs.lemmas.List.Elements.{All-weaker}
 use Rattle.shop_edges.specs.Causes.{count_up}
 use Rattle.shop_edges.specs.Clocks.{Tells}
-use Rattle.shop_log.specs.Histories.{Extends}
-use Rattle.shop_model.specs.declared.page.Page.{Page}
 use Rattle.shop_model.specs.declared.requests.Request.{Request}
 use Rattle.shop_model.specs.declared.tables.Tables.{Tables}
 use Rattle.shop_model.specs.Show.{show}
-use Rattle.shop_history.specs.declared.acts.Act.{Act}
-use Rattle.shop_history.specs.declared.acts.Entry.{Entry}
 use Rattle.shop_history.specs.Acts.{act_of, check, ChangesNothing}
 use Rattle.shop_history.specs.Logs.{tables, page_at}
 use Rattle.shop_attempt.specs.declared.attempts.Conflict.{Conflict}

@@ -1,7 +1,6 @@
 -- How what a connection has met goes on by one message, and what it comes to at the end.
-use Rattle.std.proofs.Common.{◌≡◌, ℕ, ◌+◌, ◌-◌, ◌<◌, ◌≤◌, max, min, ◌⊎◌, ⊎_elim, length-append, List, [], ◌∷◌, ◌++◌, length, take, map, All, append_assoc, append-nil, refl, sym, ap, ◌∙◌, arith, subst, Some, None}
+use Rattle.std.proofs.Common.{◌≡◌, ℕ, ◌+◌, ◌<◌, ◌≤◌, ◌⊎◌, ⊎_elim, length-append, List, [], ◌∷◌, ◌++◌, length, take, map, All, append_assoc, append-nil, refl, sym, ap, ◌∙◌, arith, subst, Some, None}
 use Rattle.std.specs.Option.{IfSome}
-use Rattle.std.specs.Prelude.{IsSome}
 use Rattle.std.specs.declared.option.Option.{Option}
 use Rattle.std.specs.Io.KnownBytes.{Appends}
 use Rattle.std.proofs.lemmas.List.{map-append, length-take, take-append-le, take_all}

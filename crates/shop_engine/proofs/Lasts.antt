@@ -1,19 +1,16 @@
 -- The last entry of a log, and entries of a longer one.
-use Rattle.std.proofs.Common.{◌≡◌, ℕ, zero, suc, ◌-◌, ◌<◌, List, [], ◌∷◌, ◌++◌, length, Some, slice_get, refl, sym, ◌∙◌, ap, arith, length-append}
+use Rattle.std.proofs.Common.{◌≡◌, ℕ, zero, suc, ◌-◌, ◌<◌, List, [], ◌∷◌, ◌++◌, length, slice_get, refl, ◌∙◌, ap, arith, length-append}
 use Rattle.shop_log.specs.Histories.{Extends}
 use Rattle.shop_history.specs.declared.acts.Entry.{Entry}
+use Rattle.shop_history.proofs.Places.{push_here}
 use Rattle.shop_engine.specs.Rounds.{option_items, entry_numbered}
-
-pub last_place : (log : List Entry) (entry : Entry) → slice_get (log ++ entry ∷ []) (length log) ≡ Some entry
-last_place [] entry = refl
-last_place (first ∷ log) entry = last_place log entry
 
 pub last_entry : (log before : List Entry) (entry : Entry) (number : ℕ) → log ≡ before ++ entry ∷ [] → number ≡ length log → entry_numbered log number ≡ entry ∷ []
 last_entry log before entry number is last =
     let at : number - 1 ≡ length before = omega (arith, last, ap length is, length-append before (entry ∷ [])) in
-    ap (λ n. option_items (slice_get log n)) at ∙ ap (λ (l : List Entry). option_items (slice_get l (length before))) is ∙ ap option_items (last_place before entry)
+    ap (λ n. option_items (slice_get log n)) at ∙ ap (λ (l : List Entry). option_items (slice_get l (length before))) is ∙ ap option_items (push_here before entry)
 
-same_place : (log rest : List Entry) (i : ℕ) → i < length log → slice_get (log ++ rest) i ≡ slice_get log i
+pub same_place : (log rest : List Entry) (i : ℕ) → i < length log → slice_get (log ++ rest) i ≡ slice_get log i
 same_place [] rest i within = absurd (omega (arith, within))
 same_place (first ∷ log) rest zero within = refl
 same_place (first ∷ log) rest (suc i) within = same_place log rest i (omega (arith, within))

@@ -1,16 +1,14 @@
 -- Several tries, one after another.
-use Rattle.std.proofs.Common.{◌≡◌, ℕ, zero, suc, ◌+◌, ◌-◌, ◌<◌, ◌≤◌, List, [], ◌∷◌, ◌++◌, length, take, All, Some, IsSome, slice_get, sym, ◌∙◌, ap, subst, arith, ⊎_elim, length-append}
+use Rattle.std.proofs.Common.{◌≡◌, ℕ, ◌+◌, ◌-◌, ◌<◌, ◌≤◌, List, [], ◌∷◌, ◌++◌, length, All, Some, IsSome, slice_get, sym, ◌∙◌, ap, subst, arith, ⊎_elim, length-append}
 use Rattle.std.proofs.lemmas.Bool.{cases_lt}
-use Rattle.std.proofs.lemmas.List.{take-append-le}
 use Rattle.std.proofs.lemmas.List.Elements.{All-nil, All-head, All-tail, All-push, All-weaker}
-use Rattle.shop_log.specs.Histories as histories
-use Rattle.shop_log.specs.Histories.{Extends, ChangedAt, row_after}
-use Rattle.shop_log.proofs.Extending.{extends_length, extends_trans}
-use Rattle.shop_log.proofs.Shortest.{still_from}
+use Rattle.shop_log.specs.Histories.{ChangedAt}
+use Rattle.shop_log.proofs.Extending.{extends_trans}
+use Rattle.shop_log.proofs.Shortest.{changed_by}
+use Rattle.shop_log.proofs.Versions.{changed_longer}
 use Rattle.shop_model.specs.declared.requests.Request.{Request}
 use Rattle.shop_model.specs.declared.tables.Tables.{Tables}
 use Rattle.shop_history.specs.declared.acts.Entry.{Entry}
-use Rattle.shop_history.specs.declared.keys.Key.{Key}
 use Rattle.shop_history.specs.Logs.{history, version_of}
 use Rattle.shop_history.proofs.Rows.{tells_rows}
 use Rattle.shop_attempt.specs.declared.attempts.Conflict.{Conflict}
@@ -24,33 +22,7 @@ use Rattle.shop_engine.specs.declared.tries.Tried.TheVariants as tried
 use Rattle.shop_engine.specs.Tries.{Stays, StaysWithin, IsConflictOf, IsAgain, Rise, ReadsOn, IsMet, AreMet, IsTry, IsChanged, TriedAs, OutcomeAs}
 use Rattle.shop_engine.proofs.Staying.{stays_trans, within_trans, within_of, still_told, stamp_from}
 use Rattle.shop_engine.proofs.Footprints.{footprint_later}
-
--- an entry that changed a row is no later than the row's version, and changed it in a longer log too
-
-changed_by : (t : Tables) (log : List Entry) (key : Key) (number : ℕ) → ChangedAt history t log key number → number ≤ version_of t log key
-changed_by t log key number was = ⊎_elim
-    (λ (early : version_of t log key < number).
-    let still = still_from history tells_rows t log key (number - 1) (omega (arith, early)) in
-    absurd (was.changed (still.rows number (omega arith) was.within ∙ sym (still.rows (number - 1) (omega arith) (omega (arith, was.within))))))
-    (λ (enough : number ≤ version_of t log key). enough)
-    (cases_lt (version_of t log key) number)
-
-changed_longer : (t : Tables) (log longer : List Entry) (key : Key) (number : ℕ) → Extends log longer → ChangedAt history t log key number → ChangedAt history t longer key number
-changed_longer t log longer key number extends was =
-    let now : row_after history t longer number key ≡ row_after history t log number key
-    = ap (λ (l : List Entry). histories.History.row_of history (histories.state_after history t l) key) (ap (take number) extends.is ∙ take-append-le number log extends.rest was.within) in
-    let before : row_after history t longer (number - 1) key ≡ row_after history t log (number - 1) key
-    = ap (λ (l : List Entry). histories.History.row_of history (histories.state_after history t l) key) (ap (take (number - 1)) extends.is ∙ take-append-le (number - 1) log extends.rest (omega (arith, was.within))) in
-    record {
-      some = was.some;
-      within = omega (arith, was.within, extends_length log longer extends);
-      changed = λ same. was.changed (sym now ∙ same ∙ before);
-    }
-
-get_front : (log rest : List Entry) (i : ℕ) (entry : Entry) → i < length log → slice_get (log ++ rest) i ≡ Some entry → slice_get log i ≡ Some entry
-get_front [] rest i entry within is = absurd (omega (arith, within))
-get_front (first ∷ log) rest zero entry within is = is
-get_front (first ∷ log) rest (suc i) entry within is = get_front log rest i entry (omega (arith, within)) is
+use Rattle.shop_engine.proofs.Lasts.{same_place}
 
 -- a conflict stays one
 
@@ -58,10 +30,10 @@ conflict_later : (old new : Seat) (conflict : Conflict) → Follows old new → 
 conflict_later old new conflict follows was =
     let changed : ChangedAt history new.opening old.seen conflict.key conflict.found = subst (λ t. ChangedAt history t old.seen conflict.key conflict.found) (sym follows.opening) was.overtaken.changed in
     record {
-      overtaken = record { later = was.overtaken.later; changed = changed_longer new.opening old.seen new.seen conflict.key conflict.found follows.grows changed };
+      overtaken = record { later = was.overtaken.later; changed = changed_longer history new.opening old.seen new.seen conflict.key conflict.found follows.grows changed };
       other = λ entry at same.
           let here : slice_get (old.seen ++ follows.grows.rest) (conflict.found - 1) ≡ Some entry = ap (λ (log : List Entry). slice_get log (conflict.found - 1)) (sym follows.grows.is) ∙ at in
-          was.other entry (get_front old.seen follows.grows.rest (conflict.found - 1) entry (omega (arith, changed.some, changed.within)) here) (same ∙ follows.caller);
+          was.other entry (sym (same_place old.seen follows.grows.rest (conflict.found - 1) (omega (arith, changed.some, changed.within))) ∙ here) (same ∙ follows.caller);
     }
 
 met_later : (old new : Seat) (request : Request) (draw : ℕ) → Follows old new → (conflict : Conflict) → IsMet old request draw conflict → IsMet new request draw conflict
@@ -84,7 +56,7 @@ reads_later old new request draw first conflict follows was is same = ⊎_elim
     (λ (early : conflict.read ≤ length old.seen).
     let at : version_of old.opening old.seen first.key ≡ conflict.read
     = ap (λ (t : Tables). version_of t old.seen first.key) (sym follows.opening) ∙ ap (version_of new.opening old.seen) (sym same) ∙ is.since early in
-    omega (arith, at, changed_by old.opening old.seen first.key first.found was.conflicts.overtaken.changed))
+    omega (arith, at, changed_by history tells_rows old.opening old.seen first.key first.found was.conflicts.overtaken.changed))
     (cases_lt (length old.seen) conflict.read)
 
 on_more : (old new : Seat) (request : Request) (draw : ℕ) (conflicts : List Conflict) (conflict : Conflict) → Follows old new → All (IsMet old request draw) conflicts → IsConflictOf new request draw old.seen conflict

@@ -1,6 +1,6 @@
 -- One try: what its settle shows.
-use Rattle.std.proofs.Common.{◌≡◌, ◌≢◌, ℕ, ◌+◌, ◌-◌, ◌%◌, ◌<◌, ◌≤◌, min, max, Bool, true, false, cond, eqb, List, [], ◌∷◌, ◌++◌, length, take, Option, Some, None, IsSome, is_some, slice_get, refl, sym, ◌∙◌, ap, subst, arith, ⊎_elim, inl, inr, ◌⊎◌, append-nil, length-append}
-use Rattle.std.proofs.lemmas.Bool.{eq-eqb, cond-true, cases_lt}
+use Rattle.std.proofs.Common.{◌≡◌, ◌≢◌, ℕ, ◌-◌, ◌≤◌, max, true, false, eqb, List, [], ◌∷◌, ◌++◌, length, Option, Some, None, IsSome, is_some, refl, sym, ◌∙◌, ap, subst, arith, append-nil, length-append}
+use Rattle.std.proofs.lemmas.Bool.{eq-eqb, cond-true}
 use Rattle.std.proofs.lemmas.List.{take-append-le, take_all}
 use Rattle.std.proofs.lemmas.List.Elements.{filter-append}
 use Rattle.shop_log.specs.Histories.{Extends}
@@ -8,24 +8,19 @@ use Rattle.shop_log.proofs.Extending.{extends_trans}
 use Rattle.shop_log.proofs.Legality.{legal_shorter, legal_last}
 use Rattle.shop_model.specs.declared.page.Page.{Page}
 use Rattle.shop_model.specs.declared.requests.Request.{Request}
-use Rattle.shop_model.specs.declared.requests.Request.TheVariants.{Home, NewProducts, BestSellers, ProductDetail, SearchRequest, SearchResults, CartRequest}
 use Rattle.shop_model.specs.declared.tables.Tables.{Tables}
-use Rattle.shop_model.specs.CartAsked.{CartAsked}
 use Rattle.shop_model.specs.Limits.{stamp_limit}
-use Rattle.shop_model.specs.Lookups.{row_numbered}
 use Rattle.shop_model.specs.Show.{show}
-use Rattle.shop_model.specs.Sound.{Has}
 use Rattle.shop_history.specs.declared.acts.Act.{Act}
 use Rattle.shop_history.specs.declared.acts.Drawn.{Drawn}
 use Rattle.shop_history.specs.declared.acts.Entry.{Entry}
 use Rattle.shop_history.specs.declared.acts.Ids.{Ids}
 use Rattle.shop_history.specs.declared.drafts.Draft.{Draft}
 use Rattle.shop_history.specs.declared.drafts.Draft.TheVariants.{Fixed}
-use Rattle.shop_history.specs.declared.keys.Key.{Key}
-use Rattle.shop_history.specs.declared.keys.Key.TheVariants as keys
-use Rattle.shop_history.specs.Acts.{act_of, check, play, ChangesNothing}
+use Rattle.shop_history.specs.Acts.{check, play}
 use Rattle.shop_history.specs.Drafts.{filled}
 use Rattle.shop_history.specs.Logs.{tables, version_of, entries_of, page_at, Legal, MayFollow}
+use Rattle.shop_history.proofs.Places.{push_here}
 use Rattle.shop_attempt.specs.declared.attempts.Attempt.{Attempt}
 use Rattle.shop_attempt.specs.declared.attempts.Conflict.{Conflict}
 use Rattle.shop_attempt.specs.declared.attempts.ReadOf.{ReadOf}
@@ -41,11 +36,9 @@ use Rattle.shop_attempt.proofs.Looks.{conflict_of, follows_trans}
 use Rattle.shop_pages.specs.declared.reply.Form.{Form}
 use Rattle.shop_pages.specs.Replies.{reply}
 use Rattle.shop_browse.specs.Attempts.{IsReadFor, AreReadFor, IsAttempt, IsDraftOf, IsReady, IsContradiction, Becomes}
-use Rattle.shop_browse.specs.Footprints.{IsAmong, WasOnCart, IsCartItem, drawn_item, IsAbout, InFootprint, IsLabel}
-use Rattle.shop_browse.proofs.Items.{same_size}
+use Rattle.shop_browse.specs.Footprints.{InFootprint}
 use Rattle.shop_engine.specs.Tries.{Stays, StaysWithin, ShowsBy, ChangesBy, FullBy, IsAgain, StampRose, reply_of_page}
 use Rattle.shop_engine.proofs.Footprints.{footprint_later}
-use Rattle.shop_engine.proofs.Lasts.{last_place}
 use Rattle.shop_engine.proofs.Staying.{stamp_kept, stamp_raised, stays_looked, within_of}
 
 -- an attempt and its settle, behind whose log found these entries of the caller stand
@@ -147,7 +140,7 @@ shown_is start old new request moment draw attempt draft drawn form bytes looked
 last_page : (t : Tables) (log : List Entry) (entry : Entry) (number : ℕ) → number ≡ length (log ++ entry ∷ []) → page_at t (log ++ entry ∷ []) number ≡ Some (play (tables t log) entry.stamp entry.act).page
 last_page t log entry number is =
     let at : number - 1 ≡ length log = omega (arith, is, length-append log (entry ∷ [])) in
-    rw (at, last_place log entry, take-append-le (length log) log (entry ∷ []) (omega arith), take_all (length log) log (omega arith))
+    rw (at, push_here log entry, take-append-le (length log) log (entry ∷ []) (omega arith), take_all (length log) log (omega arith))
 
 exact_stamp : (latest now : Option ℕ) (moment stamp : ℕ) → (IsSome latest → now ≡ Some stamp) → now ≡ raised latest moment → (told : ℕ) → latest ≡ Some told → stamp ≡ max told moment
 exact_stamp latest now moment stamp is rose told same =

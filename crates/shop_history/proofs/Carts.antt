@@ -1,6 +1,6 @@
 -- What entries leave of the tables, and what a request for a cart changes.
 use Rattle.std.proofs.Common.{◌≡◌, ◌≢◌, ℕ, ◌+◌, ◌-◌, ◌≤◌, List, [], ◌∷◌, ◌++◌, length, Option, Some, None, option_map, refl, sym, ◌∙◌, ap, subst, inr, arith, length-append}
-use Rattle.std.proofs.lemmas.List.{length-set}
+use Rattle.std.proofs.lemmas.List.{length-map, length-set}
 use Rattle.shop_log.proofs.ByEnd.{by_end}
 use Rattle.shop_log.proofs.Versions as versions
 use Rattle.shop_log.specs.Histories.{state_after}
@@ -8,6 +8,7 @@ use Rattle.shop_model.specs.declared.subject.Subject.{Subject}
 use Rattle.shop_model.specs.declared.tables.Tables.{Tables}
 use Rattle.shop_model.specs.CartAsked.{CartAsked}
 use Rattle.shop_model.specs.Carts.{check_cart, check_asked, lines_named, lines_after, cart_meant, carts_with}
+use Rattle.shop_model.specs.Catalogues.{Catalogue, naming}
 use Rattle.shop_model.specs.Lookups.{row_numbered}
 use Rattle.shop_model.specs.Rankings.{newest, best, sold_lately}
 use Rattle.shop_model.specs.Rows.{CartRow}
@@ -44,6 +45,11 @@ only_carts t =
     let now : Tables = (play (tables t log) entry.stamp entry.act).tables in
     subst (λ u. u ≡ with_carts t u.carts) (sym (tables_push t log entry))
     (play_only_carts (tables t log) entry.stamp entry.act ∙ ap (λ (u : Tables). with_carts u now.carts) before))
+
+-- tables of one catalogue have as many items
+pub same_items : (opening t : Tables) → SameCatalogue opening t → length t.items ≡ length opening.items
+same_items opening t same =
+    sym (length-map t.items naming) ∙ ap (λ (c : Catalogue). length c.items) same ∙ length-map opening.items naming
 
 pub same_catalogue : (t : Tables) (log : List Entry) → SameCatalogue t (tables t log)
 same_catalogue t log = subst (SameCatalogue t) (sym (only_carts t log)) refl

@@ -1,9 +1,7 @@
 -- The lines of a cart stay fit as quantities are set.
-use Rattle.std.proofs.Common.{◌≡◌, ◌≢◌, ℕ, suc, ◌+◌, ◌%◌, ◌<◌, ◌≤◌, Bool, true, false, cond, not, ◌&&◌, nat_eq, eqb, ltb, List, [], ◌∷◌, length, Option, Some, None, is_some, All, AllPairs, refl, sym, subst, arith}
-use Rattle.std.specs.Map.{lookup}
-use Rattle.std.proofs.lemmas.Grind.{common_steps}
-use Rattle.std.proofs.lemmas.Bool.{eqb-true, eqb-false, ltb-true, ltb-false, or_parts, not-false, cond_both}
-use Rattle.std.proofs.lemmas.List.Elements.{All-nil, All-cons, All-head, All-tail}
+use Rattle.std.proofs.Common.{◌≡◌, ◌≢◌, ℕ, suc, ◌+◌, ◌%◌, ◌<◌, ◌≤◌, Bool, true, false, cond, eqb, ltb, List, [], ◌∷◌, length, Option, Some, None, All, AllPairs, refl, sym, arith}
+use Rattle.std.proofs.lemmas.Bool.{eqb-false, ltb-false, or_parts, cond_both}
+use Rattle.std.proofs.lemmas.List.Elements.{All-nil, All-cons}
 use Rattle.std.proofs.lemmas.List.Kept.{AllPairs-cons}
 use Rattle.std.proofs.lemmas.Nat.{mod_below}
 use Rattle.shop_model.specs.declared.refusal.Refusal.{Refusal}
@@ -11,6 +9,7 @@ use Rattle.shop_model.specs.CartAsked.{CartAsked}
 use Rattle.shop_model.specs.Carts.{set_line, set_lines, wanted, or_drawn, cart_lines, is_too_many, check_line, first_of, check_lines}
 use Rattle.shop_model.specs.Limits.{lines_limit, quantity_limit}
 use Rattle.shop_model.specs.Sound.{Has, IsQuantity}
+use Rattle.shop_model.proofs.SetLines.{set_line_all, set_line_few}
 
 -- lines of distinct items
 abbrev pub Apart : ℕ × ℕ → ℕ × ℕ → Type 0
@@ -22,18 +21,6 @@ pub record AreFit (items : ℕ) (lines : List (ℕ × ℕ)) : Type 0 where
   pub distinct : AllPairs Apart lines
   pub quantities : All (λ l. IsQuantity l.1) lines
   pub exist : All (λ l. Has items l.0) lines
-
--- what holds of all lines, and of the new one, holds of all lines after
-set_line_all : (P : ℕ × ℕ → Type 0) (item quantity : ℕ) (lines : List (ℕ × ℕ)) → (quantity ≢ 0 → P (item, quantity)) → All P lines → All P (set_line item quantity lines)
-unfolding set_line
-set_line_all P item quantity [] new all =
-    cond_both (eqb quantity 0) [] ((item, quantity) ∷ []) (All P) (λ _. all) (λ some. All-cons P (item, quantity) [] (new (eqb-false quantity 0 some)) all)
-set_line_all P item quantity (line ∷ lines) new all =
-    let rest : All P lines = All-tail P line lines all in
-    cond_both (eqb item line.0) (cond (eqb quantity 0) lines ((line.0, quantity) ∷ lines)) (line ∷ set_line item quantity lines) (All P)
-    (λ here. cond_both (eqb quantity 0) lines ((line.0, quantity) ∷ lines) (All P) (λ _. rest)
-    (λ some. All-cons P (line.0, quantity) lines (subst (λ i. P (i, quantity)) (eqb-true item line.0 here) (new (eqb-false quantity 0 some))) rest))
-    (λ apart. All-cons P line (set_line item quantity lines) (All-head P line lines all) (set_line_all P item quantity lines new rest))
 
 -- lines stay of distinct items
 set_line_distinct : (item quantity : ℕ) (lines : List (ℕ × ℕ)) → AllPairs Apart lines → AllPairs Apart (set_line item quantity lines)
@@ -50,13 +37,6 @@ set_line_distinct item quantity (line ∷ lines) distinct =
     (λ apart. AllPairs-cons Apart line (set_line item quantity lines)
     (set_line_all (Apart line) item quantity lines (λ _. λ same. eqb-false item line.0 apart (sym same)) head)
     (set_line_distinct item quantity lines rest))
-
--- a line more only where a quantity is set of an item that has none
-set_line_length : (item quantity : ℕ) (lines : List (ℕ × ℕ))
-    → length (set_line item quantity lines) ≤ length lines + cond (not (eqb quantity 0) && not (is_some (lookup (nat_eq item) lines))) 1 0
-unfolding set_line
-set_line_length item quantity [] = grind (arith, common_steps)
-set_line_length item quantity (line ∷ lines) = grind (arith, common_steps, set_line_length item quantity lines)
 
 -- a quantity that can be set
 
@@ -82,16 +62,11 @@ may_set items item quantity lines passes =
       fits = three.0;
     }
 
-length_fits : (is_set is_new : Bool) (before after limit : ℕ) → (is_set && is_new && not (ltb before limit)) ≡ false → before ≤ limit → after ≤ before + cond (is_set && is_new) 1 0 → after ≤ limit
-length_fits true true before after limit fits few grown = let less : before < limit = ltb-true before limit (not-false (ltb before limit) fits) in omega (arith, less, grown)
-length_fits true false before after limit fits few grown = omega (arith, few, grown)
-length_fits false is_new before after limit fits few grown = omega (arith, few, grown)
-
 set_line_fit : (items item quantity : ℕ) (lines : List (ℕ × ℕ)) → check_line items item quantity lines ≡ None → AreFit items lines → AreFit items (set_line item quantity lines)
 set_line_fit items item quantity lines passes fit =
     let may : MaySet items item quantity lines = may_set items item quantity lines passes in
     record {
-      few = length_fits (not (eqb quantity 0)) (not (is_some (lookup (nat_eq item) lines))) (length lines) _ lines_limit may.fits fit.few (set_line_length item quantity lines);
+      few = set_line_few item quantity lines may.fits fit.few;
       distinct = set_line_distinct item quantity lines fit.distinct;
       quantities = set_line_all (λ l. IsQuantity l.1) item quantity lines (λ some. record { some = omega arith; few = may.few }) fit.quantities;
       exist = set_line_all (λ l. Has items l.0) item quantity lines (λ _. may.exists) fit.exist;

@@ -1,9 +1,9 @@
 -- Rows by their numbers, in lists that are written and that grow.
-use Rattle.std.proofs.Common.{◌≡◌, ℕ, zero, suc, ◌+◌, ◌-◌, ◌<◌, ◌≤◌, cond, true, false, List, [], ◌∷◌, ◌++◌, length, map, All, Some, None, slice_get, slice_set, eqb, refl, sym, ◌∙◌, ap, subst, ◌⊎◌, inl, inr, ⊎_elim, arith}
+use Rattle.std.proofs.Common.{◌≡◌, ℕ, zero, suc, ◌+◌, ◌-◌, ◌<◌, ◌≤◌, cond, true, false, List, [], ◌∷◌, ◌++◌, length, map, get_or, All, Some, None, slice_get, slice_set, eqb, refl, sym, ◌∙◌, ap, subst, ◌⊎◌, inl, inr, ⊎_elim, arith}
 use Rattle.std.proofs.lemmas.Bool.{eqb-true, eqb-false, cond-true, cond-false, eq-eqb, ne_eqb, cases_eq}
-use Rattle.std.proofs.lemmas.Option.{slice_get_past, slice_get_within, get_or_from_slice_get}
+use Rattle.std.proofs.lemmas.Option.{slice_get_past, slice_get_within, slice_get-get_or, get_or_from_slice_get}
 use Rattle.shop_model.specs.Lookups.{row_numbered}
-use Rattle.shop_model.specs.Sound.{Runs}
+use Rattle.shop_model.specs.Sound.{Has, Runs}
 use Rattle.shop_model.proofs.Lists.{id_of_place}
 
 module _ {A : Type 0} where
@@ -25,7 +25,7 @@ module _ {A : Type 0} where
   push_other (z ∷ xs) zero y apart = refl
   push_other (z ∷ xs) (suc j) y apart = push_other xs j y (λ e. apart (ap suc e))
 
-  push_here : (xs : List A) (y : A) → slice_get (xs ++ y ∷ []) (length xs) ≡ Some y
+  pub push_here : (xs : List A) (y : A) → slice_get (xs ++ y ∷ []) (length xs) ≡ Some y
   push_here [] y = refl
   push_here (z ∷ xs) y = push_here xs y
 
@@ -90,6 +90,14 @@ module _ {A : Type 0} where
 
   pub row_push : (xs : List A) (y : A) → row_numbered (xs ++ y ∷ []) (length xs + 1) ≡ Some y
   row_push xs y = row_there (xs ++ y ∷ []) (length xs + 1) y (record { above = omega arith; at = subst (λ i. slice_get (xs ++ y ∷ []) i ≡ Some y) (omega arith) (push_here xs y) })
+
+  -- a number that there is has a row
+  pub some_row : (xs : List A) (id : ℕ) → Has (length xs) id → (x : A) × (row_numbered xs id ≡ Some x)
+  some_row [] id has = absurd (omega (arith, has.first, has.last))
+  some_row (x ∷ xs) id has = (
+    get_or (x ∷ xs) (id - 1) x,
+    cond-false _ _ _ (ne_eqb id 0 (λ e. omega (arith, e, has.first))) ∙ slice_get-get_or (x ∷ xs) (id - 1) x (omega (arith, has.first, has.last)),
+  )
 
   -- what holds of all rows holds of one
   pub all_numbered : (P : A → Type 0) (xs : List A) (id : ℕ) (x : A) → row_numbered xs id ≡ Some x → All P xs → P x

@@ -2,7 +2,7 @@
 use Rattle.std.proofs.Common.{◌≡◌, ℕ, ◌-◌, ◌<◌, ◌≤◌, List, length, take, sym, ◌∙◌, ap, subst, ⊎_elim, arith}
 use Rattle.std.proofs.lemmas.Bool.{cases_lt}
 use Rattle.std.proofs.lemmas.List.{take_all, take-take, length-take-le}
-use Rattle.shop_log.specs.Histories.{History, TellsRows, state_after, version_of, IsStill}
+use Rattle.shop_log.specs.Histories.{History, TellsRows, state_after, version_of, IsStill, ChangedAt}
 use Rattle.shop_log.proofs.Extending.{take_extends}
 use Rattle.shop_log.proofs.Versions.{StandsAt, stands_at, version_before, version_changed}
 
@@ -20,6 +20,15 @@ module _ {State Entry Key Row : Type 0} (history : History State Entry Key Row) 
         sym here.row_is ∙ ap (λ (l : List Entry). history.row_of (state_after history state l) key) front ∙ (stands_at history tells state key log).row_is
         ∙ ap (λ (l : List Entry). history.row_of (state_after history state l) key) (sym whole);
   }
+
+  -- an entry that changed what the key shows is no later than its version
+  pub changed_by : (state : State) (log : List Entry) (key : Key) (number : ℕ) → ChangedAt history state log key number → number ≤ version_of history state log key
+  changed_by state log key number was = ⊎_elim
+      (λ (early : version_of history state log key < number).
+      let still = still_from state log key (number - 1) (omega (arith, early)) in
+      absurd (was.changed (still.rows number (omega arith) was.within ∙ sym (still.rows (number - 1) (omega arith) (omega (arith, was.within))))))
+      (λ (enough : number ≤ version_of history state log key). enough)
+      (cases_lt (version_of history state log key) number)
 
   -- and fewer are not enough
   pub shortest : (state : State) (log : List Entry) (key : Key) (count : ℕ) → IsStill history state log key count → version_of history state log key ≤ count

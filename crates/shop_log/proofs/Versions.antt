@@ -4,6 +4,7 @@ use Rattle.std.proofs.lemmas.Bool.{cases_lt, false≢true}
 use Rattle.std.proofs.lemmas.List.{take-append-le, take_all}
 use Rattle.shop_log.specs.Histories.{History, TellsRows, state_after, version_from, version_of, row_after, Extends, ChangedAt, IsTrueOf}
 use Rattle.shop_log.proofs.ByEnd.{by_end}
+use Rattle.shop_log.proofs.Extending.{extends_length, extends_push}
 
 module _ {State Entry Key Row : Type 0} (history : History State Entry Key Row) where
   -- the state and the version after one entry more
@@ -131,24 +132,25 @@ module _ {State Entry Key Row : Type 0} (history : History State Entry Key Row) 
       let is : version_of history state longer key ≡ version_of history state (log ++ extends.rest) key = ap (λ (l : List Entry). version_of history state l key) extends.is in
       version_front state key log extends.rest (omega (arith, is, old)) ∙ sym is
 
-  -- the entry that a version names changed what the key shows
-
-  changed_longer : (state : State) (key : Key) (log : List Entry) (entry : Entry) (number : ℕ) → ChangedAt history state log key number → ChangedAt history state (log ++ entry ∷ []) key number
-  changed_longer state key log entry number was =
-      let now : take number (log ++ entry ∷ []) ≡ take number log = take-append-le number log (entry ∷ []) was.within in
-      let before : take (number - 1) (log ++ entry ∷ []) ≡ take (number - 1) log = take-append-le (number - 1) log (entry ∷ []) (omega (arith, was.within)) in
+  -- an entry that changed what the key shows did so in a longer log too
+  pub changed_longer : (state : State) (log longer : List Entry) (key : Key) (number : ℕ) → Extends log longer → ChangedAt history state log key number → ChangedAt history state longer key number
+  changed_longer state log longer key number extends was =
+      let same : (count : ℕ) → count ≤ length log → row_after history state longer count key ≡ row_after history state log count key
+      = λ count within. ap (λ (l : List Entry). history.row_of (state_after history state l) key) (ap (take count) extends.is ∙ take-append-le count log extends.rest within) in
       record {
         some = was.some;
-        within = omega (arith, was.within, length-append log (entry ∷ []));
-        changed = λ same. was.changed (ap (λ (l : List Entry). history.row_of (state_after history state l) key) (sym now) ∙ same ∙ ap (λ (l : List Entry). history.row_of (state_after history state l) key) before);
+        within = omega (arith, was.within, extends_length log longer extends);
+        changed = λ equal. was.changed (sym (same number was.within) ∙ equal ∙ same (number - 1) (omega (arith, was.within)));
       }
+
+  -- the entry that a version names changed what the key shows
 
   module _ (tells : TellsRows history) where
     changed_push : (state : State) (key : Key) (log : List Entry) (entry : Entry)
         → (0 < version_of history state log key → ChangedAt history state log key (version_of history state log key))
         → (same : Bool) → same ≡ stays state log entry key → 0 < cond same (version_of history state log key) (length log + 1)
         → ChangedAt history state (log ++ entry ∷ []) key (cond same (version_of history state log key) (length log + 1))
-    changed_push state key log entry before true is some = changed_longer state key log entry (version_of history state log key) (before some)
+    changed_push state key log entry before true is some = changed_longer state log (log ++ entry ∷ []) key (version_of history state log key) (extends_push log entry) (before some)
     changed_push state key log entry before false is some =
         let whole : take (length log + 1) (log ++ entry ∷ []) ≡ log ++ entry ∷ [] = take_all _ _ (omega (arith, length-append log (entry ∷ []))) in
         let front : take (length log + 1 - 1) (log ++ entry ∷ []) ≡ log

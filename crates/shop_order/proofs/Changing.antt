@@ -1,13 +1,11 @@
 -- From what was read, the lines and the draft to an attempt.
 use Rattle.std.proofs.Common.{◌≡◌, ℕ, List, [], ◌∷◌, ◌++◌, length, Option, Some, None, IsSome, option_map, unwrap_or, refl, sym, ◌∙◌, ap, subst, arith}
 use Rattle.std.proofs.lemmas.Bool.{cond-false, ne_eqb}
-use Rattle.std.proofs.lemmas.List.{length-map}
 use Rattle.shop_model.specs.declared.refusal.Refusal.{Refusal}
 use Rattle.shop_model.specs.declared.requests.Request.TheVariants.{CartRequest}
 use Rattle.shop_model.specs.declared.tables.Tables.{Tables}
 use Rattle.shop_model.specs.CartAsked.{CartAsked}
 use Rattle.shop_model.specs.Carts.{cart_lines, check_cart, check_asked, check_lines, wanted, lines_named, lines_after, cart_meant, carts_with, cart_page, ids_with}
-use Rattle.shop_model.specs.Catalogues.{Catalogue, naming}
 use Rattle.shop_model.specs.Lookups.{row_numbered}
 use Rattle.shop_model.specs.Refusals.{page_of}
 use Rattle.shop_model.specs.Rows.{CartRow}
@@ -19,39 +17,22 @@ use Rattle.shop_history.specs.declared.drafts.Draft.TheVariants as draft
 use Rattle.shop_history.specs.declared.drafts.Waiting.{Waiting}
 use Rattle.shop_history.specs.Acts.{with_carts, new_cart, play}
 use Rattle.shop_history.specs.Drafts.{filled, HasIds}
-use Rattle.shop_history.specs.Logs.{SameCatalogue}
+use Rattle.shop_history.proofs.Carts.{same_items}
 use Rattle.shop_history.proofs.Goods.{lines_after_fit}
 use Rattle.shop_history.proofs.Places.{is_there}
 use Rattle.shop_attempt.specs.declared.attempts.ReadOf.{ReadOf}
 use Rattle.shop_attempt.specs.Faithful.{put_cart, Makes}
-use Rattle.shop_attempt.specs.Reads.{AreTrue, Shows, Agrees}
+use Rattle.shop_attempt.specs.Reads.{Shows, Agrees}
 use Rattle.shop_attempt.specs.Seats.{Seat, Looked}
 use Rattle.shop_browse.specs.declared.attempted.Attempted.{Attempted}
-use Rattle.shop_browse.specs.Attempts.{AreReadFor, Becomes, IsAttempt, AttemptedAs, attempt_of, reading}
+use Rattle.shop_browse.specs.Attempts.{AreReadFor, Becomes, AttemptedAs, attempt_of}
+use Rattle.shop_browse.proofs.Attempting.{true_for, reads_only}
 use Rattle.shop_order.specs.Begun.{cart_reads, ReadsCart, begun_with, MakesOfCart}
 use Rattle.shop_order.specs.Changes.{put_lines, change_of, ChangesBy, AttemptsChange}
 use Rattle.shop_order.specs.Drafts.{IsCartOf, cart_draft}
 use Rattle.shop_order.specs.Lines.{ReadsItems, Exist, IsDraftBy}
 use Rattle.shop_order.proofs.Becoming.{becomes_page, asks_cart_alone}
 use Rattle.shop_order.proofs.Footprint.{call_reads, cart_alone}
-
-true_for : (start now : Seat) (asked : CartAsked) (draw : ℕ) (reads : List ReadOf) → AreReadFor start now (CartRequest asked) draw reads → AreTrue now.opening now.seen reads
-true_for start now asked draw [] are = tt
-true_for start now asked draw (read ∷ reads) are = (are.0.since.holds, true_for start now asked draw reads are.1)
-
-reads_only : (start now : Seat) (asked : CartAsked) (moment draw : ℕ) (reads : List ReadOf) → AreReadFor start now (CartRequest asked) draw reads
-    → IsAttempt start now (CartRequest asked) moment draw (reading moment draw reads)
-reads_only start now asked moment draw reads are = record {
-  at = refl;
-  drew = refl;
-  reads = are;
-  faithful = record { reads_are = true_for start now asked draw reads are; makes = tt };
-}
-
--- tables of the catalogue have as many items
-same_items : (opening t : Tables) → SameCatalogue opening t → length t.items ≡ length opening.items
-same_items opening t same =
-    sym (length-map t.items naming) ∙ ap (λ (c : Catalogue). length c.items) same ∙ length-map opening.items naming
 
 -- a refusal, and what no tables show
 
@@ -61,7 +42,7 @@ pub refused_attempt : (now : Seat) (asked : CartAsked) (moment draw items : ℕ)
 refused_attempt now asked moment draw items cart refusal result refuses is start size looked was =
     subst (AttemptedAs start now (CartRequest asked) moment draw) (sym is)
     (record {
-      attempts = reads_only start now asked moment draw (cart_reads cart) (cart_alone start now asked draw cart was);
+      attempts = reads_only start now (CartRequest asked) moment draw (cart_reads cart) (cart_alone start now asked draw cart was);
       drafts = λ t agrees.
           let same : check_cart t asked ≡ Some refusal
           = refuses t (same_items now.opening t agrees.catalogue ∙ ap (λ (u : Tables). length u.items) looked.follows.opening ∙ sym size) agrees.shows in
@@ -73,7 +54,7 @@ pub never_attempt : (now : Seat) (asked : CartAsked) (moment draw items : ℕ) (
 never_attempt now asked moment draw items cart result never is start size looked was =
     subst (AttemptedAs start now (CartRequest asked) moment draw) (sym is)
     (record {
-      attempts = reads_only start now asked moment draw (cart_reads cart) (cart_alone start now asked draw cart was);
+      attempts = reads_only start now (CartRequest asked) moment draw (cart_reads cart) (cart_alone start now asked draw cart was);
       reading = refl;
       never = λ t agrees. never t agrees.shows;
     })
@@ -164,7 +145,7 @@ module _ (start middle now : Seat) (asked : CartAsked) (moment draw items : ℕ)
 
   change_attempt : (page : Option Waiting) → IsDraftBy asked.ids lines rows page → AttemptedAs start now (CartRequest asked) moment draw (change_of asked lines (rows ++ cart_reads cart) moment draw page)
   change_attempt None never = record {
-    attempts = reads_only start now asked moment draw (rows ++ cart_reads cart) all_for;
+    attempts = reads_only start now (CartRequest asked) moment draw (rows ++ cart_reads cart) all_for;
     reading = refl;
     never = λ t agrees. never t (items_exist t asked draw lines agrees.sound (leaves_there t agrees)) (shows_append t rows (cart_reads cart) agrees.shows).0;
   }
@@ -174,7 +155,7 @@ module _ (start middle now : Seat) (asked : CartAsked) (moment draw items : ℕ)
       drew = refl;
       reads = all_for;
       faithful = record {
-        reads_are = true_for start now asked draw (rows ++ cart_reads cart) all_for;
+        reads_are = true_for start now (CartRequest asked) draw (rows ++ cart_reads cart) all_for;
         makes = λ t stamp agrees bound. makes_lines t stamp asked draw lines (leaves_there t agrees);
       };
     };

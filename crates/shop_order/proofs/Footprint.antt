@@ -18,10 +18,9 @@ use Rattle.shop_history.specs.Logs.{history, tables}
 use Rattle.shop_attempt.specs.declared.attempts.ReadOf.{ReadOf}
 use Rattle.shop_attempt.specs.Reads.{AreReadSince}
 use Rattle.shop_attempt.specs.Seats.{Seat, Looked}
-use Rattle.shop_attempt.proofs.Looks.{all_since_later}
+use Rattle.shop_attempt.proofs.Looks.{all_since_later, all_since_earlier}
 use Rattle.shop_browse.specs.Attempts.{AreReadFor}
 use Rattle.shop_browse.specs.Footprints.{drawn_item, IsAmong, WasOnCart, IsCartItem, InFootprint}
-use Rattle.shop_browse.proofs.Attempting.{since_earlier}
 use Rattle.shop_browse.proofs.Items.{same_size}
 use Rattle.shop_order.specs.Begun.{cart_reads, IsNamed, ReadsCart, lines_in, begun_with}
 use Rattle.shop_order.specs.Lines.{AreItems, ReadsItems}
@@ -48,11 +47,6 @@ cart_found (Some other) cart is = cc
 since_append : (start now : Seat) (one other : List ReadOf) → AreReadSince start now one → AreReadSince start now other → AreReadSince start now (one ++ other)
 since_append start now [] other are more = more
 since_append start now (read ∷ one) other are more = (are.0, since_append start now one other are.1 more)
-
-all_since_earlier : (start middle now : Seat) (reads : List ReadOf) → Looked start middle → Looked middle now → AreReadSince middle now reads → AreReadSince start now reads
-all_since_earlier start middle now [] first second are = tt
-all_since_earlier start middle now (read ∷ reads) first second are =
-    (since_earlier start middle now read first second are.0, all_since_earlier start middle now reads first second are.1)
 
 reads_for : (start now : Seat) (request : Request) (draw : ℕ) (reads : List ReadOf) → AreReadSince start now reads
     → All (λ r. InFootprint now.opening now.seen request draw r.key) reads → AreReadFor start now request draw reads

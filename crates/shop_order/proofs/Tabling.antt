@@ -1,12 +1,10 @@
 -- The rows of the table and their sum, from reads of the items.
-use Rattle.std.proofs.Common.{◌≡◌, ℕ, zero, suc, ◌+◌, ◌-◌, ◌*◌, ◌<◌, ◌≤◌, true, false, List, [], ◌∷◌, ◌++◌, length, map, take, get_or, Option, Some, None, option_map, unwrap_or, refl, sym, ◌∙◌, ap, subst, arith}
+use Rattle.std.proofs.Common.{◌≡◌, ℕ, ◌+◌, ◌*◌, ◌<◌, ◌≤◌, true, false, List, [], ◌∷◌, ◌++◌, length, map, take, get_or, Option, Some, None, option_map, unwrap_or, refl, sym, ◌∙◌, ap, arith}
 use Rattle.std.specs.List.{sum_by}
 use Rattle.std.proofs.Math.Nat.{mul-le-mul}
-use Rattle.std.proofs.lemmas.Bool.{cond-false, ne_eqb}
 use Rattle.std.proofs.lemmas.List.{append_assoc, length-map, get_or-map, map_more}
 use Rattle.std.proofs.lemmas.List.Elements.{All-nil, All-cons}
 use Rattle.std.proofs.lemmas.List.Sums.{sum_by_more}
-use Rattle.std.proofs.lemmas.Option.{slice_get-get_or}
 use Rattle.shop_model.specs.declared.tables.Tables.{Tables}
 use Rattle.shop_model.specs.Carts.{line_cells, line_cost}
 use Rattle.shop_model.specs.Lookups.{row_numbered, title_of, cost_of}
@@ -17,8 +15,10 @@ use Rattle.shop_history.specs.declared.keys.Key.TheVariants as key
 use Rattle.shop_history.specs.declared.keys.Row.{Row}
 use Rattle.shop_history.specs.declared.keys.Row.TheVariants as row
 use Rattle.shop_history.specs.Keys.{row_of, shown}
+use Rattle.shop_history.proofs.Places.{some_row}
 use Rattle.shop_attempt.specs.declared.attempts.ReadOf.{ReadOf}
 use Rattle.shop_attempt.specs.Reads.{Shows}
+use Rattle.shop_attempt.proofs.Looks.{shows_at}
 use Rattle.shop_browse.proofs.Items.{item_found}
 use Rattle.shop_order.specs.Lines.{AreItems, Exist, cells_of, AddsRows, cost_in}
 
@@ -38,15 +38,6 @@ row_added old new line item read key_is row_is added = λ t shows.
     = item_found (row_numbered t.items line.0) item (ap (row_of t) (sym key_is) ∙ shows.0 ∙ row_is) in
     added ∙ ap (λ (cells : List (List ℕ)). old ++ cells ∷ []) (sym (cells_shown t line item found))
 
--- an item that there is has a row
-
-some_row : {A : Type 0} (rows : List A) (id : ℕ) → Has (length rows) id → (x : A) × (row_numbered rows id ≡ Some x)
-some_row [] id has = absurd (omega (arith, has.first, has.last))
-some_row (x ∷ rows) id has = (
-  get_or (x ∷ rows) (id - 1) x,
-  cond-false _ _ _ (ne_eqb id 0 (λ e. omega (arith, e, has.first))) ∙ slice_get-get_or (x ∷ rows) (id - 1) x (omega (arith, has.first, has.last)),
-)
-
 pub no_row : (old new : List (List (List ℕ))) (line : ℕ × ℕ) (read : ReadOf) → read.key ≡ key.Item line.0 → ((item : ItemRow) → read.row ≡ row.Item item → ⊥)
     → AddsRows (line ∷ []) (read ∷ []) old new false
 no_row old new line read key_is other = λ t exist shows.
@@ -54,11 +45,6 @@ no_row old new line read key_is other = λ t exist shows.
     other there.0 (sym shows.0 ∙ ap (row_of t) key_is ∙ ap (shown row.Item) there.1)
 
 -- the lines of items that were read in order
-
-shows_at : (t : Tables) (reads : List ReadOf) (i : ℕ) (read : ReadOf) → i < length reads → read ≡ get_or reads i read → Shows t reads → row_of t read.key ≡ read.row
-shows_at t [] i read within at shows = absurd (omega (arith, within))
-shows_at t (first ∷ reads) zero read within at shows = subst (λ (r : ReadOf). row_of t r.key ≡ r.row) (sym at) shows.0
-shows_at t (first ∷ reads) (suc i) read within at shows = let behind : i < length reads = omega (arith, within) in shows_at t reads i read behind at shows.1
 
 pub as_many : (lines : List (ℕ × ℕ)) (items : List ReadOf) → AreItems lines items → length items ≡ length lines
 as_many lines items are = sym (length-map items (λ (r : ReadOf). r.key)) ∙ ap length are ∙ length-map lines (λ (l : ℕ × ℕ). key.Item l.0)

@@ -16,7 +16,7 @@ mod text;
 pub use days::{day_bytes, day_text};
 pub use fold::{fold_begins, fold_eq};
 pub use listed::Listed;
-pub use markup::{escape, escaped_len};
+pub use markup::escape;
 pub use memory::Memory;
 pub use money::cents_text;
 pub use syllables::{digsyl, digsyl_lower, syllable};

@@ -61,17 +61,3 @@ pub fn escape(alloc: Global, bytes: &[u8]) -> Result<Text, Memory>
     text.push_escaped(bytes)?;
     Ok(text)
 }
-
-/// The number of bytes with which these stand in the text of a page; takes no memory. `usize::MAX`
-/// stands for every larger number, and for none that memory could hold.
-pub fn escaped_len(bytes: &[u8]) -> usize
-    ensures { result ≡ min (length (spec.escape bytes.now)) usize.MAX }
-{
-    let mut len = bytes.len();
-    for byte in bytes {
-        if let Some(name) = entity(*byte) {
-            len = len.saturating_add(name.len() - 1);
-        }
-    }
-    len
-}
