@@ -1,7 +1,8 @@
 //! What a connection of caller 1 at the desk with seed 0 answers, and some of its replies.
 use shop_app::first_worker;
+use shop_book::Solo;
 use shop_edges::{BytesIn, BytesOut, ListClock};
-use shop_engine::{Point, PointKind, Report, serve_connection};
+use shop_engine::{Point, PointKind, Report, Worker, serve_connection};
 use shop_text::{Listed, Memory, Text};
 use std::alloc::Global;
 
@@ -30,6 +31,22 @@ Content-Length: 94\r\nConnection: close\r\n\r\n\
 </body></html>
 ";
 
+/// What a worker makes of an input that is read in pieces of so many bytes.
+fn served_by(
+    alloc: Global,
+    worker: &mut Worker<Solo>,
+    input: &[u8],
+    piece: usize,
+) -> Result<(Report, BytesOut), Memory> {
+    let bytes = Text::copy(alloc, input)?;
+    let mut source = BytesIn::new(bytes, piece.max(1), Listed::new(alloc));
+    let mut sink = BytesOut::new(alloc, 1_000_000, Listed::new(alloc));
+    let readings = Listed::from_vec(Vec::from_slice(alloc, &[1_000])?);
+    let mut clock = ListClock::new(alloc, readings)?;
+    let report = serve_connection(alloc, worker, &mut source, &mut sink, &mut clock);
+    Ok((report, sink))
+}
+
 /// What comes of an input that is read in pieces of so many bytes.
 pub(crate) fn served(
     alloc: Global,
@@ -37,13 +54,17 @@ pub(crate) fn served(
     piece: usize,
 ) -> Result<(Report, BytesOut), Memory> {
     let mut worker = first_worker(alloc)?;
-    let bytes = Text::copy(alloc, input)?;
-    let mut source = BytesIn::new(bytes, piece.max(1), Listed::new(alloc));
-    let mut sink = BytesOut::new(alloc, 1_000_000, Listed::new(alloc));
-    let readings = Listed::from_vec(Vec::from_slice(alloc, &[1_000])?);
-    let mut clock = ListClock::new(alloc, readings)?;
-    let report = serve_connection(alloc, &mut worker, &mut source, &mut sink, &mut clock);
-    Ok((report, sink))
+    served_by(alloc, &mut worker, input, piece)
+}
+
+/// What a worker writes for an input that is read at once.
+pub(crate) fn written(
+    alloc: Global,
+    worker: &mut Worker<Solo>,
+    input: &[u8],
+) -> Result<BytesOut, Memory> {
+    let (_, sink) = served_by(alloc, worker, input, 1_000_000)?;
+    Ok(sink)
 }
 
 /// Whether this is what one connection writes, a byte at a time and at once.

@@ -11,17 +11,19 @@ User-Agent: Browser\r\nAccept: text/html\r\nSec-Fetch-Site: none\r\nSec-Fetch-Mo
 Sec-Fetch-User: ?1\r\nSec-Fetch-Dest: document\r\nAccept-Encoding: gzip\r\n\
 Accept-Language: en\r\n\r\n";
 
-const CURL: &[u8] = b"GET /product_detail?item=1 HTTP/1.1\r\nHost: 127.0.0.1:18081\r\n\
+pub(crate) const CURL: &[u8] = b"GET /product_detail?item=1 HTTP/1.1\r\nHost: 127.0.0.1:18081\r\n\
 User-Agent: curl/7.88.1\r\nAccept: */*\r\n\r\n";
 
-const FIREFOX: &[u8] = b"GET /product_detail?item=1 HTTP/1.1\r\nHost: 127.0.0.1:18081\r\n\
+pub(crate) const FIREFOX: &[u8] =
+    b"GET /product_detail?item=1 HTTP/1.1\r\nHost: 127.0.0.1:18081\r\n\
 User-Agent: Mozilla/5.0 (X11; Linux x86_64; rv:153.0) Gecko/20100101 Firefox/153.0\r\n\
 Accept: text/html,application/xhtml+xml,application/xml;q=0.9,*/*;q=0.8\r\n\
 Accept-Language: en-US,en;q=0.9\r\nAccept-Encoding: gzip, deflate, br, zstd\r\n\
 Connection: keep-alive\r\nUpgrade-Insecure-Requests: 1\r\nSec-Fetch-Dest: document\r\n\
 Sec-Fetch-Mode: navigate\r\nSec-Fetch-Site: none\r\nPriority: u=0, i\r\n\r\n";
 
-const CHROMIUM: &[u8] = b"GET /product_detail?item=1 HTTP/1.1\r\nHost: 127.0.0.1:18081\r\n\
+pub(crate) const CHROMIUM: &[u8] =
+    b"GET /product_detail?item=1 HTTP/1.1\r\nHost: 127.0.0.1:18081\r\n\
 Connection: keep-alive\r\nsec-ch-ua: \"Not:A-Brand\";v=\"8\", \"Chromium\";v=\"156\"\r\n\
 sec-ch-ua-mobile: ?0\r\nsec-ch-ua-platform: \"Linux\"\r\nUpgrade-Insecure-Requests: 1\r\n\
 User-Agent: Mozilla/5.0 (X11; Linux x86_64) AppleWebKit/537.36 (KHTML, like Gecko) \

@@ -4,6 +4,8 @@
 #[cfg(test)]
 mod answers;
 #[cfg(test)]
+mod carts;
+#[cfg(test)]
 mod heads;
 #[cfg(test)]
 mod lists;
