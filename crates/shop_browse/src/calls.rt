@@ -1,4 +1,4 @@
-ghost use Rattle.std.specs.Prelude.{◌≡◌, None, length};
+ghost use Rattle.std.specs.Prelude.{◌≡◌, None, IfOk, length};
 ghost use Rattle.shop_model.specs.Catalogues.{catalogue};
 ghost use Rattle.shop_attempt.specs.Marks.{StillMarked};
 ghost use Rattle.shop_attempt.specs.Seats.{Looked};
@@ -13,7 +13,33 @@ use crate::search_results::search_results;
 use crate::{Ask, Attempted};
 use shop_attempt::Store;
 use shop_model::Request;
+use shop_text::Memory;
 use std::alloc::Global;
+
+/// The attempt at a request that only reads.
+fn answer<St: Store>(
+    alloc: Global,
+    store: &mut St,
+    ask: &Ask,
+    request: &Request,
+) -> Result<Attempted, Memory>
+    requires reading { act_of request.now ask.now.draw ≡ None }
+    requires index { ask.now.index.now ≡ catalogue (St.seat store.old).opening }
+    requires scale { ask.now.scale.now.items ≡ length (St.seat store.old).opening.items }
+    ensures looked { Looked (St.seat store.old) (St.seat store.new) }
+    ensures marks { StillMarked (St.marked store.old) (St.marked store.new) }
+    ensures attempted { IfOk result (AttemptedAs (St.seat store.old) (St.seat store.new) request.now ask.now.moment ask.now.draw) }
+{
+    match request {
+        Request::Home(asked) => home(alloc, store, ask, asked),
+        Request::NewProducts(asked) => new_products(alloc, store, ask, asked),
+        Request::BestSellers(asked) => best_sellers(alloc, store, ask, asked),
+        Request::ProductDetail(asked) => product_detail(alloc, store, ask, asked),
+        Request::SearchRequest(asked) => search_request(alloc, store, ask, asked),
+        Request::SearchResults(asked) => search_results(alloc, store, ask, asked),
+        Request::CartRequest(_) => unreachable!(),
+    }
+}
 
 /// An attempt at what a request asks for that only reads.
 pub fn attempt<St: Store>(alloc: Global, store: &mut St, ask: &Ask, request: &Request) -> Attempted
@@ -24,13 +50,8 @@ pub fn attempt<St: Store>(alloc: Global, store: &mut St, ask: &Ask, request: &Re
     ensures marks { StillMarked (St.marked store.old) (St.marked store.new) }
     ensures attempted { AttemptedAs (St.seat store.old) (St.seat store.new) request.now ask.now.moment ask.now.draw result }
 {
-    match request {
-        Request::Home(asked) => home(alloc, store, ask, asked),
-        Request::NewProducts(asked) => new_products(alloc, store, ask, asked),
-        Request::BestSellers(asked) => best_sellers(alloc, store, ask, asked),
-        Request::ProductDetail(asked) => product_detail(alloc, store, ask, asked),
-        Request::SearchRequest(asked) => search_request(alloc, store, ask, asked),
-        Request::SearchResults(asked) => search_results(alloc, store, ask, asked),
-        Request::CartRequest(_) => unreachable!(),
+    match answer(alloc, store, ask, request) {
+        Ok(attempted) => attempted,
+        Err(Memory) => Attempted::Memory,
     }
 }

@@ -164,7 +164,8 @@ fn greet<St: Store>(
     }
 }
 
-fn answer<St: Store>(
+/// The promotion, and a greeting for the customer whose number was given.
+pub(crate) fn home<St: Store>(
     alloc: Global,
     store: &mut St,
     ask: &Ask,
@@ -179,19 +180,5 @@ fn answer<St: Store>(
     match asked.ids.c {
         None => welcome(alloc, store, ask, asked),
         Some(number) => greet(alloc, store, ask, asked, number),
-    }
-}
-
-/// The promotion, and a greeting for the customer whose number was given.
-pub(crate) fn home<St: Store>(alloc: Global, store: &mut St, ask: &Ask, asked: &Home) -> Attempted
-    requires index { ask.now.index.now ≡ catalogue (St.seat store.old).opening }
-    requires scale { ask.now.scale.now.items ≡ length (St.seat store.old).opening.items }
-    ensures looked { Looked (St.seat store.old) (St.seat store.new) }
-    ensures marks { StillMarked (St.marked store.old) (St.marked store.new) }
-    ensures attempted { AttemptedAs (St.seat store.old) (St.seat store.new) (Request.Home asked.now) ask.now.moment ask.now.draw result }
-{
-    match answer(alloc, store, ask, asked) {
-        Ok(attempted) => attempted,
-        Err(Memory) => Attempted::Memory,
     }
 }

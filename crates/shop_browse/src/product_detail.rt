@@ -185,7 +185,8 @@ fn listed(alloc: Global, reads: ItemReads) -> Result<Listed<ReadOf>, Memory>
     Ok(list)
 }
 
-fn answer<St: Store>(
+/// The page of the item with this number.
+pub(crate) fn product_detail<St: Store>(
     alloc: Global,
     store: &mut St,
     ask: &Ask,
@@ -199,23 +200,4 @@ fn answer<St: Store>(
     let reads = read_item(store, asked)?;
     let page = page_of(alloc, asked, &reads)?;
     Ok(attempt_of(listed(alloc, reads)?, ask, page))
-}
-
-/// The page of the item with this number.
-pub(crate) fn product_detail<St: Store>(
-    alloc: Global,
-    store: &mut St,
-    ask: &Ask,
-    asked: &ProductDetail,
-) -> Attempted
-    requires index { ask.now.index.now ≡ catalogue (St.seat store.old).opening }
-    requires scale { ask.now.scale.now.items ≡ length (St.seat store.old).opening.items }
-    ensures looked { Looked (St.seat store.old) (St.seat store.new) }
-    ensures marks { StillMarked (St.marked store.old) (St.marked store.new) }
-    ensures attempted { AttemptedAs (St.seat store.old) (St.seat store.new) (Request.ProductDetail asked.now) ask.now.moment ask.now.draw result }
-{
-    match answer(alloc, store, ask, asked) {
-        Ok(attempted) => attempted,
-        Err(Memory) => Attempted::Memory,
-    }
 }

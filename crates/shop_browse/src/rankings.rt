@@ -63,7 +63,8 @@ fn attempt_list<St: Store>(
     Ok(attempt_of(reads, ask, page))
 }
 
-fn try_new_products<St: Store>(
+/// An attempt at the newest items of a subject.
+pub(crate) fn new_products<St: Store>(
     alloc: Global,
     store: &mut St,
     ask: &Ask,
@@ -79,26 +80,8 @@ fn try_new_products<St: Store>(
     attempt_list(alloc, store, ask, key, b"New Products", head, asked.ids)
 }
 
-/// An attempt at the newest items of a subject.
-pub(crate) fn new_products<St: Store>(
-    alloc: Global,
-    store: &mut St,
-    ask: &Ask,
-    asked: &NewProducts,
-) -> Attempted
-    requires index { ask.now.index.now ≡ catalogue (St.seat store.old).opening }
-    requires scale { ask.now.scale.now.items ≡ length (St.seat store.old).opening.items }
-    ensures looked { Looked (St.seat store.old) (St.seat store.new) }
-    ensures marks { StillMarked (St.marked store.old) (St.marked store.new) }
-    ensures attempted { AttemptedAs (St.seat store.old) (St.seat store.new) (Request.NewProducts asked.now) ask.now.moment ask.now.draw result }
-{
-    match try_new_products(alloc, store, ask, asked) {
-        Ok(attempted) => attempted,
-        Err(Memory) => Attempted::Memory,
-    }
-}
-
-fn try_best_sellers<St: Store>(
+/// An attempt at the best sold items of a subject.
+pub(crate) fn best_sellers<St: Store>(
     alloc: Global,
     store: &mut St,
     ask: &Ask,
@@ -112,23 +95,4 @@ fn try_best_sellers<St: Store>(
     let key = Key::BestIn(asked.subject);
     let head = subject_heading(alloc, b"Best ", asked.subject)?;
     attempt_list(alloc, store, ask, key, b"Best Sellers", head, asked.ids)
-}
-
-/// An attempt at the best sold items of a subject.
-pub(crate) fn best_sellers<St: Store>(
-    alloc: Global,
-    store: &mut St,
-    ask: &Ask,
-    asked: &BestSellers,
-) -> Attempted
-    requires index { ask.now.index.now ≡ catalogue (St.seat store.old).opening }
-    requires scale { ask.now.scale.now.items ≡ length (St.seat store.old).opening.items }
-    ensures looked { Looked (St.seat store.old) (St.seat store.new) }
-    ensures marks { StillMarked (St.marked store.old) (St.marked store.new) }
-    ensures attempted { AttemptedAs (St.seat store.old) (St.seat store.new) (Request.BestSellers asked.now) ask.now.moment ask.now.draw result }
-{
-    match try_best_sellers(alloc, store, ask, asked) {
-        Ok(attempted) => attempted,
-        Err(Memory) => Attempted::Memory,
-    }
 }

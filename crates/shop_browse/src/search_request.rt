@@ -77,7 +77,8 @@ fn search_page(alloc: Global, promotion: &Promotion, ids: IdsAsked) -> Result<Op
     }
 }
 
-fn answer<St: Store>(
+/// The promotion and a form to search with; the customer isn't looked at.
+pub(crate) fn search_request<St: Store>(
     alloc: Global,
     store: &mut St,
     ask: &Ask,
@@ -92,23 +93,4 @@ fn answer<St: Store>(
     let promotion = read_promotion(alloc, store, ask)?;
     let page = search_page(alloc, &promotion, asked.ids)?;
     Ok(attempt_of(promotion.into_reads()?, ask, page))
-}
-
-/// The promotion and a form to search with; the customer isn't looked at.
-pub(crate) fn search_request<St: Store>(
-    alloc: Global,
-    store: &mut St,
-    ask: &Ask,
-    asked: &SearchRequest,
-) -> Attempted
-    requires index { ask.now.index.now ≡ catalogue (St.seat store.old).opening }
-    requires scale { ask.now.scale.now.items ≡ length (St.seat store.old).opening.items }
-    ensures looked { Looked (St.seat store.old) (St.seat store.new) }
-    ensures marks { StillMarked (St.marked store.old) (St.marked store.new) }
-    ensures attempted { AttemptedAs (St.seat store.old) (St.seat store.new) (Request.SearchRequest asked.now) ask.now.moment ask.now.draw result }
-{
-    match answer(alloc, store, ask, asked) {
-        Ok(attempted) => attempted,
-        Err(Memory) => Attempted::Memory,
-    }
 }

@@ -33,7 +33,8 @@ fn search_heading(alloc: Global, asked: &SearchResults) -> Result<Listed<Block>,
     Ok(head)
 }
 
-fn try_search_results<St: Store>(
+/// An attempt at what a search finds.
+pub(crate) fn search_results<St: Store>(
     alloc: Global,
     store: &mut St,
     ask: &Ask,
@@ -58,23 +59,4 @@ fn try_search_results<St: Store>(
         labels.as_slice(),
     )?;
     Ok(attempt_of(labels, ask, page))
-}
-
-/// An attempt at what a search finds.
-pub(crate) fn search_results<St: Store>(
-    alloc: Global,
-    store: &mut St,
-    ask: &Ask,
-    asked: &SearchResults,
-) -> Attempted
-    requires index { ask.now.index.now ≡ catalogue (St.seat store.old).opening }
-    requires scale { ask.now.scale.now.items ≡ length (St.seat store.old).opening.items }
-    ensures looked { Looked (St.seat store.old) (St.seat store.new) }
-    ensures marks { StillMarked (St.marked store.old) (St.marked store.new) }
-    ensures attempted { AttemptedAs (St.seat store.old) (St.seat store.new) (Request.SearchResults asked.now) ask.now.moment ask.now.draw result }
-{
-    match try_search_results(alloc, store, ask, asked) {
-        Ok(attempted) => attempted,
-        Err(Memory) => Attempted::Memory,
-    }
 }

@@ -1,5 +1,5 @@
 use Rattle.shop_browse.proofs.ListReads.{new_attempted}
-use Rattle.shop_browse.proofs.rankings.try_new_products.Goals as goal
+use Rattle.shop_browse.proofs.rankings.new_products.Goals as goal
 
 pub returns-clause-attempted : goal.returns-clause-attempted
 returns-clause-attempted g c =

@@ -1,5 +1,5 @@
 use Rattle.shop_browse.proofs.ListReads.{best_attempted}
-use Rattle.shop_browse.proofs.rankings.try_best_sellers.Goals as goal
+use Rattle.shop_browse.proofs.rankings.best_sellers.Goals as goal
 
 pub returns-clause-attempted : goal.returns-clause-attempted
 returns-clause-attempted g c =

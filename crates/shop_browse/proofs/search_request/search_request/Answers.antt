@@ -3,7 +3,7 @@ use Rattle.shop_model.specs.declared.requests.Request.TheVariants.{SearchRequest
 use Rattle.shop_browse.specs.Promotions.{promotion_reads}
 use Rattle.shop_browse.proofs.Items.{attempted_from}
 use Rattle.shop_browse.proofs.Pages.{search_shown}
-use Rattle.shop_browse.proofs.search_request.answer.Goals as goal
+use Rattle.shop_browse.proofs.search_request.search_request.Goals as goal
 
 pub returns-clause-attempted : goal.returns-clause-attempted
 returns-clause-attempted g c =

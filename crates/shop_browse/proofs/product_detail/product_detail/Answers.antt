@@ -1,7 +1,7 @@
 use Rattle.std.proofs.Common.{refl}
 use Rattle.shop_browse.specs.Products.{product_reads}
 use Rattle.shop_browse.proofs.Items.{attempted_from}
-use Rattle.shop_browse.proofs.product_detail.answer.Goals as goal
+use Rattle.shop_browse.proofs.product_detail.product_detail.Goals as goal
 
 pub returns-clause-attempted : goal.returns-clause-attempted
 returns-clause-attempted g c =

@@ -3,7 +3,7 @@ use Rattle.shop_model.specs.declared.requests.Request.TheVariants.{SearchResults
 use Rattle.shop_model.specs.Catalogues.{found}
 use Rattle.shop_browse.specs.Attempts.{AttemptedAs}
 use Rattle.shop_browse.proofs.ListReads.{found_attempted}
-use Rattle.shop_browse.proofs.search_results.try_search_results.Goals as goal
+use Rattle.shop_browse.proofs.search_results.search_results.Goals as goal
 
 pub returns-clause-attempted : goal.returns-clause-attempted
 returns-clause-attempted g c =
