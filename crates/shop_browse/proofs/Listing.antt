@@ -1,6 +1,6 @@
 -- The lines of lists, from reads of labels.
 use Rattle.std.proofs.Common.{Bool, Result, IfOk, ◌≡◌, ℕ, ◌+◌, ◌<◌, true, false, List, [], ◌∷◌, ◌++◌, length, map, take, get_or, All, Option, Some, None, option_map, unwrap_or, codes, refl, sym, ◌∙◌, ap, arith}
-use Rattle.std.proofs.lemmas.List.{append_assoc, map-append, length-map, get_or-map, take_more}
+use Rattle.std.proofs.lemmas.List.{append_assoc, map-append, take_more}
 use Rattle.std.proofs.lemmas.List.Elements.{All-nil, All-cons}
 use Rattle.shop_model.specs.declared.page.Block.{Block}
 use Rattle.shop_model.specs.declared.page.Block.TheVariants.{Para}
@@ -11,7 +11,6 @@ use Rattle.shop_model.specs.Lookups.{row_numbered, author_of}
 use Rattle.shop_model.specs.Rows.{ItemRow}
 use Rattle.shop_model.specs.Sound.{Has}
 use Rattle.shop_model.specs.Targets.{item_link}
-use Rattle.shop_history.specs.declared.keys.Key.{Key}
 use Rattle.shop_history.specs.declared.keys.Key.TheVariants as key
 use Rattle.shop_history.specs.declared.keys.Label.{Label}
 use Rattle.shop_history.specs.declared.keys.Row.{Row}
@@ -20,9 +19,9 @@ use Rattle.shop_history.specs.Keys.{shown, label_of, row_of}
 use Rattle.shop_history.proofs.Places.{some_row}
 use Rattle.shop_attempt.specs.declared.attempts.ReadOf.{ReadOf}
 use Rattle.shop_attempt.specs.Reads.{Shows}
-use Rattle.shop_attempt.proofs.Looks.{shows_at}
 use Rattle.shop_browse.specs.Lists.{AreLabels, AddsShown}
 use Rattle.shop_browse.proofs.Items.{same_label}
+use Rattle.shop_browse.proofs.Keyed.{shown_at}
 
 -- a row that shows a label
 
@@ -55,17 +54,6 @@ no_line old new ids item read key_is other = λ t have shows.
 
 -- the lines of items whose labels were read
 
-as_many : (items : List ℕ) (labels : List ReadOf) → AreLabels items labels → length labels ≡ length items
-as_many items labels are = sym (length-map labels (λ (r : ReadOf). r.key)) ∙ ap length are ∙ length-map items key.Label
-
-pub key_at : (items : List ℕ) (labels : List ReadOf) (i : ℕ) (read : ReadOf) → AreLabels items labels → i < length items → read ≡ get_or labels i read → read.key ≡ key.Label (get_or items i 0)
-key_at items labels i read are within at =
-    let behind : i < length labels = omega (arith, within, as_many items labels are) in
-    ap (λ (r : ReadOf). r.key) at
-    ∙ sym (get_or-map (λ (r : ReadOf). r.key) labels i read read.key behind)
-    ∙ ap (λ (keys : List Key). get_or keys i read.key) are
-    ∙ get_or-map key.Label items i 0 read.key within
-
 pub lines_more : (old blocks new : List Block) (ids : IdsAsked) (items : List ℕ) (i : ℕ) (labels : List ReadOf) (read : ReadOf) → AreLabels items labels → i < length items → read ≡ get_or labels i read
     → ((t : Tables) → Shows t labels → blocks ≡ old ++ map (list_line t ids) (take i items))
     → AddsShown (λ t. list_line t ids (get_or items i 0) ∷ []) (get_or items i 0 ∷ []) (read ∷ []) blocks new true
@@ -73,8 +61,7 @@ pub lines_more : (old blocks new : List Block) (ids : IdsAsked) (items : List �
 lines_more old blocks new ids items i labels read are within at so_far added t shows =
     let item : ℕ = get_or items i 0 in
     let lines : List Block = map (list_line t ids) (take i items) in
-    let behind : i < length labels = omega (arith, within, as_many items labels are) in
-    added t (shows_at t labels i read behind at shows, tt)
+    added t (shown_at key.Label items labels are t i read within at shows, tt)
     ∙ ap (λ (b : List Block). b ++ list_line t ids item ∷ []) (so_far t shows)
     ∙ append_assoc old lines (list_line t ids item ∷ [])
     ∙ ap (λ (b : List Block). old ++ b) (sym (map-append (list_line t ids) (take i items) (item ∷ [])))
@@ -84,9 +71,8 @@ pub none_at : (blocks new : List Block) (lines : Tables → List Block) (items :
     → AddsShown lines (get_or items i 0 ∷ []) (read ∷ []) blocks new false
     → (t : Tables) → All (Has (length t.items)) items → Shows t labels → ⊥
 none_at blocks new lines items i labels read are within at never t have shows =
-    let behind : i < length labels = omega (arith, within, as_many items labels are) in
     let has : ℕ → Type 0 = Has (length t.items) in
-    never t (All-cons has (get_or items i 0) [] (have i 0 within) (All-nil has)) (shows_at t labels i read behind at shows, tt)
+    never t (All-cons has (get_or items i 0) [] (have i 0 within) (All-nil has)) (shown_at key.Label items labels are t i read within at shows, tt)
 
 -- all lines, or the word for none
 

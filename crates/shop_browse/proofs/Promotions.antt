@@ -1,7 +1,7 @@
 -- The reads of a promotion, and what they show.
 use Rattle.std.proofs.Common.{◌≡◌, ℕ, ◌+◌, ◌%◌, ◌<◌, ◌≤◌, true, false, Bool, List, [], ◌∷◌, ◌++◌, length, map, take, get_or, All, Option, Some, None, option_map, unwrap_or, codes, refl, sym, ◌∙◌, ap, subst, inl, arith}
 use Rattle.std.proofs.Math.Nat.{mod-lt}
-use Rattle.std.proofs.lemmas.List.{append_assoc, map-append, take_more, take_all, length-map, get_or-map}
+use Rattle.std.proofs.lemmas.List.{append_assoc, map-append, take_more, take_all}
 use Rattle.shop_model.specs.declared.page.Block.{Block}
 use Rattle.shop_model.specs.declared.requests.IdsAsked.{IdsAsked}
 use Rattle.shop_model.specs.declared.tables.Tables.{Tables}
@@ -10,7 +10,6 @@ use Rattle.shop_model.specs.Rows.{ItemRow}
 use Rattle.shop_model.specs.Show.{promoted, promo}
 use Rattle.shop_model.specs.Sound.{Sound, Has}
 use Rattle.shop_model.specs.Targets.{item_link}
-use Rattle.shop_history.specs.declared.keys.Key.{Key}
 use Rattle.shop_history.specs.declared.keys.Key.TheVariants as key
 use Rattle.shop_history.specs.declared.keys.Label.{Label}
 use Rattle.shop_history.specs.declared.keys.Row.{Row}
@@ -29,6 +28,7 @@ use Rattle.shop_browse.specs.Footprints.{drawn_item, IsAbout}
 use Rattle.shop_browse.specs.Promotions.{related_in, ArePromotionReads, ShowsLabels, IsLinkOf, AddsFirst, Added, AddsLinks, AddsPromotion}
 use Rattle.shop_browse.proofs.Attempting.{for_push}
 use Rattle.shop_browse.proofs.Items.{same_size, item_found}
+use Rattle.shop_browse.proofs.Keyed.{as_many, key_at}
 use Rattle.shop_browse.proofs.Labelling.{read_since, labels_for}
 
 -- the item that a word draws
@@ -95,20 +95,11 @@ no_link ids read apart t id has key_is shows =
 
 -- one label of several
 
-as_many : (t : Tables) (items : List ℕ) (labels : List ReadOf) → ShowsLabels t items labels → length labels ≡ length items
-as_many t items labels shows =
-    let keys : length (map (λ (r : ReadOf). r.key) labels) ≡ length labels = length-map labels (λ (r : ReadOf). r.key) in
-    let ids : length (map key.Label items) ≡ length items = length-map items key.Label in
-    sym keys ∙ ap length shows.keys ∙ ids
-
 link_at : (t : Tables) (ids : IdsAsked) (items : List ℕ) (labels : List ReadOf) (i : ℕ) (read : ReadOf) (link : Option Block) → i < length labels → read ≡ get_or labels i read
     → ShowsLabels t items labels → IsLinkOf ids read link → link ≡ Some (promoted t ids (get_or items i 0))
 link_at t ids items labels i read link lt is shows links =
-    let within : i < length items = omega (arith, lt, as_many t items labels shows) in
-    let key_is : read.key ≡ key.Label (get_or items i 0)
-    = ap (λ (r : ReadOf). r.key) is ∙ sym (get_or-map (λ (r : ReadOf). r.key) labels i read read.key lt) ∙ ap (λ (keys : List Key). get_or keys i read.key) shows.keys
-    ∙ get_or-map key.Label items i 0 read.key within in
-    links t (get_or items i 0) (shows.there i 0 within) key_is (shows_at t labels i read lt is shows.shows)
+    let within : i < length items = omega (arith, lt, as_many key.Label items labels shows.keys) in
+    links t (get_or items i 0) (shows.there i 0 within) (key_at key.Label items labels shows.keys i 0 read within is) (shows_at t labels i read lt is shows.shows)
 
 pub none_some : {A : Type 0} (o : Option A) (x : A) → o ≡ None → o ≡ Some x → ⊥
 none_some o x none some = let apart : None ≡ Some x = sym none ∙ some in absurd cc
@@ -128,7 +119,7 @@ one_link_more ids labels i read found link old before after lt is links is_link 
     let x : ℕ = get_or items i 0 in
     let done : List Block = map f (take i items) in
     let link_is : link ≡ f x = same_some link (f x) (sym is_link ∙ link_at t ids items labels i read found lt is shows links) in
-    let more : take (i + 1) items ≡ take i items ++ x ∷ [] = take_more items i 0 (omega (arith, lt, as_many t items labels shows)) in
+    let more : take (i + 1) items ≡ take i items ++ x ∷ [] = take_more items i 0 (omega (arith, lt, as_many key.Label items labels shows.keys)) in
     let all : map f (take (i + 1) items) ≡ done ++ f x ∷ [] = ap (map f) more ∙ map-append f (take i items) (x ∷ []) in
     pushed ∙ ap (λ (b : List Block). b ++ link ∷ []) (so_far t items shows) ∙ append_assoc old done (link ∷ []) ∙ ap (λ (b : Block). old ++ (done ++ b ∷ [])) link_is
     ∙ ap (λ (b : List Block). old ++ b) (sym all)
@@ -136,7 +127,7 @@ one_link_more ids labels i read found link old before after lt is links is_link 
 pub all_links : (ids : IdsAsked) (labels : List ReadOf) (i : ℕ) (old now : List Block) → length labels ≤ i → AddsFirst ids labels i old now → AddsLinks ids labels old now true
 all_links ids labels i old now past so_far t items shows = record {
   all_are = refl;
-  added = so_far t items shows ∙ ap (λ (l : List ℕ). old ++ map (promoted t ids) l) (take_all i items (omega (arith, past, as_many t items labels shows)));
+  added = so_far t items shows ∙ ap (λ (l : List ℕ). old ++ map (promoted t ids) l) (take_all i items (omega (arith, past, as_many key.Label items labels shows.keys)));
 }
 
 -- the links of a promotion

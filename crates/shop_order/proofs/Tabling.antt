@@ -2,7 +2,7 @@
 use Rattle.std.proofs.Common.{◌≡◌, ℕ, ◌+◌, ◌*◌, ◌<◌, ◌≤◌, true, false, List, [], ◌∷◌, ◌++◌, length, map, take, get_or, Option, Some, None, option_map, unwrap_or, refl, sym, ◌∙◌, ap, arith}
 use Rattle.std.specs.List.{sum_by}
 use Rattle.std.proofs.Math.Nat.{mul-le-mul}
-use Rattle.std.proofs.lemmas.List.{append_assoc, length-map, get_or-map, map_more}
+use Rattle.std.proofs.lemmas.List.{append_assoc, map_more}
 use Rattle.std.proofs.lemmas.List.Elements.{All-nil, All-cons}
 use Rattle.std.proofs.lemmas.List.Sums.{sum_by_more}
 use Rattle.shop_model.specs.declared.tables.Tables.{Tables}
@@ -10,7 +10,6 @@ use Rattle.shop_model.specs.Carts.{line_cells, line_cost}
 use Rattle.shop_model.specs.Lookups.{row_numbered, title_of, cost_of}
 use Rattle.shop_model.specs.Rows.{ItemRow}
 use Rattle.shop_model.specs.Sound.{Has}
-use Rattle.shop_history.specs.declared.keys.Key.{Key}
 use Rattle.shop_history.specs.declared.keys.Key.TheVariants as key
 use Rattle.shop_history.specs.declared.keys.Row.{Row}
 use Rattle.shop_history.specs.declared.keys.Row.TheVariants as row
@@ -18,8 +17,8 @@ use Rattle.shop_history.specs.Keys.{row_of, shown}
 use Rattle.shop_history.proofs.Places.{some_row}
 use Rattle.shop_attempt.specs.declared.attempts.ReadOf.{ReadOf}
 use Rattle.shop_attempt.specs.Reads.{Shows}
-use Rattle.shop_attempt.proofs.Looks.{shows_at}
 use Rattle.shop_browse.proofs.Items.{item_found}
+use Rattle.shop_browse.proofs.Keyed.{key_at, shown_at}
 use Rattle.shop_order.specs.Lines.{AreItems, Exist, cells_of, AddsRows, cost_in}
 
 -- the line of an item that was read
@@ -46,20 +45,9 @@ no_row old new line read key_is other = λ t exist shows.
 
 -- the lines of items that were read in order
 
-pub as_many : (lines : List (ℕ × ℕ)) (items : List ReadOf) → AreItems lines items → length items ≡ length lines
-as_many lines items are = sym (length-map items (λ (r : ReadOf). r.key)) ∙ ap length are ∙ length-map lines (λ (l : ℕ × ℕ). key.Item l.0)
-
 -- the line at a place
 abbrev pub line_at : List (ℕ × ℕ) → ℕ → ℕ × ℕ
 line_at lines i = get_or lines i (0, 0)
-
-pub key_at : (lines : List (ℕ × ℕ)) (items : List ReadOf) (i : ℕ) (read : ReadOf) → AreItems lines items → i < length lines → read ≡ get_or items i read → read.key ≡ key.Item (line_at lines i).0
-key_at lines items i read are within at =
-    let behind : i < length items = omega (arith, within, as_many lines items are) in
-    ap (λ (r : ReadOf). r.key) at
-    ∙ sym (get_or-map (λ (r : ReadOf). r.key) items i read read.key behind)
-    ∙ ap (λ (keys : List Key). get_or keys i read.key) are
-    ∙ get_or-map (λ (l : ℕ × ℕ). key.Item l.0) lines i (0, 0) read.key within
 
 -- what a line costs
 cost_shown : (o : Option ItemRow) (r : Row) → shown row.Item o ≡ r → unwrap_or (option_map (λ i. i.cost) o) 0 ≡ cost_in r
@@ -69,9 +57,7 @@ cost_shown (Some item) r is = ap cost_in is
 -- one line more, whose item was read
 module _ (lines : List (ℕ × ℕ)) (items : List ReadOf) (i : ℕ) (read : ReadOf) (are : AreItems lines items) (within : i < length lines) (at : read ≡ get_or items i read) where
   shown_here : (t : Tables) → Shows t items → row_of t read.key ≡ read.row
-  shown_here t shows =
-      let behind : i < length items = omega (arith, within, as_many lines items are) in
-      shows_at t items i read behind at shows
+  shown_here t shows = shown_at (λ (l : ℕ × ℕ). key.Item l.0) lines items are t i read within at shows
 
   pub rows_more : (old rows new : List (List (List ℕ))) → ((t : Tables) → Shows t items → rows ≡ old ++ map (line_cells t) (take i lines))
       → AddsRows (line_at lines i ∷ []) (read ∷ []) rows new true → (t : Tables) → Shows t items → new ≡ old ++ map (line_cells t) (take (i + 1) lines)
@@ -92,7 +78,7 @@ module _ (lines : List (ℕ × ℕ)) (items : List ReadOf) (i : ℕ) (read : Rea
       → (t : Tables) → Shows t items → sum + cost ≡ sum_by (line_cost t) (take (i + 1) lines)
   sum_more sum cost cost_is so_far t shows =
       let line : ℕ × ℕ = line_at lines i in
-      let key_is : read.key ≡ key.Item line.0 = key_at lines items i read are within at in
+      let key_is : read.key ≡ key.Item line.0 = key_at (λ (l : ℕ × ℕ). key.Item l.0) lines items are i (0, 0) read within at in
       let one : cost_of t line.0 ≡ cost_in read.row = cost_shown (row_numbered t.items line.0) read.row (ap (row_of t) (sym key_is) ∙ shown_here t shows) in
       ap (λ n. n + cost) (so_far t shows)
       ∙ ap (λ n. sum_by (line_cost t) (take i lines) + n) (cost_is ∙ ap (λ n. n * line.1) (sym one))

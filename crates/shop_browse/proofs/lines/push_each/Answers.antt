@@ -2,12 +2,14 @@ use Rattle.std.proofs.Common.{◌∷◌, [], subst, get_or}
 use Rattle.shop_model.specs.declared.tables.Tables.{Tables}
 use Rattle.shop_model.specs.Lines.{list_line}
 use Rattle.shop_browse.specs.Lists.{AddsShown}
-use Rattle.shop_browse.proofs.Listing.{key_at, lines_more, none_at}
+use Rattle.shop_history.specs.declared.keys.Key.TheVariants.{Label}
+use Rattle.shop_browse.proofs.Keyed.{key_at}
+use Rattle.shop_browse.proofs.Listing.{lines_more, none_at}
 use Rattle.shop_browse.proofs.lines.push_each.Goals as goal
 
 pub push_line-requires : goal.push_line-requires
 push_line-requires c = record {
-  key = key_at c.args.items.now c.args.labels.now c.loop-place.place c.index-labels-place.result c.requires.keys c.loop-place-test.true c.index-labels-place.is;
+  key = key_at Label c.args.items.now c.args.labels.now c.requires.keys c.loop-place.place 0 c.index-labels-place.result c.loop-place-test.true c.index-labels-place.is;
 }
 
 pub returns-then-not-branch : goal.returns-then-not-branch
