@@ -3,7 +3,7 @@
 //! The titles, costs, sums and lengths are none of the program's: a script of its own worked them out
 //! from the formulas of the population, as it did for lists, and wrote the carts' pages. A cart that
 //! would be empty gets one unit of item 1 + w mod 100, where w is the word of its call: 16245 + 13 (n - 1).
-use crate::answers::{NOT_SERVED, answers, asking, joined, served, written};
+use crate::answers::{NOT_SERVED, answers, asking, joined, written};
 use crate::heads::{CHROMIUM, CURL, FIREFOX};
 use shop_app::first_worker;
 use shop_book::Solo;
@@ -46,40 +46,6 @@ const DRAWN_ANEW: &[u8] =
 </body></html>
 ";
 
-const FILLED: &[u8] =
-    b"HTTP/1.1 200 OK\r\nContent-Type: text/html; charset=utf-8\r\nContent-Length: 479\r\n\r\n\
-<html><head><title>Shopping Cart</title></head><body>
-<h1>Cart 1</h1>
-<table>\
-<tr><td>46</td><td>Lost Island REAT</td><td>999</td><td>70.96</td><td>70889.04</td></tr></table>
-<p>Sum 70889.04</p>
-<form action=\"/shopping_cart\">\
-<input name=\"qty_46\" value=\"999\">\
-<input name=\"cart\" value=\"1\"></form>
-<a href=\"/customer_registration?cart=1\">Checkout</a>
-<a href=\"/home?cart=1\">Home</a>
-<a href=\"/search_request?cart=1\">Search</a>
-<a href=\"/shopping_cart?cart=1\">Cart</a>
-</body></html>
-";
-
-const SECOND: &[u8] =
-    b"HTTP/1.1 200 OK\r\nContent-Type: text/html; charset=utf-8\r\nContent-Length: 466\r\n\r\n\
-<html><head><title>Shopping Cart</title></head><body>
-<h1>Cart 2</h1>
-<table>\
-<tr><td>1</td><td>Kind Harbour OG</td><td>1</td><td>41.42</td><td>41.42</td></tr></table>
-<p>Sum 41.42</p>
-<form action=\"/shopping_cart\">\
-<input name=\"qty_1\" value=\"1\">\
-<input name=\"cart\" value=\"2\"></form>
-<a href=\"/customer_registration?cart=2\">Checkout</a>
-<a href=\"/home?cart=2\">Home</a>
-<a href=\"/search_request?cart=2\">Search</a>
-<a href=\"/shopping_cart?cart=2\">Cart</a>
-</body></html>
-";
-
 const NO_CART: &[u8] =
     b"HTTP/1.1 404 Not Found\r\nContent-Type: text/html; charset=utf-8\r\nContent-Length: 97\r\n\r\n\
 <html><head><title>Not Found</title></head><body>
@@ -99,6 +65,12 @@ const FULL_LINE: &[u8] =
 <html><head><title>Bad Request</title></head><body>
 <p>A line holds at most 999.</p>
 </body></html>
+";
+
+/// A part of the page of a cart with 999 of item 46.
+const FULL: &str = "<h1>Cart 1</h1>
+<table><tr><td>46</td><td>Lost Island REAT</td><td>999</td><td>70.96</td><td>70889.04</td></tr></table>
+<p>Sum 70889.04</p>
 ";
 
 /// The way of a customer from Home to a cart and back, and a part of each page. Here and below a
@@ -198,14 +170,19 @@ fn are_shown(replies: &[u8], steps: &[(&str, &str)]) -> bool {
     rest.is_empty()
 }
 
-/// Whether a browser that sends heads like this one is shown each part.
-fn shows_each(alloc: Global, head: &[u8], steps: &[(&str, &str)]) -> Result<bool, Memory> {
+/// Whether a worker shows each part to a browser that sends heads like this one.
+fn shows(
+    alloc: Global,
+    worker: &mut Worker<Solo>,
+    head: &[u8],
+    steps: &[(&str, &str)],
+) -> Result<bool, Memory> {
     let mut input = Text::new(alloc);
     for step in steps {
         input.push(asking_as(alloc, head, step.0)?.bytes())?;
     }
-    let (_, sink) = served(alloc, input.bytes(), 1_000_000)?;
-    Ok(are_shown(sink.bytes(), steps))
+    let output = written(alloc, worker, input.bytes())?;
+    Ok(are_shown(output.bytes(), steps))
 }
 
 /// What three browsers send.
@@ -217,65 +194,37 @@ fn heads() -> [&'static [u8]; 3] {
 fn browsers_fill_a_cart(rt: HostRuntime) -> Result<(), Fail> {
     let alloc = rt.alloc();
     for head in heads() {
-        assert!(rt; shows_each(alloc, head, &purchase())?);
+        let mut worker = first_worker(alloc)?;
+        assert!(rt; shows(alloc, &mut worker, head, &purchase())?);
     }
     Ok(())
 }
 
-/// The page of the cart that stays.
-fn filled() -> &'static [u8] {
-    FILLED
+/// A cart with 999 of item 46.
+fn made() -> [(&'static str, &'static str); 1] {
+    [("/shopping_cart?qty_46=999", FULL)]
 }
 
-/// That of the next one.
-fn second() -> &'static [u8] {
-    SECOND
-}
-
-/// Whether a worker answers requests of these targets with these replies, on a connection of their own.
-fn replies_are(
-    alloc: Global,
-    worker: &mut Worker<Solo>,
-    targets: &[&str],
-    replies: &[&[u8]],
-) -> Result<bool, Memory> {
-    let mut input = Text::new(alloc);
-    for target in targets {
-        input.push(asking(alloc, target)?.bytes())?;
-    }
-    let output = written(alloc, worker, input.bytes())?;
-    Ok(output.bytes() == joined(alloc, replies)?.bytes())
-}
-
-/// What is asked at first, and what is asked of the cart afterwards.
-fn asked_first(target: &'static str) -> [&'static str; 2] {
-    ["/shopping_cart?qty_46=999", target]
-}
-
-fn asked_then() -> [&'static str; 3] {
+/// The same cart, the same after a change that leaves it as it was, and the next one.
+fn kept() -> [(&'static str, &'static str); 3] {
     [
-        "/shopping_cart?cart=1",
-        "/shopping_cart?cart=1&qty_46=999",
-        "/shopping_cart?item=1",
+        ("/shopping_cart?cart=1", FULL),
+        ("/shopping_cart?cart=1&qty_46=999", FULL),
+        ("/shopping_cart?item=1", "<h1>Cart 2</h1>\n"),
     ]
 }
 
 /// Whether a request is answered by this reply, and the one cart that there is stays as it was.
-fn leaves_the_cart(
-    alloc: Global,
-    target: &'static str,
-    reply: &'static [u8],
-) -> Result<bool, Memory> {
+fn leaves_the_cart(alloc: Global, target: &str, reply: &[u8]) -> Result<bool, Memory> {
     let mut worker = first_worker(alloc)?;
-    if !replies_are(alloc, &mut worker, &asked_first(target), &[filled(), reply])? {
+    if !shows(alloc, &mut worker, CURL, &made())? {
         return Ok(false);
     }
-    replies_are(
-        alloc,
-        &mut worker,
-        &asked_then(),
-        &[filled(), filled(), second()],
-    )
+    let asked = asking(alloc, target)?;
+    if written(alloc, &mut worker, asked.bytes())?.bytes() != reply {
+        return Ok(false);
+    }
+    shows(alloc, &mut worker, CURL, &kept())
 }
 
 /// Requests that are refused where cart 1 has 999 of item 46, and what answers them.
