@@ -5,6 +5,7 @@
 //! would be empty gets one unit of item 1 + w mod 100, where w is the word of its call: 16245 + 13 (n - 1).
 use crate::answers::{NOT_SERVED, answers, asking, joined, written};
 use crate::heads::{CHROMIUM, CURL, FIREFOX};
+use memchr::memmem::find;
 use shop_app::first_worker;
 use shop_book::Solo;
 use shop_engine::Worker;
@@ -124,21 +125,10 @@ fn asking_as(alloc: Global, head: &[u8], target: &str) -> Result<Text, Memory> {
 
 /// The first of some replies, and the others.
 fn first_reply(replies: &[u8]) -> (&[u8], &[u8]) {
-    for at in 1..replies.len() {
-        if replies[at..].starts_with(b"HTTP/1.1 ") {
-            return replies.split_at(at);
-        }
+    match find(replies.get(1..).unwrap_or(&[]), b"HTTP/1.1 ") {
+        Some(at) => replies.split_at(1 + at),
+        None => (replies, &[]),
     }
-    (replies, &[])
-}
-
-fn has(bytes: &[u8], part: &[u8]) -> bool {
-    for at in 0..bytes.len() {
-        if bytes[at..].starts_with(part) {
-            return true;
-        }
-    }
-    false
 }
 
 /// The pages of a new cart with item 46, and of the same cart when that item was taken out.
@@ -162,7 +152,7 @@ fn are_shown(replies: &[u8], steps: &[(&str, &str)]) -> bool {
     let mut rest = replies;
     for step in steps {
         let (reply, others) = first_reply(rest);
-        if !reply.starts_with(b"HTTP/1.1 200 OK\r\n") || !has(reply, step.1.as_bytes()) {
+        if !reply.starts_with(b"HTTP/1.1 200 OK\r\n") || find(reply, step.1.as_bytes()).is_none() {
             return false;
         }
         rest = others;
