@@ -3,6 +3,7 @@ ghost use Rattle.std.specs.Prelude.{◌≤◌};
 ghost use Rattle.shop_book.specs.Openings.{most_entries};
 
 use crate::streams::{clock_of, sink_of, source_of, whole};
+use memchr::memmem::{find, find_iter};
 use shop_book::{Book, Solo};
 use shop_edges::BytesOut;
 use shop_engine::{Point, PointKind, Report, Worker, serve_connection};
@@ -65,21 +66,13 @@ pub(crate) fn call_of(point: &Point) -> (u64, u64, u32) {
 
 /// The first of some replies, and the others.
 pub(crate) fn first_reply(replies: &[u8]) -> (&[u8], &[u8]) {
-    for at in 1..replies.len() {
-        if replies[at..].starts_with(b"HTTP/1.1 ") {
-            return replies.split_at(at);
-        }
+    match find(replies.get(1..).unwrap_or(&[]), b"HTTP/1.1 ") {
+        Some(at) => replies.split_at(1 + at),
+        None => (replies, &[]),
     }
-    (replies, &[])
 }
 
 /// How often a part stands in some bytes.
 pub(crate) fn count_in(bytes: &[u8], part: &[u8]) -> usize {
-    let mut count = 0_usize;
-    for at in 0..bytes.len() {
-        if bytes[at..].starts_with(part) {
-            count = count.saturating_add(1);
-        }
-    }
-    count
+    find_iter(bytes, part).count()
 }
