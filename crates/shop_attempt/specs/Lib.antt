@@ -1,6 +1,8 @@
 pub mod Reads
+pub mod Stocks
+pub mod StockView
+pub mod Writes
 pub mod Faithful
 pub mod Seats
 pub mod Settles
 pub mod Marks
-pub mod Simple

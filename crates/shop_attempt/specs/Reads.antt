@@ -55,12 +55,6 @@ pub record IsReadOf (seat : Seat) (key : Key) (read : ReadOf) : Type 0 where
   pub key_is : read.key ≡ key
   pub is : IsReadAt seat key (read.row, read.version)
 
--- a read was added behind others
-pub record IsNoted (seat : Seat) (key : Key) (row : Row) (old new : List ReadOf) : Type 0 where
-  pub version : ℕ
-  pub added : new ≡ old ++ record { key = key; row = row; version = version } ∷ []
-  pub is : IsReadAt seat key (row, version)
-
 -- a read of this call: true of the log seen, and, where its version is no newer than the log that the call began with, the key's version there
 pub record IsReadSince (old new : Seat) (read : ReadOf) : Type 0 where
   pub holds : IsTrue new.opening new.seen read

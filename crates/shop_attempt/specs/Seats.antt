@@ -43,7 +43,7 @@ pub record RoseOnce (before now : ℕ) : Type 0 where
   pub kept : before ≤ now
   pub once : now ≤ before + 1
 
--- what no call changes, and that the log seen and the count of calls only grow
+-- what no call changes, that the log seen and the count of calls only grow, and that a seat stays one
 pub record Follows (old new : Seat) : Type 0 where
   pub shop : new.shop ≡ old.shop
   pub opening : new.opening ≡ old.opening
@@ -51,6 +51,7 @@ pub record Follows (old new : Seat) : Type 0 where
   pub caller : new.caller ≡ old.caller
   pub grows : Extends old.seen new.seen
   pub calls : old.calls ≤ new.calls
+  pub valid : IsSeat old → IsSeat new
 
 -- calls settled nothing: the log seen may have grown, by entries of other callers alone
 pub record Looked (old new : Seat) : Type 0 where

@@ -4,7 +4,7 @@ use Rattle.shop_log.specs.Histories.{Extends}
 use Rattle.shop_history.specs.declared.acts.Act.{Act}
 use Rattle.shop_history.specs.declared.acts.Drawn.{Drawn}
 use Rattle.shop_history.specs.declared.acts.Entry.{Entry}
-use Rattle.shop_history.specs.Acts.{play, no_ids}
+use Rattle.shop_history.specs.Drawing.{no_ids, new_ids}
 use Rattle.shop_history.specs.Logs.{tables, entries_of}
 use Rattle.shop_attempt.specs.declared.attempts.Attempt.{Attempt}
 use Rattle.shop_attempt.specs.declared.attempts.Settle.{Settle}
@@ -58,7 +58,7 @@ pub record Added (old new : Seat) (attempt : Attempt) (act : Act) (drawn : Drawn
   pub caller : entry.caller ≡ new.caller
   pub does : entry.act ≡ act
   pub stamp : entry.stamp ≡ drawn.stamp
-  pub ids : drawn.ids ≡ (play (tables new.opening before) entry.stamp act).ids
+  pub ids : drawn.ids ≡ new_ids (tables new.opening before) (tables new.opening new.seen)
 
 abbrev pub DoneAs : Seat → Seat → Attempt → Option Act → Drawn → Type 0
 DoneAs old new attempt None drawn = Confirmed old new attempt drawn

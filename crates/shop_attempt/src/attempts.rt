@@ -1,5 +1,6 @@
 use shop_history::{Act, Drawn, Key, Row};
-use shop_model::Cart;
+use crate::Stock;
+use shop_model::{AddressText, Cart, Customer, Item, Order};
 use shop_text::Listed;
 
 /// What a key showed, and the version that it had.
@@ -11,11 +12,25 @@ pub struct ReadOf {
     pub version: u64,
 }
 
-/// A row to be written.
+/// A row to be written. Where an id is 0 the settle draws it; it fills in stamps and the days that come
+/// from them, the user name and the password of a new customer, and the moment when a login expires.
 #[derive(Debug, Drop)]
 pub enum Write {
-    /// A cart in its place, or, where its id is 0, a new one that gets the next id.
+    /// A cart in its place, or a new one.
     PutCart(Cart),
+    /// The customer with this id logs in.
+    Login(u32),
+    /// A new address.
+    AddAddress(AddressText),
+    /// A new customer, who is logged in. Where its address is 0, it is the last one.
+    AddCustomer(Customer),
+    /// A new order, which is its customer's last, and how many days later it is shipped. Where its
+    /// address is 0, it is the last one.
+    AddOrder(Order, u32),
+    /// What an item has in stock.
+    SetStock(Stock),
+    /// An item in its place, or a new one, published on the day of the stamp.
+    PutItem(Item),
 }
 
 /// What a request read, and what it would change.

@@ -2,13 +2,11 @@
 #![tactic(auto)]
 
 mod attempts;
-mod notes;
-mod recorder;
-mod simple;
+mod reading;
+mod stock;
 mod store;
 
 pub use attempts::{Attempt, Conflict, ReadOf, Settle, Write};
-pub use notes::{note, read};
-pub use recorder::Recorder;
-pub use simple::{first_cart, look};
+pub use reading::read;
+pub use stock::Stock;
 pub use store::Store;

@@ -3,7 +3,7 @@ ghost use Rattle.shop_model.specs.Limits.{stamp_limit};
 ghost use Rattle.shop_attempt.specs.Faithful.{Faithful};
 ghost use Rattle.shop_attempt.specs.Seats.{Seat, IsSeat, Follows, Looked, IsReadAt, Rose, RoseOnce};
 ghost use Rattle.shop_attempt.specs.Settles.{SettledAs};
-ghost use Rattle.shop_attempt.specs.Marks.{KeepsMarks, LeavesMark};
+ghost use Rattle.shop_attempt.specs.Marks.{AreMarks, StillMarked, LeavesMark};
 
 use crate::{Attempt, Settle};
 use shop_history::{Key, Row};
@@ -24,7 +24,8 @@ pub trait Store {
         ensures valid { IsSeat (seat self.new) }
         ensures calls { Rose (seat self.old).calls (seat self.new).calls }
         ensures row { IfOk result (IsReadAt (seat self.new) key.now) }
-        ensures marks { KeepsMarks (marked self.old) (marked self.new) (seat self.new) };
+        ensures marks { StillMarked (marked self.old) (marked self.new) }
+        ensures marked { AreMarks (marked self.new) (seat self.new).seen };
 
     /// Settles an attempt over the log that this call finds.
     fn settle(&mut self, attempt: Attempt) -> Settle
@@ -35,6 +36,7 @@ pub trait Store {
         ensures calls { Rose (seat self.old).calls (seat self.new).calls }
         ensures settles { RoseOnce (seat self.old).settles (seat self.new).settles }
         ensures settled { SettledAs (seat self.old) (seat self.new) attempt result }
-        ensures marks { KeepsMarks (marked self.old) (marked self.new) (seat self.new) }
+        ensures marks { StillMarked (marked self.old) (marked self.new) }
+        ensures marked { AreMarks (marked self.new) (seat self.new).seen }
         ensures mark { LeavesMark (marked self.new) attempt result };
 }

@@ -1,12 +1,12 @@
 -- The page that a draft becomes, with what the settle drew.
-use Rattle.std.specs.Prelude.{ℕ, ◌+◌, ◌/◌, min, List, [], map, All, Option, Some, None, IsSome, decimal}
+use Rattle.std.specs.Prelude.{ℕ, ◌+◌, min, List, [], map, All, Option, Some, None, IsSome, decimal}
 use Rattle.std.specs.List.{flat_map}
 use Rattle.shop_text.specs.Texts.{digsyl, day_text}
 use Rattle.shop_model.specs.declared.page.Block as page_block
 use Rattle.shop_model.specs.declared.page.Block.{Block}
 use Rattle.shop_model.specs.declared.page.Field.{Field}
 use Rattle.shop_model.specs.declared.page.Page.{Page}
-use Rattle.shop_model.specs.Limits.{day_limit}
+use Rattle.shop_model.specs.Limits.{day_limit, day_of}
 use Rattle.shop_history.specs.declared.acts.Ids.{Ids}
 use Rattle.shop_history.specs.declared.drafts.Draft.{Draft}
 use Rattle.shop_history.specs.declared.drafts.Draft.TheVariants as draft
@@ -16,10 +16,6 @@ use Rattle.shop_history.specs.declared.drafts.DraftBlock.TheVariants.{Heading, P
 use Rattle.shop_history.specs.declared.drafts.DraftField.{DraftField}
 use Rattle.shop_history.specs.declared.drafts.Part.{Part}
 use Rattle.shop_history.specs.declared.drafts.Part.TheVariants.{Fixed, CartId, CustomerId, OrderId, User, Day}
-
--- milliseconds
-abbrev pub day_length : ℕ
-day_length = 86_400_000
 
 -- a text of a drawn id; where none was drawn, no text
 abbrev pub id_text : (ℕ → List ℕ) → Option ℕ → List ℕ
@@ -33,7 +29,7 @@ part_text stamp ids CartId = id_text decimal ids.cart
 part_text stamp ids CustomerId = id_text decimal ids.customer
 part_text stamp ids OrderId = id_text decimal ids.order
 part_text stamp ids User = id_text digsyl ids.customer
-part_text stamp ids (Day later) = day_text (min (stamp / day_length + later) day_limit)
+part_text stamp ids (Day later) = day_text (min (day_of stamp + later) day_limit)
 
 abbrev pub filled_text : ℕ → Ids → List Part → List ℕ
 filled_text stamp ids parts = flat_map (part_text stamp ids) parts

@@ -1,5 +1,5 @@
 -- What keys show.
-use Rattle.std.specs.Prelude.{Option, Some, None}
+use Rattle.std.specs.Prelude.{Bool, true, false, Option, Some, None}
 use Rattle.shop_model.specs.declared.tables.Tables.{Tables}
 use Rattle.shop_model.specs.Lookups.{row_numbered, author_of}
 use Rattle.shop_model.specs.Rankings.{newest, best}
@@ -28,3 +28,8 @@ row_of t (key.TheVariants.Customer id) = shown row.TheVariants.Customer (row_num
 row_of t (key.TheVariants.Cart id) = shown row.TheVariants.Cart (row_numbered t.carts id)
 row_of t (key.TheVariants.NewIn subject) = row.TheVariants.Items (newest t subject)
 row_of t (key.TheVariants.BestIn subject) = row.TheVariants.Items (best t subject)
+
+-- whether a row is an item
+abbrev pub is_item : Row → Bool
+is_item (row.TheVariants.Item x) = true
+is_item _ = false

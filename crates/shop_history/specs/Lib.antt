@@ -1,5 +1,7 @@
 pub mod Keys
 pub mod Same
 pub mod Acts
+pub mod Drawing
+pub mod MayChange
 pub mod Logs
 pub mod Drafts

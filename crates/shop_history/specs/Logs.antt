@@ -1,18 +1,20 @@
 -- The log of a shop: what its entries make of the opening tables, and what can be read of it.
-use Rattle.std.specs.Prelude.{◌≡◌, ℕ, ◌+◌, ◌-◌, ◌≤◌, ◌==◌, List, take, length, filter, All, Option, None, option_map, slice_get}
+use Rattle.std.specs.Prelude.{◌≡◌, ℕ, ◌+◌, ◌-◌, ◌≤◌, ◌==◌, List, take, length, filter, All, Option, None, option_map}
 use Rattle.shop_log.specs.Histories as histories
 use Rattle.shop_log.specs.Histories.{History, state_after}
 use Rattle.shop_model.specs.declared.page.Page.{Page}
 use Rattle.shop_model.specs.declared.tables.Tables.{Tables}
 use Rattle.shop_model.specs.Catalogues.{catalogue}
+use Rattle.shop_model.specs.Checks.{check}
 use Rattle.shop_model.specs.Limits.{stamp_limit}
+use Rattle.shop_model.specs.Lookups.{row_numbered}
 use Rattle.shop_model.specs.Sound.{Sound, Room}
 use Rattle.shop_history.specs.declared.acts.Entry.{Entry}
 use Rattle.shop_history.specs.declared.keys.Key.{Key}
 use Rattle.shop_history.specs.declared.keys.Row.{Row}
-use Rattle.shop_history.specs.Acts.{play, check, IsInForm}
+use Rattle.shop_history.specs.Acts.{play, request_of, IsInForm}
 use Rattle.shop_history.specs.Keys.{row_of}
-use Rattle.shop_history.specs.Same.{same_row}
+use Rattle.shop_history.specs.Same.{same}
 
 -- the tables after one entry
 abbrev pub after : Tables → Entry → Tables
@@ -20,7 +22,7 @@ after t entry = (play t entry.stamp entry.act).tables
 
 -- the shop as a history: entries over tables, read by keys
 unfoldable pub history : History Tables Entry Key Row
-history = record { after = after; row_of = row_of; same_row = same_row }
+history = record { after = after; row_of = row_of; same = same }
 
 -- the tables after a log
 abbrev pub tables : Tables → List Entry → Tables
@@ -33,7 +35,7 @@ version_of t log key = histories.version_of history t log key
 -- the page of the entry with a number, counted from 1
 abbrev pub page_at : Tables → List Entry → ℕ → Option Page
 page_at t log number =
-    option_map (λ e. (play (tables t (take (number - 1) log)) e.stamp e.act).page) (slice_get log (number - 1))
+    option_map (λ e. (play (tables t (take (number - 1) log)) e.stamp e.act).page) (row_numbered log number)
 
 -- the entries of a caller
 abbrev pub entries_of : ℕ → List Entry → List Entry
@@ -46,7 +48,7 @@ pub record MayFollow (t : Tables) (log : List Entry) (entry : Entry) : Type 0 wh
   pub bound : entry.stamp ≤ stamp_limit
   pub number : entry.number ≡ length (entries_of entry.caller log) + 1
   pub form : IsInForm entry.act
-  pub passes : check (tables t log) entry.act ≡ None
+  pub passes : check (tables t log) (request_of entry.act) ≡ None
 
 -- a log in which each entry may follow those before it
 abbrev pub Legal : Tables → List Entry → Type 0

@@ -1,6 +1,3 @@
-ghost use Rattle.std.specs.Prelude.{◌≡◌};
-ghost use Rattle.shop_history.specs.Acts as spec;
-
 use shop_model::CartRequest;
 
 /// What an accepted request does.
@@ -8,18 +5,6 @@ use shop_model::CartRequest;
 pub enum Act {
     /// What Shopping Cart makes of a cart, with the word that was drawn for the request.
     Cart(CartRequest, u32),
-}
-
-impl Act {
-    /// The cart that is named, if it is not to be a new one.
-    pub fn cart(&self) -> Option<u32>
-        ensures value { result ≡ spec.cart_named self.now }
-        ensures form { spec.IsInForm self.now }
-    {
-        match self {
-            Act::Cart(asked, _) => asked.ids.cart,
-        }
-    }
 }
 
 /// An accepted change.

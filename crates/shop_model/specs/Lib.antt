@@ -21,10 +21,12 @@ pub mod PageText
 pub mod Targets
 pub mod Refusals
 pub mod Lookups
+pub mod Empty
 pub mod Products
 pub mod Rankings
 pub mod Kinds
 pub mod Catalogues
 pub mod Lines
-pub mod Show
 pub mod Carts
+pub mod Checks
+pub mod Show

@@ -1,5 +1,5 @@
 -- The bounds of the numbers in rows, all this project's own.
-use Rattle.std.specs.Prelude.{ℕ, ◌^◌}
+use Rattle.std.specs.Prelude.{ℕ, ◌/◌, ◌^◌}
 
 -- a discount, in per cent
 abbrev pub discount_limit : ℕ
@@ -52,3 +52,11 @@ stamp_limit = 253_402_300_799_999
 -- how long a session lasts after its login, in milliseconds
 abbrev pub session_time : ℕ
 session_time = 7_200_000
+
+-- how long a day lasts, in milliseconds
+abbrev pub day_length : ℕ
+day_length = 86_400_000
+
+-- the day of a moment, since 1970-01-01
+abbrev pub day_of : ℕ → ℕ
+day_of stamp = stamp / day_length

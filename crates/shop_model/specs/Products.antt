@@ -1,15 +1,13 @@
 -- The page of one item, this project's own wording of the TPC-W specification's Product Detail.
-use Rattle.std.specs.Prelude.{ℕ, List, [], ◌∷◌, ◌++◌, Option, Some, None, codes, decimal}
+use Rattle.std.specs.Prelude.{ℕ, List, [], ◌∷◌, ◌++◌, Option, option_map, codes, decimal}
 use Rattle.shop_text.specs.Texts.{cents_text, day_text}
 use Rattle.shop_model.specs.declared.author.Author.{Author}
 use Rattle.shop_model.specs.declared.page.Block.{Block}
 use Rattle.shop_model.specs.declared.page.Block.TheVariants.{Heading, Para, Picture}
 use Rattle.shop_model.specs.declared.page.Page.{Page}
-use Rattle.shop_model.specs.declared.refusal.Refusal.TheVariants.{NoItem}
 use Rattle.shop_model.specs.declared.requests.IdsAsked.{IdsAsked}
 use Rattle.shop_model.specs.declared.tables.Tables.{Tables}
 use Rattle.shop_model.specs.Lookups.{row_numbered, author_of}
-use Rattle.shop_model.specs.Refusals.{page_of}
 use Rattle.shop_model.specs.Rows.{ItemRow}
 use Rattle.shop_model.specs.Subjects.{subject_name, backing_name}
 use Rattle.shop_model.specs.Targets.{item_link, nav}
@@ -55,12 +53,7 @@ product_page item author ids = record {
       ++ nav ids;
 }
 
--- the page of an item, if there is one
-abbrev pub product_or_refusal : Tables → IdsAsked → Option ItemRow → Page
-product_or_refusal tables ids None = page_of NoItem
-product_or_refusal tables ids (Some item) = product_page item (author_of tables item) ids
-
--- what a request for the item with a number shows
-abbrev pub product_detail : Tables → ℕ → IdsAsked → Page
+-- the page of the item with a number, if there is one
+abbrev pub product_detail : Tables → ℕ → IdsAsked → Option Page
 product_detail tables number ids =
-    product_or_refusal tables ids (row_numbered tables.items number)
+    option_map (λ item. product_page item (author_of tables item) ids) (row_numbered tables.items number)

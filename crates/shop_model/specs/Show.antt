@@ -3,7 +3,6 @@ use Rattle.std.specs.Prelude.{ℕ, ◌+◌, ◌%◌, List, [], ◌∷◌, ◌++�
 use Rattle.shop_model.specs.declared.page.Block.{Block}
 use Rattle.shop_model.specs.declared.page.Block.TheVariants.{Heading, Para, Form}
 use Rattle.shop_model.specs.declared.page.Page.{Page}
-use Rattle.shop_model.specs.declared.refusal.Refusal.TheVariants.{NoCustomer}
 use Rattle.shop_model.specs.declared.requests.IdsAsked.{IdsAsked}
 use Rattle.shop_model.specs.declared.requests.Request.{Request}
 use Rattle.shop_model.specs.declared.requests.Request.TheVariants.{Home, NewProducts, BestSellers, ProductDetail, SearchRequest, SearchResults, CartRequest}
@@ -11,7 +10,7 @@ use Rattle.shop_model.specs.declared.subject.Subject.{Subject}
 use Rattle.shop_model.specs.declared.subject.Subject.TheVariants.{Arts}
 use Rattle.shop_model.specs.declared.tables.Tables.{Tables}
 use Rattle.shop_model.specs.declared.refusal.Refusal.{Refusal}
-use Rattle.shop_model.specs.Carts.{check_cart}
+use Rattle.shop_model.specs.Checks.{check}
 use Rattle.shop_model.specs.Lines.{new_products, best_sellers, search_results}
 use Rattle.shop_model.specs.Lookups.{row_numbered, title_of, related_of}
 use Rattle.shop_model.specs.Products.{product_detail}
@@ -58,16 +57,10 @@ home_page tables ids draw customer = record {
       ++ nav ids;
 }
 
--- the page of Home for a customer, if there is one
-abbrev pub home_or_refusal : Tables → IdsAsked → ℕ → Option CustomerRow → Page
-home_or_refusal tables ids draw None = page_of NoCustomer
-home_or_refusal tables ids draw (Some customer) = home_page tables ids draw (Some customer)
-
--- what a request for Home shows, with the number of a customer if it gives one
-abbrev pub home : Tables → IdsAsked → ℕ → Option ℕ → Page
-home tables ids draw None = home_page tables ids draw None
-home tables ids draw (Some number) =
-    home_or_refusal tables ids draw (row_numbered tables.customers number)
+-- the customer with the number that a request gives, if it gives one
+abbrev pub customer_asked : Tables → Option ℕ → Option CustomerRow
+customer_asked tables None = None
+customer_asked tables (Some number) = row_numbered tables.customers number
 
 -- the form of a search by title
 unfoldable pub search_form : IdsAsked → Block
@@ -86,17 +79,22 @@ search_request tables ids draw = record {
   blocks = Heading (codes "Search") ∷ promo tables ids draw ++ search_form ids ∷ nav ids;
 }
 
--- a request that changes rows shows why it is refused; where it isn't, its page is that of its change, and there is none here
-abbrev pub refused : Option Refusal → Page
-refused (Some refusal) = page_of refusal
-refused None = record { status = 0; title = []; blocks = [] }
+-- what a request that only reads shows where nothing refuses it
+abbrev pub page_for : Tables → Request → ℕ → Option Page
+page_for tables (Home asked) draw = Some (home_page tables asked.ids draw (customer_asked tables asked.ids.c))
+page_for tables (NewProducts asked) draw = Some (new_products tables asked.subject asked.ids)
+page_for tables (BestSellers asked) draw = Some (best_sellers tables asked.subject asked.ids)
+page_for tables (ProductDetail asked) draw = product_detail tables asked.item asked.ids
+page_for tables (SearchRequest asked) draw = Some (search_request tables asked.ids draw)
+page_for tables (SearchResults asked) draw = Some (search_results tables asked.kind asked.text asked.ids)
+page_for tables (CartRequest asked) draw = None
 
--- what a request shows by the tables, with the word that was drawn for it
-abbrev pub show : Tables → Request → ℕ → Page
-show tables (Home asked) draw = home tables asked.ids draw asked.ids.c
-show tables (NewProducts asked) draw = new_products tables asked.subject asked.ids
-show tables (BestSellers asked) draw = best_sellers tables asked.subject asked.ids
-show tables (ProductDetail asked) draw = product_detail tables asked.item asked.ids
-show tables (SearchRequest asked) draw = search_request tables asked.ids draw
-show tables (SearchResults asked) draw = search_results tables asked.kind asked.text asked.ids
-show tables (CartRequest asked) draw = refused (check_cart tables asked)
+-- the page of a refusal, where there is one, or else another
+abbrev pub refused_or : Option Refusal → Option Page → Option Page
+refused_or None page = page
+refused_or (Some refusal) page = Some (page_of refusal)
+
+-- what a request shows by the tables, with the word that was drawn for it: why it is refused, or what it
+-- reads; and nothing where it would change rows
+abbrev pub show : Tables → Request → ℕ → Option Page
+show tables request draw = refused_or (check tables request) (page_for tables request draw)
