@@ -5,6 +5,7 @@ use Rattle.std.specs.Io.KnownBytes.{Appends}
 use Rattle.shop_edges.specs.Causes.{Rose}
 use Rattle.shop_model.specs.Population.{populated}
 use Rattle.shop_model.specs.Scales.{desk}
+use Rattle.shop_history.specs.Lawful.{IsLawful}
 use Rattle.shop_book.specs.Solos.{SoloValue, seat_of}
 use Rattle.shop_http.specs.declared.messages.Stop.{Stop}
 use Rattle.shop_http.specs.declared.messages.Stop.TheVariants.{Between}
@@ -73,14 +74,15 @@ moment_as moment Plain = []
 abbrev pub moments_of : List Point → List ℕ
 moments_of points = flat_map (λ p. moment_as p.moment p.kind) points
 
--- its one connection was served until the messages stopped so: no settle was stale, and the log is what the
--- changes made, each with its moment as its stamp
+-- its one connection was served until the messages stopped so: no settle was stale, the log is lawful, and it
+-- is what the changes made, each with its moment as its stamp
 pub record ServedTo (old new : Streams) (stop : Stop) : Type 0 where
   pub points : List Point
   pub after : Progress
   pub seat : Seat
   pub served : Served first_caller at_first after first_seat seat old new stop points
   pub alone : All (λ p. (p ≡ plain_point) ⊎ IsAtOnce p) points
+  pub lawful : IsLawful (populated 0 desk) seat.seen
   pub log : seat.seen ≡ changes_of seat.seen points
   pub stamps : map (λ e. e.stamp) seat.seen ≡ moments_of points
 

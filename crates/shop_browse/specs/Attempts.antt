@@ -11,8 +11,9 @@ use Rattle.shop_history.specs.declared.acts.Act.{Act}
 use Rattle.shop_history.specs.declared.drafts.Draft.{Draft}
 use Rattle.shop_history.specs.declared.drafts.Draft.TheVariants.{Fixed}
 use Rattle.shop_history.specs.declared.keys.Key.TheVariants.{Label}
-use Rattle.shop_history.specs.Acts.{Played, play, act_of, ChangesNothing}
+use Rattle.shop_history.specs.Acts.{play, IsActOf}
 use Rattle.shop_history.specs.Drafts.{filled, HasIds}
+use Rattle.shop_history.specs.Drawing.{new_ids}
 use Rattle.shop_attempt.specs.declared.attempts.Attempt.{Attempt}
 use Rattle.shop_attempt.specs.declared.attempts.ReadOf.{ReadOf}
 use Rattle.shop_attempt.specs.Faithful.{Faithful}
@@ -40,7 +41,7 @@ pub record Fits (c : Catalogue) (t : Tables) (reads : List ReadOf) : Type 0 wher
 
 -- the page is what the request shows in whichever tables fit the reads; there is none only where no tables do
 abbrev pub IsPageOf : Catalogue → Request → ℕ → List ReadOf → Option Page → Type 0
-IsPageOf c request draw reads (Some page) = (t : Tables) → Fits c t reads → page ≡ show t request draw
+IsPageOf c request draw reads (Some page) = (t : Tables) → Fits c t reads → show t request draw ≡ Some page
 IsPageOf c request draw reads None = (t : Tables) → Fits c t reads → ⊥
 
 -- a faithful attempt at this moment and with this word
@@ -50,23 +51,25 @@ pub record IsAttempt (start now : Seat) (request : Request) (moment draw : ℕ) 
   pub reads : AreReadFor start now request draw attempt.reads
   pub faithful : Faithful now.opening now.seen attempt
 
--- the tables decide the request alone, and the draft is the page that it shows
+-- the draft is the page that the request shows in these tables, which it changes nothing of
 pub record IsShownBy (t : Tables) (request : Request) (draw : ℕ) (draft : Draft) : Type 0 where
-  pub alone : ChangesNothing t (act_of request draw)
-  pub page_is : draft ≡ Fixed (show t request draw)
+  pub page : Page
+  pub shows : show t request draw ≡ Some page
+  pub draft_is : draft ≡ Fixed page
 
--- the draft becomes the page that was played, and asks for no id but of the rows that were made
-pub record Becomes (played : Played) (stamp : ℕ) (draft : Draft) : Type 0 where
-  pub asks : HasIds played.ids draft
-  pub page_is : filled stamp played.ids draft ≡ played.page
+-- the draft becomes the page that an act gives in these tables, with the ids that are drawn there, and asks
+-- for no id but those
+pub record Becomes (t : Tables) (stamp : ℕ) (act : Act) (draft : Draft) : Type 0 where
+  pub asks : HasIds (new_ids t (play t stamp act).tables) draft
+  pub page_is : filled stamp (new_ids t (play t stamp act).tables) draft ≡ (play t stamp act).page
 
 -- whichever tables agree with the reads, the draft is the page that the request shows there; or that of
 -- its act, with the ids that are drawn there, at any stamp
 abbrev pub IsDraftOf : Tables → Request → ℕ → List ReadOf → Draft → Option Act → Type 0
 IsDraftOf opening request draw reads draft None = (t : Tables) → Agrees opening t reads → IsShownBy t request draw draft
 IsDraftOf opening request draw reads draft (Some act) =
-    (act_of request draw ≡ Some act)
-    × ((t : Tables) (stamp : ℕ) → Agrees opening t reads → stamp ≤ stamp_limit → Becomes (play t stamp act) stamp draft)
+    IsActOf request draw act
+    × ((t : Tables) (stamp : ℕ) → Agrees opening t reads → stamp ≤ stamp_limit → Becomes t stamp act draft)
 
 -- an attempt, and the draft of its page
 pub record IsReady (start now : Seat) (request : Request) (moment draw : ℕ) (attempt : Attempt) (draft : Draft) : Type 0 where

@@ -13,7 +13,6 @@ use Rattle.shop_history.specs.declared.keys.Key.{Key}
 use Rattle.shop_history.specs.declared.keys.Key.TheVariants.{Label}
 use Rattle.shop_history.specs.declared.keys.Row.{Row}
 use Rattle.shop_history.specs.declared.keys.Row.TheVariants.{Items}
-use Rattle.shop_history.specs.Acts.{act_of}
 use Rattle.shop_history.specs.Keys.{row_of}
 use Rattle.shop_attempt.specs.declared.attempts.ReadOf.{ReadOf}
 use Rattle.shop_attempt.specs.Reads.{Shows, IsReadSince, AreReadSince}
@@ -56,7 +55,6 @@ pub record ReadsList (start now : Seat) (key : Key) (list : ReadOf) (labels : Li
 abbrev pub AttemptsList : Seat → Seat → Key → IdsAsked → List ℕ → List Block → ℕ → ℕ → Attempted → Type 0
 AttemptsList start now key ids title head moment draw attempted =
     (request : Request)
-    → act_of request draw ≡ None
     → ((opening : Tables) (log : List Entry) → IsAbout opening log request draw key)
-    → ((t : Tables) → show t request draw ≡ list_page t ids title head (listed (row_of t key)))
+    → ((t : Tables) → show t request draw ≡ Some (list_page t ids title head (listed (row_of t key))))
     → AttemptedAs start now request moment draw attempted

@@ -8,9 +8,9 @@ use Rattle.shop_model.specs.Catalogues.{Catalogue}
 use Rattle.shop_history.specs.declared.keys.Key.TheVariants.{Item, Label}
 use Rattle.shop_history.specs.declared.keys.Label as label
 use Rattle.shop_history.specs.declared.keys.Row.{Row}
+use Rattle.shop_history.specs.Keys.{is_item}
 use Rattle.shop_attempt.specs.declared.attempts.ReadOf.{ReadOf}
 use Rattle.shop_attempt.specs.Seats.{Seat}
-use Rattle.shop_attempt.specs.Simple.{is_item}
 use Rattle.shop_browse.specs.declared.product_detail.ItemReads.{ItemReads}
 use Rattle.shop_browse.specs.Attempts.{AreReadFor, IsPageOf}
 

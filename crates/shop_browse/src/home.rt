@@ -1,7 +1,7 @@
 ghost use Rattle.std.specs.Prelude.{◌≡◌, ◌++◌, ℕ, Some, None, IfOk, OnOk, length, option_copied, [], ◌∷◌};
 ghost use Rattle.shop_model.specs.Catalogues.{catalogue};
 ghost use Rattle.shop_model.specs.Show as spec;
-ghost use Rattle.shop_attempt.specs.Marks.{StillMarked};
+ghost use Rattle.shop_attempt.specs.Marks.{KeepsMarks};
 ghost use Rattle.shop_attempt.specs.Seats.{Looked};
 ghost use Rattle.shop_browse.specs.Attempts.{AttemptedAs};
 ghost use Rattle.shop_browse.specs.Promotions.{IsShownBy};
@@ -124,7 +124,7 @@ fn welcome<St: Store>(
     requires scale { ask.now.scale.now.items ≡ length (St.seat store.old).opening.items }
     requires anyone { asked.now.ids.c ≡ None }
     ensures looked { Looked (St.seat store.old) (St.seat store.new) }
-    ensures marks { StillMarked (St.marked store.old) (St.marked store.new) }
+    ensures marks { KeepsMarks (St.marked store.old) (St.marked store.new) (St.seat store.old) (St.seat store.new) }
     ensures attempted { IfOk result (AttemptedAs (St.seat store.old) (St.seat store.new) (Request.Home asked.now) ask.now.moment ask.now.draw) }
 {
     let promotion = read_promotion(alloc, store, ask)?;
@@ -144,7 +144,7 @@ fn greet<St: Store>(
     requires scale { ask.now.scale.now.items ≡ length (St.seat store.old).opening.items }
     requires number { asked.now.ids.c ≡ Some number }
     ensures looked { Looked (St.seat store.old) (St.seat store.new) }
-    ensures marks { StillMarked (St.marked store.old) (St.marked store.new) }
+    ensures marks { KeepsMarks (St.marked store.old) (St.marked store.new) (St.seat store.old) (St.seat store.new) }
     ensures attempted { IfOk result (AttemptedAs (St.seat store.old) (St.seat store.new) (Request.Home asked.now) ask.now.moment ask.now.draw) }
 {
     let known = read(store, Key::Customer(number))?;
@@ -174,7 +174,7 @@ pub(crate) fn home<St: Store>(
     requires index { ask.now.index.now ≡ catalogue (St.seat store.old).opening }
     requires scale { ask.now.scale.now.items ≡ length (St.seat store.old).opening.items }
     ensures looked { Looked (St.seat store.old) (St.seat store.new) }
-    ensures marks { StillMarked (St.marked store.old) (St.marked store.new) }
+    ensures marks { KeepsMarks (St.marked store.old) (St.marked store.new) (St.seat store.old) (St.seat store.new) }
     ensures attempted { IfOk result (AttemptedAs (St.seat store.old) (St.seat store.new) (Request.Home asked.now) ask.now.moment ask.now.draw) }
 {
     match asked.ids.c {

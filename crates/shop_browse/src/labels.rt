@@ -1,5 +1,5 @@
 ghost use Rattle.std.specs.Prelude.{◌<◌, IfOk, length};
-ghost use Rattle.shop_attempt.specs.Marks.{StillMarked};
+ghost use Rattle.shop_attempt.specs.Marks.{KeepsMarks};
 ghost use Rattle.shop_attempt.specs.Seats.{IsSeat, Looked};
 ghost use Rattle.shop_browse.specs.Attempts.{AddsLabels};
 
@@ -14,7 +14,7 @@ pub(crate) fn read_labels<St: Store>(
     ids: &[u32],
 ) -> Result<(), Memory>
     ensures looked { Looked (St.seat store.old) (St.seat store.new) }
-    ensures marks { StillMarked (St.marked store.old) (St.marked store.new) }
+    ensures marks { KeepsMarks (St.marked store.old) (St.marked store.new) (St.seat store.old) (St.seat store.new) }
     ensures valid { 0 < length ids.now → IsSeat (St.seat store.new) }
     ensures labels { IfOk result (λ _. AddsLabels (St.seat store.old) (St.seat store.new) ids.now reads.old reads.new) }
 {

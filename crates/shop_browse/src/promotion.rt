@@ -1,5 +1,5 @@
 ghost use Rattle.std.specs.Prelude.{◌≡◌, ◌+◌, ◌%◌, IfOk, length};
-ghost use Rattle.shop_attempt.specs.Marks.{StillMarked};
+ghost use Rattle.shop_attempt.specs.Marks.{KeepsMarks};
 ghost use Rattle.shop_attempt.specs.Seats.{Looked};
 ghost use Rattle.shop_browse.specs.Promotions as spec;
 
@@ -49,7 +49,7 @@ pub(crate) fn read_promotion<St: Store>(
 ) -> Result<Promotion, Memory>
     requires scale { ask.now.scale.now.items ≡ length (St.seat store.old).opening.items }
     ensures looked { Looked (St.seat store.old) (St.seat store.new) }
-    ensures marks { StillMarked (St.marked store.old) (St.marked store.new) }
+    ensures marks { KeepsMarks (St.marked store.old) (St.marked store.new) (St.seat store.old) (St.seat store.new) }
     ensures drawn { IfOk result (spec.IsPromotionOf (1 + ask.now.draw % ask.now.scale.now.items)) }
     ensures reads { IfOk result (spec.ArePromotionReads (St.seat store.old) (St.seat store.new) ask.now.draw) }
 {

@@ -1,5 +1,5 @@
 -- The requests of a connection, one after another, and what came of each.
-use Rattle.std.specs.Prelude.{◌≡◌, ℕ, ◌-◌, min, max, List, [], ◌∷◌, ◌++◌, length, sum_by, slice_get, All, Option, Some, None, IsSome, false}
+use Rattle.std.specs.Prelude.{◌≡◌, ℕ, ◌-◌, min, max, List, [], ◌∷◌, ◌++◌, length, sum_by, slice_get, All, Option, Some, None, IsSome, true, false}
 use Rattle.std.specs.List.{flat_map}
 use Rattle.shop_edges.specs.Causes.{count_up}
 use Rattle.shop_log.specs.Histories.{Extends}
@@ -8,11 +8,11 @@ use Rattle.shop_model.specs.declared.refusal.Refusal.TheVariants.{RowsKeptChangi
 use Rattle.shop_model.specs.declared.tables.Tables.{Tables}
 use Rattle.shop_model.specs.Limits.{stamp_limit}
 use Rattle.shop_model.specs.Refusals.{page_of}
+use Rattle.shop_model.specs.Checks.{is_changing, check}
 use Rattle.shop_model.specs.Show.{show}
 use Rattle.shop_model.specs.Words.{word}
-use Rattle.shop_history.specs.declared.acts.Act.{Act}
 use Rattle.shop_history.specs.declared.acts.Entry.{Entry}
-use Rattle.shop_history.specs.Acts.{act_of, check, ChangesNothing}
+use Rattle.shop_history.specs.Acts.{IsActOf}
 use Rattle.shop_history.specs.Logs.{tables, page_at}
 use Rattle.shop_attempt.specs.declared.attempts.Conflict.{Conflict}
 use Rattle.shop_attempt.specs.Reads.{IsConflict}
@@ -64,7 +64,7 @@ pub record IsMetAt (place : Place) (seen : List Entry) (request : Request) (draw
 -- the tables decided: the page is shown after the log seen, whose length is the front
 pub record PointAt (place : Place) (round : Round) : Type 0 where
   pub front : round.point.front ≡ length round.seen
-  pub alone : ChangesNothing (tables place.opening round.seen) (act_of round.request round.point.draw)
+  pub alone : IsSome (show (tables place.opening round.seen) round.request round.point.draw)
   pub tries : IsTry place.latest round.point.tries
 
 -- the request changed rows: its entry is the caller's, behind all that was seen before, and the last of the log seen
@@ -75,7 +75,7 @@ pub record PointChange (place : Place) (log : List Entry) (round : Round) : Type
   pub seen : round.seen ≡ before ++ entry ∷ []
   pub front : round.point.front ≡ length round.seen
   pub caller : entry.caller ≡ place.caller.number
-  pub does : act_of round.request round.point.draw ≡ Some entry.act
+  pub does : IsActOf round.request round.point.draw entry.act
   pub stamp : IsStampOf place.latest round.point.moment entry.stamp
   pub tries : IsTry place.latest round.point.tries
 
@@ -93,9 +93,8 @@ pub record PointBusy (place : Place) (log : List Entry) (round : Round) (conflic
 pub record PointFull (place : Place) (round : Round) : Type 0 where
   pub front : round.point.front ≡ length round.seen
   pub limit : round.point.front ≡ place.limit
-  pub act : Act
-  pub does : act_of round.request round.point.draw ≡ Some act
-  pub passes : check (tables place.opening round.seen) act ≡ None
+  pub changes : is_changing round.request ≡ true
+  pub passes : check (tables place.opening round.seen) round.request ≡ None
   pub tries : IsTry place.latest round.point.tries
 
 abbrev pub PointAs : Place → List Entry → Round → PointKind → Type 0
@@ -125,7 +124,7 @@ going_on = record { close = false; bodiless = false }
 
 -- the reply of a round
 abbrev pub reply_as : Tables → Round → PointKind → List ℕ
-reply_as opening round At = reply (show (tables opening round.seen) round.request round.point.draw) going_on
+reply_as opening round At = reply_of_page (show (tables opening round.seen) round.request round.point.draw) going_on
 reply_as opening round Change = reply_of_page (page_at opening round.seen round.point.front) going_on
 reply_as opening round (Busy conflicts) = reply (page_of RowsKeptChanging) going_on
 reply_as opening round Full = reply (page_of FullLog) going_on

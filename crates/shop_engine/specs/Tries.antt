@@ -1,12 +1,12 @@
 -- What one try of a request leaves, and what its tries together do.
-use Rattle.std.specs.Prelude.{◌≡◌, ℕ, ◌+◌, ◌<◌, ◌≤◌, min, max, List, [], ◌∷◌, ◌++◌, length, All, Option, Some, None, IsSome}
+use Rattle.std.specs.Prelude.{◌≡◌, ℕ, ◌+◌, ◌<◌, ◌≤◌, min, max, List, [], ◌∷◌, ◌++◌, length, All, Option, Some, None, IsSome, true}
 use Rattle.shop_log.specs.Histories.{Extends}
 use Rattle.shop_model.specs.declared.page.Page.{Page}
 use Rattle.shop_model.specs.declared.requests.Request.{Request}
+use Rattle.shop_model.specs.Checks.{is_changing, check}
 use Rattle.shop_model.specs.Show.{show}
-use Rattle.shop_history.specs.declared.acts.Act.{Act}
 use Rattle.shop_history.specs.declared.acts.Entry.{Entry}
-use Rattle.shop_history.specs.Acts.{act_of, check, ChangesNothing}
+use Rattle.shop_history.specs.Acts.{IsActOf}
 use Rattle.shop_history.specs.Logs.{tables, version_of, entries_of, page_at}
 use Rattle.shop_attempt.specs.declared.attempts.Conflict.{Conflict}
 use Rattle.shop_attempt.specs.Reads.{IsConflict}
@@ -55,8 +55,8 @@ reply_of_page (Some page) form = reply page form
 -- a request was settled without a change, and the reply is around what the tables then show
 pub record IsShown (new : Seat) (request : Request) (draw : ℕ) (form : Form) (front : ℕ) (bytes : List ℕ) : Type 0 where
   pub front_is : front ≡ length new.seen
-  pub alone : ChangesNothing (tables new.opening new.seen) (act_of request draw)
-  pub bytes_are : bytes ≡ reply (show (tables new.opening new.seen) request draw) form
+  pub alone : IsSome (show (tables new.opening new.seen) request draw)
+  pub bytes_are : bytes ≡ reply_of_page (show (tables new.opening new.seen) request draw) form
 
 -- the stamp of a change is no less than its moment, and where the caller is the only one, the larger of
 -- the latest stamp before and the moment
@@ -71,7 +71,7 @@ pub record IsChanged (old new : Seat) (request : Request) (moment draw : ℕ) (f
   pub seen : new.seen ≡ before ++ entry ∷ []
   pub front_is : front ≡ length new.seen
   pub caller : entry.caller ≡ new.caller
-  pub does : act_of request draw ≡ Some entry.act
+  pub does : IsActOf request draw entry.act
   pub stamp : IsStampOf old.latest moment entry.stamp
   pub bytes_are : bytes ≡ reply_of_page (page_at new.opening new.seen front) form
 
@@ -79,9 +79,8 @@ pub record IsChanged (old new : Seat) (request : Request) (moment draw : ℕ) (f
 pub record IsFull (new : Seat) (request : Request) (draw front : ℕ) : Type 0 where
   pub front_is : front ≡ length new.seen
   pub limit : front ≡ new.limit
-  pub act : Act
-  pub does : act_of request draw ≡ Some act
-  pub passes : check (tables new.opening new.seen) act ≡ None
+  pub changes : is_changing request ≡ true
+  pub passes : check (tables new.opening new.seen) request ≡ None
 
 -- so many settles ended with an answer that changes nothing
 pub record ShowsBy (settles : ℕ) (old new : Seat) (request : Request) (moment draw : ℕ) (form : Form) (front : ℕ) (bytes : List ℕ) : Type 0 where

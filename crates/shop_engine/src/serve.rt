@@ -4,7 +4,8 @@ ghost use Rattle.std.specs.Vec.{vec_len, vec_capacity};
 ghost use Rattle.shop_model.specs.Catalogues.{catalogue};
 ghost use Rattle.shop_model.specs.Limits.{stamp_limit};
 ghost use Rattle.shop_edges.specs.Causes.{Rose, count_up};
-ghost use Rattle.shop_attempt.specs.Marks.{StillMarked};
+ghost use Rattle.shop_history.specs.Lawful.{IsLawful};
+ghost use Rattle.shop_attempt.specs.Marks.{KeepsMarks};
 ghost use Rattle.shop_engine.specs.Points.{MetAs, IsPointOf};
 ghost use Rattle.shop_engine.specs.Rounds.{Round, moment_of, draw_of, after_one, reply_of, changes_of};
 ghost use Rattle.shop_engine.specs.Served.{Served, stop_of, tries_of, plain_point};
@@ -49,7 +50,8 @@ pub fn serve_connection<St: Store, S: Source, K: Sink, C: Clock>(
     ensures caller { worker.new.caller ≡ worker.old.caller }
     ensures stays { StaysWithin (St.seat worker.old.store) (St.seat worker.new.store)
         (changes_of (St.seat worker.new.store).seen result.points) (tries_of result.points + 8) worker.new.progress.last }
-    ensures marks { StillMarked (St.marked worker.old.store) (St.marked worker.new.store) }
+    ensures lawful { IsLawful (St.seat worker.new.store).opening (St.seat worker.new.store).seen }
+    ensures marks { KeepsMarks (St.marked worker.old.store) (St.marked worker.new.store) (St.seat worker.old.store) (St.seat worker.new.store) }
     ensures read_fault { result.end ≡ Ended.ReadFault → Rose (S.faults source.old) (S.faults source.new) }
     ensures write_fault { result.end ≡ Ended.WriteFault → Rose (K.faults sink.old) (K.faults sink.new) }
     ensures reads { S.faults source.old ≤ S.faults source.new }
@@ -81,7 +83,7 @@ fn serve_all<St: Store, S: Source, K: Sink, C: Clock>(
     ensures caller { worker.new.caller ≡ worker.old.caller }
     ensures stays { StaysWithin (St.seat worker.old.store) (St.seat worker.new.store)
         (changes_of (St.seat worker.new.store).seen points.new.items) (tries_of points.new.items + 8) worker.new.progress.last }
-    ensures marks { StillMarked (St.marked worker.old.store) (St.marked worker.new.store) }
+    ensures marks { KeepsMarks (St.marked worker.old.store) (St.marked worker.new.store) (St.seat worker.old.store) (St.seat worker.new.store) }
     ensures read_fault { result ≡ Ended.ReadFault → Rose (S.faults source.old) (S.faults source.new) }
     ensures write_fault { result ≡ Ended.WriteFault → Rose (K.faults sink.old) (K.faults sink.new) }
     ensures reads { S.faults source.old ≤ S.faults source.new }
@@ -125,7 +127,7 @@ fn serve_request<St: Store, K: Sink, C: Clock>(
     ensures sound { IfSome result (λ end. end ≢ Ended.ReadFault) }
     ensures write_fault { IfSome result (λ end. end ≡ Ended.WriteFault → Rose (K.faults sink.old) (K.faults sink.new)) }
     ensures writes { K.faults sink.old ≤ K.faults sink.new }
-    ensures marks { StillMarked (St.marked worker.old.store) (St.marked worker.new.store) }
+    ensures marks { KeepsMarks (St.marked worker.old.store) (St.marked worker.new.store) (St.seat worker.old.store) (St.seat worker.new.store) }
     ensures caller { worker.new.caller ≡ worker.old.caller }
     ensures last { worker.old.progress.last ≤ worker.new.progress.last }
 {
@@ -175,7 +177,7 @@ fn answer<St: Store>(
     ensures point { IfSome result (IsPointOf ask.now.moment call ask.now.draw) }
     ensures met { IfSome result (λ point. MetAs (St.seat store.old) (St.seat store.new) request.now point reply.new.bytes point.kind) }
     ensures memory { IsNone result → StaysWithin (St.seat store.old) (St.seat store.new) [] 8 ask.now.moment }
-    ensures marks { StillMarked (St.marked store.old) (St.marked store.new) }
+    ensures marks { KeepsMarks (St.marked store.old) (St.marked store.new) (St.seat store.old) (St.seat store.new) }
 {
     match try_all(alloc, store, ask, request, GOING_ON, reply) {
         Outcome::Shown { front, tries } => Some(point_of(ask, call, PointKind::At, front, tries)),

@@ -1,7 +1,7 @@
 ghost use Rattle.std.specs.Prelude.{◌≡◌, ◌≤◌, length};
 ghost use Rattle.shop_model.specs.Catalogues.{catalogue};
 ghost use Rattle.shop_model.specs.Limits.{stamp_limit};
-ghost use Rattle.shop_attempt.specs.Marks.{StillMarked};
+ghost use Rattle.shop_attempt.specs.Marks.{KeepsMarks};
 ghost use Rattle.shop_engine.specs.Tries.{TriedAs, OutcomeAs};
 
 use shop_attempt::{Conflict, Settle, Store};
@@ -52,7 +52,7 @@ fn try_once<St: Store>(
     requires scale { ask.now.scale.now.items ≡ length (St.seat store.old).opening.items }
     requires moment { ask.now.moment ≤ stamp_limit }
     ensures tried { TriedAs (St.seat store.old) (St.seat store.new) request.now ask.now.moment ask.now.draw form reply.new.bytes result }
-    ensures marks { StillMarked (St.marked store.old) (St.marked store.new) }
+    ensures marks { KeepsMarks (St.marked store.old) (St.marked store.new) (St.seat store.old) (St.seat store.new) }
 {
     match attempt(alloc, store, ask, request) {
         Attempted::Ready(attempt, draft) => {
@@ -95,7 +95,7 @@ pub(crate) fn try_all<St: Store>(
     requires scale { ask.now.scale.now.items ≡ length (St.seat store.old).opening.items }
     requires moment { ask.now.moment ≤ stamp_limit }
     ensures outcome { OutcomeAs (St.seat store.old) (St.seat store.new) request.now ask.now.moment ask.now.draw form reply.new.bytes result }
-    ensures marks { StillMarked (St.marked store.old) (St.marked store.new) }
+    ensures marks { KeepsMarks (St.marked store.old) (St.marked store.new) (St.seat store.old) (St.seat store.new) }
 {
     let mut conflicts = Listed::new(alloc);
     for tried in 0..TRIES {

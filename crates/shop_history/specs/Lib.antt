@@ -4,4 +4,5 @@ pub mod Acts
 pub mod Drawing
 pub mod MayChange
 pub mod Logs
+pub mod Lawful
 pub mod Drafts

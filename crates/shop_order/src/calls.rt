@@ -1,6 +1,6 @@
 ghost use Rattle.std.specs.Prelude.{◌≡◌, length};
 ghost use Rattle.shop_model.specs.Catalogues.{catalogue};
-ghost use Rattle.shop_attempt.specs.Marks.{StillMarked};
+ghost use Rattle.shop_attempt.specs.Marks.{KeepsMarks};
 ghost use Rattle.shop_attempt.specs.Seats.{Looked};
 ghost use Rattle.shop_browse.specs.Attempts.{AttemptedAs};
 
@@ -15,7 +15,7 @@ pub fn attempt<St: Store>(alloc: Global, store: &mut St, ask: &Ask, request: &Re
     requires index { ask.now.index.now ≡ catalogue (St.seat store.old).opening }
     requires scale { ask.now.scale.now.items ≡ length (St.seat store.old).opening.items }
     ensures looked { Looked (St.seat store.old) (St.seat store.new) }
-    ensures marks { StillMarked (St.marked store.old) (St.marked store.new) }
+    ensures marks { KeepsMarks (St.marked store.old) (St.marked store.new) (St.seat store.old) (St.seat store.new) }
     ensures attempted { AttemptedAs (St.seat store.old) (St.seat store.new) request.now ask.now.moment ask.now.draw result }
 {
     match request {
