@@ -1,13 +1,13 @@
 -- How the point of a request makes a round.
-use Rattle.std.proofs.Common.{◌≡◌, ℕ, List, [], ◌∷◌, ◌++◌, Option, refl, sym, ◌∙◌, ap, subst}
+use Rattle.std.proofs.Common.{◌≡◌, ℕ, List, [], ◌∷◌, ◌++◌, Option, IsSome, refl, sym, ◌∙◌, ap, subst}
 use Rattle.std.specs.Io.KnownBytes.{Appends}
 use Rattle.std.proofs.lemmas.List.Elements.{All-weaker}
 use Rattle.shop_edges.specs.Causes.{count_up}
 use Rattle.shop_edges.specs.Clocks.{Tells}
 use Rattle.shop_model.specs.declared.requests.Request.{Request}
 use Rattle.shop_model.specs.declared.tables.Tables.{Tables}
+use Rattle.shop_model.specs.Checks.{check}
 use Rattle.shop_model.specs.Show.{show}
-use Rattle.shop_history.specs.Acts.{act_of, check, ChangesNothing}
 use Rattle.shop_history.specs.Logs.{tables, page_at}
 use Rattle.shop_attempt.specs.declared.attempts.Conflict.{Conflict}
 use Rattle.shop_attempt.specs.Reads.{IsConflict}
@@ -48,8 +48,8 @@ module _ (caller : Caller) (old new : Seat) (request : Request) (reading : ℕ) 
   stays_as Plain met = absurd met
 
   -- what the place's opening tables are, and its caller
-  shown_there : (t : Tables) → new.opening ≡ t → ChangesNothing (tables new.opening new.seen) (act_of request point.draw) → ChangesNothing (tables t new.seen) (act_of request point.draw)
-  shown_there t opening alone = subst (λ u. ChangesNothing (tables u new.seen) (act_of request point.draw)) opening alone
+  shown_there : (t : Tables) → new.opening ≡ t → IsSome (show (tables new.opening new.seen) request point.draw) → IsSome (show (tables t new.seen) request point.draw)
+  shown_there t opening alone = subst (λ u. IsSome (show (tables u new.seen) request point.draw)) opening alone
 
   point_as : (kind : PointKind) → new.opening ≡ old.opening → new.limit ≡ old.limit → new.caller ≡ old.caller → MetAs old new request point bytes kind
       → PointAs (place_of caller old) old.seen round_of kind
@@ -77,15 +77,14 @@ module _ (caller : Caller) (old new : Seat) (request : Request) (reading : ℕ) 
   point_as Full opening limit same met = record {
     front = met.full.full.front_is;
     limit = met.full.full.limit ∙ limit;
-    act = met.full.full.act;
-    does = met.full.full.does;
-    passes = ap (λ u. check (tables u new.seen) met.full.full.act) (sym opening) ∙ met.full.full.passes;
+    changes = met.full.full.changes;
+    passes = ap (λ u. check (tables u new.seen) request) (sym opening) ∙ met.full.full.passes;
     tries = met.tries;
   }
   point_as Plain opening limit same met = absurd met
 
   reply_is : (kind : PointKind) → new.opening ≡ old.opening → MetAs old new request point bytes kind → bytes ≡ reply_as old.opening round_of kind
-  reply_is At opening met = met.1.shown.bytes_are ∙ ap (λ (t : Tables). reply (show (tables t new.seen) request point.draw) going_on) opening
+  reply_is At opening met = met.1.shown.bytes_are ∙ ap (λ (t : Tables). reply_of_page (show (tables t new.seen) request point.draw) going_on) opening
   reply_is Change opening met = met.1.changed.bytes_are ∙ ap (λ (t : Tables). reply_of_page (page_at t new.seen point.front) going_on) opening
   reply_is (Busy conflicts) opening met = met.bytes_are
   reply_is Full opening met = met.bytes_are

@@ -75,7 +75,7 @@ point_from : (place now : Place) (last : ℕ) (log : List Entry) (round : Round)
     → StampRose place.latest now.latest last → last ≤ round.point.moment → PointAs now log round kind → PointAs place log round kind
 point_from place now last log round At opening limit caller rose later point = record {
   front = point.front;
-  alone = subst (λ t. ChangesNothing (tables t round.seen) (act_of round.request round.point.draw)) opening point.alone;
+  alone = subst (λ t. IsSome (show (tables t round.seen) round.request round.point.draw)) opening point.alone;
   tries = try_from place.latest now.latest last round.point.tries rose point.tries;
 }
 point_from place now last log round Change opening limit caller rose later point = record {
@@ -102,8 +102,8 @@ point_from place now last log round Full opening limit caller rose later point =
   front = point.front;
   limit = point.limit ∙ limit;
   act = point.act;
-  does = point.does;
-  passes = ap (λ t. check (tables t round.seen) point.act) (sym opening) ∙ point.passes;
+  changes = point.changes;
+  passes = ap (λ t. check (tables t round.seen) round.request) (sym opening) ∙ point.passes;
   tries = try_from place.latest now.latest last round.point.tries rose point.tries;
 }
 point_from place now last log round Plain opening limit caller rose later point = absurd point

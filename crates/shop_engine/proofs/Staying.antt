@@ -55,7 +55,7 @@ stamp_from (Some before) later last moment stamp rose le is = record {
 -- no settle at all
 pub stays_same : (seat : Seat) (moment : ℕ) → Stays seat seat [] 0 moment
 stays_same seat moment = record {
-  follows = record { shop = refl; opening = refl; limit = refl; caller = refl; grows = extends_self seat.seen; calls = omega arith };
+  follows = record { shop = refl; opening = refl; limit = refl; caller = refl; grows = extends_self seat.seen; calls = omega arith; valid = λ is. is };
   mine = sym (append-nil (entries_of seat.caller seat.seen));
   own = sym (append-nil seat.own);
   settled = record { rose = omega arith; kept = omega arith; most = omega arith };

@@ -10,17 +10,21 @@ use Rattle.shop_model.specs.declared.page.Page.{Page}
 use Rattle.shop_model.specs.declared.requests.Request.{Request}
 use Rattle.shop_model.specs.declared.tables.Tables.{Tables}
 use Rattle.shop_model.specs.Limits.{stamp_limit}
+use Rattle.shop_model.specs.Checks.{is_changing, check}
 use Rattle.shop_model.specs.Show.{show}
 use Rattle.shop_history.specs.declared.acts.Act.{Act}
+use Rattle.shop_history.specs.declared.acts.Act.TheVariants.{Cart}
 use Rattle.shop_history.specs.declared.acts.Drawn.{Drawn}
 use Rattle.shop_history.specs.declared.acts.Entry.{Entry}
 use Rattle.shop_history.specs.declared.acts.Ids.{Ids}
 use Rattle.shop_history.specs.declared.drafts.Draft.{Draft}
 use Rattle.shop_history.specs.declared.drafts.Draft.TheVariants.{Fixed}
-use Rattle.shop_history.specs.Acts.{check, play}
+use Rattle.shop_history.specs.Acts.{play, request_of, IsActOf}
 use Rattle.shop_history.specs.Drafts.{filled}
+use Rattle.shop_history.specs.Drawing.{new_ids}
 use Rattle.shop_history.specs.Logs.{tables, version_of, entries_of, page_at, Legal, MayFollow}
 use Rattle.shop_history.proofs.Places.{push_here}
+use Rattle.shop_history.proofs.Rows.{tables_push}
 use Rattle.shop_attempt.specs.declared.attempts.Attempt.{Attempt}
 use Rattle.shop_attempt.specs.declared.attempts.Conflict.{Conflict}
 use Rattle.shop_attempt.specs.declared.attempts.ReadOf.{ReadOf}
@@ -129,8 +133,10 @@ shown_is start old new request moment draw attempt draft drawn form bytes looked
           (stamp_raised old.latest new.latest moment (was.accepted.latest ∙ ap (raised old.latest) ready.attempts.at));
       shown = record {
         front_is = was.accepted.front;
-        alone = shown.alone;
-        bytes_are = bytes_are ∙ ap (λ (page : Page). reply page form) (fixed_is drawn.stamp drawn.ids draft (show t request draw) shown.page_is);
+        alone = subst IsSome (sym shown.shows) refl;
+        bytes_are =
+            bytes_are ∙ ap (λ (page : Page). reply page form) (fixed_is drawn.stamp drawn.ids draft shown.page shown.draft_is)
+            ∙ ap (λ (o : Option Page). reply_of_page o form) (sym shown.shows);
       };
     }
 
@@ -161,10 +167,13 @@ changed_is start old new request moment draw attempt draft drawn form bytes look
     let t : Tables = tables new.opening was.before in
     let drafts : IsDraftOf old.opening request draw attempt.reads draft (Some act) = subst (IsDraftOf old.opening request draw attempt.reads draft) some.1 ready.drafts in
     let may : MayFollow new.opening was.before was.entry = legal_last (MayFollow new.opening) was.before was.entry (subst (Legal new.opening) was.seen seat.legal) in
-    let becomes : Becomes (play t was.entry.stamp act) was.entry.stamp draft
+    let becomes : Becomes t was.entry.stamp act draft
     = drafts.1 t was.entry.stamp (agrees_found old new was.before attempt follows seat accepted.is_found.grows begins ready.attempts.faithful accepted.fresh) may.bound in
+    let ids_are : drawn.ids ≡ new_ids t (play t was.entry.stamp act).tables
+    = was.ids
+    ∙ ap (new_ids t) (ap (tables new.opening) was.seen ∙ tables_push new.opening was.before was.entry ∙ ap (λ a. (play t was.entry.stamp a).tables) was.does) in
     let filled_is : filled drawn.stamp drawn.ids draft ≡ (play t was.entry.stamp was.entry.act).page
-    = ap (λ s. filled s drawn.ids draft) (sym was.stamp) ∙ ap (λ i. filled was.entry.stamp i draft) was.ids ∙ becomes.page_is ∙ ap (λ a. (play t was.entry.stamp a).page) (sym was.does) in
+    = ap (λ s. filled s drawn.ids draft) (sym was.stamp) ∙ ap (λ i. filled was.entry.stamp i draft) ids_are ∙ becomes.page_is ∙ ap (λ a. (play t was.entry.stamp a).page) (sym was.does) in
     let front : drawn.front ≡ length (was.before ++ was.entry ∷ []) = accepted.front ∙ ap length was.seen in
     let page : page_at new.opening new.seen drawn.front ≡ Some (play t was.entry.stamp was.entry.act).page
     = ap (λ (log : List Entry). page_at new.opening log drawn.front) was.seen ∙ last_page new.opening was.before was.entry drawn.front front in
@@ -181,7 +190,7 @@ changed_is start old new request moment draw attempt draft drawn form bytes look
         seen = was.seen;
         front_is = accepted.front;
         caller = was.caller;
-        does = drafts.0 ∙ ap Some (sym was.does);
+        does = subst (IsActOf request draw) (sym was.does) drafts.0;
         stamp = record {
           later = omega (arith, accepted.moment, ready.attempts.at, was.stamp);
           exact = λ told same.
@@ -195,8 +204,11 @@ changed_is start old new request moment draw attempt draft drawn form bytes look
 
 -- a settle that found the log full
 
+act_changes : (act : Act) → is_changing (request_of act) ≡ true
+act_changes (Cart asked draw) = refl
+
 passes_there : (opening : Tables) (reads : List ReadOf) (act : Act) (writes : Option (List Write)) (t : Tables) (stamp : ℕ) → MakesAct opening reads (Some act) writes → Agrees opening t reads → stamp ≤ stamp_limit
-    → check t act ≡ None
+    → check t (request_of act) ≡ None
 passes_there opening reads act None t stamp makes agrees bound = absurd makes
 passes_there opening reads act (Some writes) t stamp makes agrees bound = (makes t stamp agrees bound).passes
 
@@ -214,9 +226,8 @@ full_is start old new request moment draw attempt draft size looked follows seat
       full = record {
         front_is = settled.1;
         limit = settled.2;
-        act = some.0;
-        does = drafts.0;
-        passes = passes_there old.opening attempt.reads some.0 attempt.writes t 0 makes agrees (omega arith);
+        changes = ap is_changing (sym drafts.0.does) ∙ act_changes some.0;
+        passes = ap (check t) (sym drafts.0.does) ∙ passes_there old.opening attempt.reads some.0 attempt.writes t 0 makes agrees (omega arith);
       };
     }
 
