@@ -1,5 +1,5 @@
 -- How what a connection has met goes on by one message, and what it comes to at the end.
-use Rattle.std.proofs.Common.{◌≡◌, ℕ, ◌+◌, ◌<◌, ◌≤◌, ◌⊎◌, ⊎_elim, length-append, List, [], ◌∷◌, ◌++◌, length, take, map, All, append_assoc, append-nil, refl, sym, ap, ◌∙◌, arith, subst, Some, None}
+use Rattle.std.proofs.Common.{◌≡◌, ℕ, ◌+◌, ◌<◌, ◌≤◌, ◌⊎◌, ⊎_elim, length-append, List, [], ◌∷◌, ◌++◌, length, take, map, All, append_assoc, append-nil, refl, sym, ap, ◌∙◌, arith, subst, Some, None, IsSome}
 use Rattle.std.specs.Option.{IfSome}
 use Rattle.std.specs.declared.option.Option.{Option}
 use Rattle.std.specs.Io.KnownBytes.{Appends}
@@ -11,11 +11,11 @@ use Rattle.shop_edges.specs.Clocks.{Tells}
 use Rattle.shop_edges.proofs.Known.{Appends-nothing, Appends-more, Consumes-nothing, Consumes-more}
 use Rattle.shop_log.specs.Histories.{Extends}
 use Rattle.shop_model.specs.declared.requests.Request.{Request}
+use Rattle.shop_model.specs.Checks.{check}
+use Rattle.shop_model.specs.Show.{show}
 use Rattle.shop_history.specs.declared.acts.Entry.{Entry}
-use Rattle.shop_history.specs.Acts.{act_of, check, ChangesNothing}
 use Rattle.shop_history.specs.Logs.{tables}
 use Rattle.shop_attempt.specs.declared.attempts.Conflict.{Conflict}
-use Rattle.shop_attempt.specs.Marks.{StillMarked}
 use Rattle.shop_attempt.specs.Reads.{IsConflict}
 use Rattle.shop_attempt.specs.Seats.{Seat}
 use Rattle.shop_browse.specs.Footprints.{InFootprint}
@@ -256,8 +256,6 @@ nothing_met caller before start old r w held points empty first = rw (empty, fir
   write_faults = omega arith;
 })
 
-pub still_trans : (old mid new : ℕ → ℕ → Type 0) → StillMarked old mid → StillMarked mid new → StillMarked old new
-still_trans old mid new one two = record { kept = λ front moment is. two.kept front moment (one.kept front moment is) }
 
 -- where the messages stop
 

@@ -10,7 +10,6 @@ use Rattle.shop_model.specs.declared.requests.Request.{Request}
 use Rattle.shop_model.specs.declared.tables.Tables.{Tables}
 use Rattle.shop_history.specs.declared.acts.Entry.{Entry}
 use Rattle.shop_history.specs.Logs.{history, version_of}
-use Rattle.shop_history.proofs.Rows.{tells_rows}
 use Rattle.shop_attempt.specs.declared.attempts.Conflict.{Conflict}
 use Rattle.shop_attempt.specs.Reads.{IsConflict}
 use Rattle.shop_attempt.specs.Seats.{Seat, Follows}
@@ -56,7 +55,7 @@ reads_later old new request draw first conflict follows was is same = ⊎_elim
     (λ (early : conflict.read ≤ length old.seen).
     let at : version_of old.opening old.seen first.key ≡ conflict.read
     = ap (λ (t : Tables). version_of t old.seen first.key) (sym follows.opening) ∙ ap (version_of new.opening old.seen) (sym same) ∙ is.since early in
-    omega (arith, at, changed_by history tells_rows old.opening old.seen first.key first.found was.conflicts.overtaken.changed))
+    omega (arith, at, changed_by history old.opening old.seen first.key first.found was.conflicts.overtaken.changed))
     (cases_lt (length old.seen) conflict.read)
 
 on_more : (old new : Seat) (request : Request) (draw : ℕ) (conflicts : List Conflict) (conflict : Conflict) → Follows old new → All (IsMet old request draw) conflicts → IsConflictOf new request draw old.seen conflict

@@ -3,11 +3,12 @@ use Rattle.shop_engine.specs.Rounds.{changes_of}
 use Rattle.shop_engine.specs.Served.{tries_of}
 use Rattle.shop_engine.specs.Tries.{StaysWithin}
 use Rattle.shop_engine.specs.Workers.{WorkerState}
-use Rattle.shop_engine.proofs.ConnectionLemmas.{Serves-request, Served-stopped, SoFar-ends, SoFar-broken, nothing_met, whole_answer, still_trans}
+use Rattle.shop_attempt.proofs.Looks.{keeps_self, keeps_then}
+use Rattle.shop_engine.proofs.ConnectionLemmas.{Serves-request, Served-stopped, SoFar-ends, SoFar-broken, nothing_met, whole_answer}
 use Rattle.shop_engine.proofs.serve.serve_all.Goals as goal
 
 pub loop-request-init : goal.loop-request-init
-loop-request-init g c = (nothing_met _ _ _ _ _ _ _ _ c.in-Ok.ensures c.requires, record { kept = λ front moment is. is })
+loop-request-init g c = (nothing_met _ _ _ _ _ _ _ _ c.in-Ok.ensures c.requires, keeps_self _ _)
 
 pub returns-in-Some-clause-stays : goal.returns-in-Some-clause-stays
 returns-in-Some-clause-stays g c =
@@ -19,14 +20,14 @@ pub loop-request-preserved-in_default-ended : goal.loop-request-preserved-in_def
 loop-request-preserved-in_default-ended g c = (
   Serves-request _ c.loop-request.worker.caller _ _ c.loop-request.worker.progress _ _ (g.St.Store.seat c.loop-request.worker.store) _ _ _ _ _ _ _ _ _ _ _ c.loop-request.points.items _ c.in-Request.request _ _ _
       c.loop-request.invariant.0 c.in-Request.ensures.next (whole_answer _ _ (c.in_default-ended.ensures.answered (λ same. absurd cc)) refl) c.in_default-ended.ensures.caller c.in-Request.ensures.later c.in_default-ended.ensures.writes,
-  still_trans _ _ _ c.loop-request.invariant.1 c.in_default-ended.ensures.marks,
+  keeps_then _ _ _ _ _ _ c.loop-request.invariant.1 c.in_default-ended.ensures.marks,
 )
 
 pub loop-request-preserved : goal.loop-request-preserved
 loop-request-preserved g c = (
   Serves-request _ c.loop-request.worker.caller _ _ c.loop-request.worker.progress _ _ (g.St.Store.seat c.loop-request.worker.store) _ _ _ _ _ _ _ _ _ _ _ c.loop-request.points.items _ c.in-Request.request _ _ _
       c.loop-request.invariant.0 c.in-Request.ensures.next (whole_answer _ _ (c.in_default-ended.ensures.answered (λ same. absurd cc)) refl) c.in_default-ended.ensures.caller c.in-Request.ensures.later c.in_default-ended.ensures.writes,
-  still_trans _ _ _ c.loop-request.invariant.1 c.in_default-ended.ensures.marks,
+  keeps_then _ _ _ _ _ _ c.loop-request.invariant.1 c.in_default-ended.ensures.marks,
 )
 
 pub returns-in-Stopped-clause-served : goal.returns-in-Stopped-clause-served
@@ -52,5 +53,5 @@ pub loop-request-preserved-in_default-ended-2 : goal.loop-request-preserved-in_d
 loop-request-preserved-in_default-ended-2 g c = (
   Serves-request _ c.loop-request.worker.caller _ _ c.loop-request.worker.progress _ _ (g.St.Store.seat c.loop-request.worker.store) _ _ _ _ _ _ _ _ _ _ _ c.loop-request.points.items _ c.in-Request.request _ _ _
       c.loop-request.invariant.0 c.in-Request.ensures.next (whole_answer _ _ (c.in_default-ended.ensures.answered (λ same. absurd cc)) refl) c.in_default-ended.ensures.caller c.in-Request.ensures.later c.in_default-ended.ensures.writes,
-  still_trans _ _ _ c.loop-request.invariant.1 c.in_default-ended.ensures.marks,
+  keeps_then _ _ _ _ _ _ c.loop-request.invariant.1 c.in_default-ended.ensures.marks,
 )

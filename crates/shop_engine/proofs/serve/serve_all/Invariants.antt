@@ -1,4 +1,4 @@
-use Rattle.shop_attempt.specs.Marks.{StillMarked}
+use Rattle.shop_attempt.specs.Marks.{KeepsMarks}
 use Rattle.shop_http.specs.Nexts.{work}
 use Rattle.shop_engine.specs.Steps.{Serves}
 use Rattle.shop_engine.proofs.serve.serve_all.Given as goal
@@ -10,7 +10,7 @@ invariant-loop-request g l =
     (record { left = g.S.Source.left l.source; held = g.K.Sink.held l.sink; clock = g.C.Clock.readings l.clock })
     (g.S.Source.faults l.fn.source) (g.S.Source.faults l.source) (g.K.Sink.faults l.fn.sink) (g.K.Sink.faults l.sink)
     l.buffer l.points.items
-    × StillMarked (g.St.Store.marked l.fn.worker.store) (g.St.Store.marked l.worker.store)
+    × KeepsMarks (g.St.Store.marked l.fn.worker.store) (g.St.Store.marked l.worker.store) (g.St.Store.seat l.fn.worker.store) (g.St.Store.seat l.worker.store)
 
 abbrev pub decreases-loop-request : goal.decreases-loop-request
 decreases-loop-request g l = work (g.S.Source.reads l.source) l.buffer

@@ -1,4 +1,4 @@
-use Rattle.shop_attempt.specs.Marks.{StillMarked}
+use Rattle.shop_attempt.specs.Marks.{KeepsMarks}
 use Rattle.shop_engine.proofs.Retrying.{MetSoFar}
 use Rattle.shop_engine.proofs.tries.try_all.Given as goal
 
@@ -6,5 +6,5 @@ use Rattle.shop_engine.proofs.tries.try_all.Given as goal
 abbrev pub invariant-loop-tried : goal.invariant-loop-tried
 invariant-loop-tried g l = record {
   so_far : MetSoFar (g.St.Store.seat l.fn.store) (g.St.Store.seat l.store) l.request l.ask.moment l.ask.draw l.conflicts l.tried;
-  marks : StillMarked (g.St.Store.marked l.fn.store) (g.St.Store.marked l.store);
+  marks : KeepsMarks (g.St.Store.marked l.fn.store) (g.St.Store.marked l.store) (g.St.Store.seat l.fn.store) (g.St.Store.seat l.store);
 }
