@@ -101,7 +101,6 @@ point_from place now last log round (Busy conflicts) opening limit caller rose l
 point_from place now last log round Full opening limit caller rose later point = record {
   front = point.front;
   limit = point.limit ∙ limit;
-  act = point.act;
   changes = point.changes;
   passes = ap (λ t. check (tables t round.seen) round.request) (sym opening) ∙ point.passes;
   tries = try_from place.latest now.latest last round.point.tries rose point.tries;
