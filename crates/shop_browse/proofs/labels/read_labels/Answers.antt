@@ -1,6 +1,7 @@
 use Rattle.std.proofs.Common.{arith, subst}
 use Rattle.std.proofs.lemmas.List.{take_more, take_all}
-use Rattle.shop_attempt.proofs.Looks.{looked_self, looked_trans, keeps_self, keeps_then, keeps_call}
+use Rattle.shop_attempt.proofs.Looks.{looked_self, looked_trans}
+use Rattle.shop_attempt.proofs.Marks.{keeps_self, keeps_then, keeps_call}
 use Rattle.shop_browse.specs.Attempts.{AddsLabels}
 use Rattle.shop_browse.proofs.Labelling.{no_labels, one_label_more}
 use Rattle.shop_browse.proofs.labels.read_labels.Goals as goal

@@ -2,7 +2,8 @@ use Rattle.std.proofs.Common.{subst}
 use Rattle.std.proofs.lemmas.Result.{IfOk-weaker}
 use Rattle.shop_model.specs.declared.requests.Request.TheVariants.{CartRequest}
 use Rattle.shop_model.specs.CartAsked.{CartAsked}
-use Rattle.shop_attempt.proofs.Looks.{looked_trans, keeps_then}
+use Rattle.shop_attempt.proofs.Looks.{looked_trans}
+use Rattle.shop_attempt.proofs.Marks.{keeps_then}
 use Rattle.shop_browse.specs.Attempts.{AttemptedAs}
 use Rattle.shop_order.specs.Begun.{IsNamed, ReadsCart}
 use Rattle.shop_order.specs.Changes.{AttemptsChange}

@@ -1,4 +1,5 @@
-use Rattle.shop_attempt.proofs.Looks.{looked_trans, keeps_then, keeps_call}
+use Rattle.shop_attempt.proofs.Looks.{looked_trans}
+use Rattle.shop_attempt.proofs.Marks.{keeps_then, keeps_call}
 use Rattle.shop_order.proofs.Reading.{one_item_more}
 use Rattle.shop_order.proofs.reads.read_items.Goals as goal
 
