@@ -62,9 +62,17 @@ customer_found : (o : Option CustomerRow) (x : CustomerRow) → shown row.Custom
 customer_found None x is = absurd cc
 customer_found (Some y) x is = cc
 
+pub same_customer : (one other : CustomerRow) → row.Customer one ≡ row.Customer other → one ≡ other
+same_customer one other is = cc
+
 customer_gone : (o : Option CustomerRow) → shown row.Customer o ≡ row.Absent → o ≡ None
 customer_gone None is = refl
 customer_gone (Some x) is = absurd cc
+
+-- a row that a customer's key shows is one, unless it is absent
+pub customer_known : (o : Option CustomerRow) (r : Row) → r ≡ shown row.Customer o → (r ≡ row.Absent → ⊥) → (customer : CustomerRow) × (r ≡ row.Customer customer)
+customer_known None r is there = absurd (there is)
+customer_known (Some customer) r is there = (customer, is)
 
 customer_row : (t : Tables) (number : ℕ) (read : ReadOf) (r : Row) → read.key ≡ key.Customer number → row_of t read.key ≡ read.row → read.row ≡ r → row_of t (key.Customer number) ≡ r
 customer_row t number read r key_is shows is = ap (row_of t) (sym key_is) ∙ shows ∙ is

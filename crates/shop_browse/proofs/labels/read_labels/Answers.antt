@@ -27,6 +27,18 @@ loop-id-preserved g c =
           c.in_ok-read.ensures.read c.in_ok-push.ensures.ok;
     }
 
+pub returns-in_err-read-clause-looked : goal.returns-in_err-read-clause-looked
+returns-in_err-read-clause-looked g c = looked_trans _ _ _ c.loop-id.invariant.looked c.read.ensures.looked
+
+pub returns-in_err-read-clause-marks : goal.returns-in_err-read-clause-marks
+returns-in_err-read-clause-marks g c = keeps_then _ _ _ _ _ _ c.loop-id.invariant.marks (keeps_call _ _ _ _ c.read.ensures.marks c.read.ensures.marked)
+
+pub returns-in_err-push-clause-looked : goal.returns-in_err-push-clause-looked
+returns-in_err-push-clause-looked g c = looked_trans _ _ _ c.loop-id.invariant.looked c.read.ensures.looked
+
+pub returns-in_err-push-clause-marks : goal.returns-in_err-push-clause-marks
+returns-in_err-push-clause-marks g c = keeps_then _ _ _ _ _ _ c.loop-id.invariant.marks (keeps_call _ _ _ _ c.read.ensures.marks c.read.ensures.marked)
+
 pub returns-clause-labels : goal.returns-clause-labels
 returns-clause-labels g c =
     subst (λ ids. AddsLabels (g.St.Store.seat c.args.store.now) (g.St.Store.seat c.loop-id.store) ids c.args.reads.now c.loop-id.reads)
