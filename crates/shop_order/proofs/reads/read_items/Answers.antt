@@ -13,3 +13,6 @@ loop-line-preserved g c =
           one_item_more (g.St.Store.seat c.args.store.now) (g.St.Store.seat c.loop-line.store) (g.St.Store.seat c.read.new.store) c.args.lines.now c.loop-line.line-index c.loop-line.items c.push.new.self c.in_ok-read.field-0
           c.loop-line-test.true so_far.reads so_far.looked c.read.ensures.looked c.in_ok-read.ensures.read c.in_ok-push.ensures.ok;
     }
+
+pub returns-in_err-push-clause-looked : goal.returns-in_err-push-clause-looked
+returns-in_err-push-clause-looked g c = looked_trans _ _ _ c.loop-line.invariant.looked c.read.ensures.looked
