@@ -1,14 +1,14 @@
-//! Tests of sessions over the desk's tables: how they end, and what they tell.
+//! Tests that cross crates: points and reports of connections, ends, limits, and settles over a book.
 #![tactic(auto)]
 
 #[cfg(test)]
-mod connections;
+mod ends;
 #[cfg(test)]
 mod limits;
 #[cfg(test)]
 mod points;
 #[cfg(test)]
-mod statuses;
+mod settles;
 #[cfg(test)]
 mod streams;
 #[cfg(test)]

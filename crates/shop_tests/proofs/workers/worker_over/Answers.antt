@@ -1,6 +1,6 @@
 use Rattle.std.proofs.Common.{◌∙◌}
-use Rattle.session_tests.proofs.Posting.{posted}
-use Rattle.session_tests.proofs.workers.worker_over.Goals as goal
+use Rattle.shop_tests.proofs.Posting.{posted}
+use Rattle.shop_tests.proofs.workers.worker_over.Goals as goal
 
 pub new-requires-3 : goal.new-requires-3
 new-requires-3 c =

@@ -2,7 +2,7 @@
 ghost use Rattle.std.specs.Prelude.{◌≤◌};
 ghost use Rattle.shop_book.specs.Openings.{most_entries};
 
-use crate::streams::{clock_of, sink_of, source_of, whole};
+use crate::streams::{Streams, clock_of, request, sink_of, source_of, whole};
 use memchr::memmem::{find, find_iter};
 use shop_book::{Book, Solo};
 use shop_edges::BytesOut;
@@ -26,6 +26,20 @@ pub(crate) fn worker_over(alloc: Global, scale: Scale, limit: u64) -> Result<Wor
     Worker::new(alloc, Solo::new(book), 1, 0, scale, index)
 }
 
+/// What comes of a connection over these streams, at these readings of the clock.
+pub(crate) fn served(
+    alloc: Global,
+    worker: &mut Worker<Solo>,
+    streams: Streams,
+    readings: &[u64],
+) -> Result<(Report, BytesOut), Memory> {
+    let mut source = source_of(alloc, streams)?;
+    let mut sink = sink_of(alloc, streams)?;
+    let mut clock = clock_of(alloc, readings)?;
+    let report = serve_connection(alloc, worker, &mut source, &mut sink, &mut clock);
+    Ok((report, sink))
+}
+
 /// What comes of a connection that asks for these targets, at these readings of the clock.
 pub(crate) fn asked(
     alloc: Global,
@@ -35,16 +49,9 @@ pub(crate) fn asked(
 ) -> Result<(Report, BytesOut), Memory> {
     let mut input = Text::new(alloc);
     for target in targets {
-        input.push(b"GET ")?;
-        input.push(target)?;
-        input.push(b" HTTP/1.1\r\nHost: shop\r\n\r\n")?;
+        input.push(request(alloc, target)?.bytes())?;
     }
-    let streams = whole(input.bytes());
-    let mut source = source_of(alloc, streams)?;
-    let mut sink = sink_of(alloc, streams)?;
-    let mut clock = clock_of(alloc, readings)?;
-    let report = serve_connection(alloc, worker, &mut source, &mut sink, &mut clock);
-    Ok((report, sink))
+    served(alloc, worker, whole(input.bytes()), readings)
 }
 
 /// The kind of a point, its front and its tries.
