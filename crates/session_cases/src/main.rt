@@ -20,16 +20,12 @@ use std::rt::Files;
 const ALL: usize = 1_000_000;
 
 /// How the bytes are cut.
-const CUTS: [Pieces; 4] = [
+const CUTS: [Pieces; 3] = [
     Pieces {
         read: 1,
         write: ALL,
     },
     Pieces { read: 7, write: 1 },
-    Pieces {
-        read: ALL,
-        write: 1,
-    },
     Pieces {
         read: ALL,
         write: ALL,
