@@ -70,7 +70,7 @@ count_all t stamp (write ∷ writes) =
 pub count_fits : (t : Tables) (stamp : ℕ) (writes : List Write) → IdsFit (written t stamp writes) → count_after (length t.customers) writes < 4294967296
 count_fits t stamp writes fits = rw (← count_all t stamp writes) fits.customers
 
-named_length : (count : ℕ) (writes : List Write) → length (named count writes) ≡ length writes
+pub named_length : (count : ℕ) (writes : List Write) → length (named count writes) ≡ length writes
 named_length count [] = refl
 named_length count (write ∷ writes) = grind (arith, named_length (count_after_one count write) writes)
 
