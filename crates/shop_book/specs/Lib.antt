@@ -1,4 +1,6 @@
 pub mod Openings
+pub mod RowsNow
+pub mod Puts
 pub mod Books
 pub mod Laws
 pub mod BookView

@@ -4,11 +4,13 @@
 
 mod book;
 mod changes;
+mod copies;
 mod opening;
 mod orders;
 mod rows;
 mod solo;
 mod summary;
+mod writes;
 
 pub use book::Book;
 pub use opening::Opening;
