@@ -35,11 +35,7 @@ fn name_customer(alloc: Global, write: &mut Write, count: u32) -> Result<u32, Me
 }
 
 /// Writes the names of new customers, behind so many. A refusal may come after some of them.
-pub(crate) fn name_customers(
-    alloc: Global,
-    writes: &mut [Write],
-    mut count: u32,
-) -> Result<(), Memory>
+fn name_customers(alloc: Global, writes: &mut [Write], mut count: u32) -> Result<(), Memory>
     requires { spec.count_after count writes.old < 2 ^ 32 }
     ensures { OnOk result (writes.new ≡ spec.named count writes.old) }
 {
@@ -188,6 +184,15 @@ impl Rows {
             Write::SetStock(stock) => set_stock(&mut self.items, &stock),
             Write::PutItem(item) => put_item(&mut self.items, item, stamp),
         }
+    }
+
+    /// Writes in which new customers have their names.
+    pub(crate) fn named(&self, alloc: Global, mut writes: Vec<Write>) -> Result<Vec<Write>, Memory>
+        requires { spec.count_after (length self.now.customers.items) writes.items < 2 ^ 32 }
+        ensures { IfOk result (λ named. named.items ≡ spec.named (length self.now.customers.items) writes.items) }
+    {
+        name_customers(alloc, &mut writes, self.customers.len() as u32)?;
+        Ok(writes)
     }
 
     /// Makes the writes, one after another.
