@@ -1,5 +1,6 @@
 -- A log of entries over some state, what keys show after it, and the versions of keys.
 use Rattle.std.specs.Prelude.{◌≡◌, ◌≢◌, ℕ, zero, suc, ◌-◌, ◌<◌, ◌≤◌, List, [], ◌∷◌, ◌++◌, length, take, if◌then◌else◌}
+use Rattle.std.proofs.Math.Bool.{decide}
 
 -- what an entry makes of a state, what a key shows of it, and whether two rows are equal
 pub record History (State Entry Key Row : Type 0) : Type 0 where
