@@ -10,9 +10,8 @@ use Rattle.shop_history.specs.declared.acts.Act.{Act}
 use Rattle.shop_history.specs.declared.acts.Entry.{Entry}
 use Rattle.shop_history.specs.Keys.{row_of}
 use Rattle.shop_history.specs.Logs.{history, tables, version_of, Legal, IsGood}
-use Rattle.shop_history.proofs.Carts.{same_catalogue}
 use Rattle.shop_history.proofs.Goods.{good_log, room_less}
-use Rattle.shop_history.proofs.Rows.{tells_rows}
+use Rattle.shop_history.proofs.Kept.{kept}
 use Rattle.shop_attempt.specs.declared.attempts.Attempt.{Attempt}
 use Rattle.shop_attempt.specs.declared.attempts.Conflict.{Conflict}
 use Rattle.shop_attempt.specs.declared.attempts.ReadOf.{ReadOf}
@@ -44,7 +43,7 @@ first_stale_none t log read reads none =
 
 fresh_row : (t : Tables) (log : List Entry) (read : ReadOf) → IsTrue t log read → version_of t log read.key ≡ read.version → row_of (tables t log) read.key ≡ read.row
 unfolding history
-fresh_row t log read was same = fresh history tells_rows t log read.key read.row read.version was same
+fresh_row t log read was same = fresh history t log read.key read.row read.version was same
 
 -- where no read is stale, the tables show what was read
 pub shows_fresh : (t : Tables) (log : List Entry) (reads : List ReadOf) → AreTrue t log reads → first_stale t log reads ≡ None → Shows (tables t log) reads
@@ -61,7 +60,7 @@ agrees_now t limit log reads good legal short were none =
     record {
       sound = now.sound;
       room_for = room_less (tables t log) (limit + 1 - length log) 1 (omega (arith, short)) now.room_for;
-      catalogue = same_catalogue t log;
+      catalogue = (kept t log).catalogue;
       shows = shows_fresh t log reads were none;
     }
 
@@ -78,9 +77,9 @@ makes_now t limit log attempt act writes stamp good legal short faithful none do
 pub stale_is : (t : Tables) (log : List Entry) (read : ReadOf) → IsTrue t log read → version_of t log read.key ≢ read.version → IsOvertaken t log (conflict_with t log read)
 stale_is t log read was apart =
     let now : ℕ = version_of t log read.key in
-    let grows : version_of t (take read.version log) read.key ≤ now = version_grows history tells_rows t read.key (take read.version log) log (take_extends log read.version) in
+    let grows : version_of t (take read.version log) read.key ≤ now = version_grows history t read.key (take read.version log) log (take_extends log read.version) in
     let later : read.version < now = less read.version now (omega (arith, was.version_is, grows)) (λ same. apart (sym same)) in
-    record { later = later; changed = version_changed history tells_rows t read.key log (omega (arith, later)) }
+    record { later = later; changed = version_changed history t read.key log (omega (arith, later)) }
   where
     less : (one other : ℕ) → one ≤ other → (one ≡ other → ⊥) → one < other
     less one other below apart = omega arith

@@ -1,3 +1,4 @@
 pub mod Hinge
 pub mod Looks
-pub mod Simples
+pub mod Marks
+pub mod Writing

@@ -12,12 +12,11 @@ use Rattle.shop_history.specs.declared.keys.Key.{Key}
 use Rattle.shop_history.specs.declared.keys.Row.{Row}
 use Rattle.shop_history.specs.Keys.{row_of}
 use Rattle.shop_history.specs.Logs.{history, version_of, entries_of}
-use Rattle.shop_history.proofs.Rows.{tells_rows}
 use Rattle.shop_attempt.specs.declared.attempts.Attempt.{Attempt}
 use Rattle.shop_attempt.specs.declared.attempts.Conflict.{Conflict}
 use Rattle.shop_attempt.specs.declared.attempts.ReadOf.{ReadOf}
 use Rattle.shop_attempt.specs.declared.attempts.Settle.TheVariants.{Stale}
-use Rattle.shop_attempt.specs.Reads.{IsTrue, AreTrue, Shows, first_stale, IsConflict, IsNoted, IsReadSince, AreReadSince}
+use Rattle.shop_attempt.specs.Reads.{IsTrue, AreTrue, Shows, first_stale, IsConflict, IsReadSince, AreReadSince}
 use Rattle.shop_attempt.specs.Seats.{Seat, Follows, Looked, IsReadAt}
 use Rattle.shop_attempt.specs.Settles.{Found, SettledAs}
 use Rattle.shop_attempt.proofs.Hinge.{conflict_with, first_stale_some, stale_is}
@@ -30,11 +29,12 @@ follows_trans a b c p q = record {
   caller = q.caller ∙ p.caller;
   grows = extends_trans a.seen b.seen c.seen p.grows q.grows;
   calls = omega (arith, p.calls, q.calls);
+  valid = λ is. q.valid (p.valid is);
 }
 
 pub looked_self : (seat : Seat) → Looked seat seat
 looked_self seat = record {
-  follows = record { shop = refl; opening = refl; limit = refl; caller = refl; grows = extends_self seat.seen; calls = omega arith };
+  follows = record { shop = refl; opening = refl; limit = refl; caller = refl; grows = extends_self seat.seen; calls = omega arith; valid = λ is. is };
   mine = refl;
   own = refl;
   settles = refl;
@@ -58,7 +58,7 @@ looked_trans a b c p q = record {
 
 pub read_true : (seat : Seat) (key : Key) (row : Row) (version : ℕ) → IsReadAt seat key (row, version) → IsTrue seat.opening seat.seen (record { key = key; row = row; version = version })
 unfolding history
-read_true seat key row version is = true_now history tells_rows seat.opening seat.seen key row version is.row is.version
+read_true seat key row version is = true_now history seat.opening seat.seen key row version is.row is.version
 
 pub since_now : (old now : Seat) (key : Key) (row : Row) (version : ℕ) → Looked old now → IsReadAt now key (row, version) → IsReadSince old now (record { key = key; row = row; version = version })
 since_now old now key row version looked is = record {
@@ -113,18 +113,6 @@ pub shows_at : (t : Tables) (reads : List ReadOf) (i : ℕ) (read : ReadOf) → 
 shows_at t [] i read within at shows = absurd (omega (arith, within))
 shows_at t (first ∷ reads) zero read within at shows = subst (λ (r : ReadOf). row_of t r.key ≡ r.row) (sym at) shows.0
 shows_at t (first ∷ reads) (suc i) read within at shows = let behind : i < length reads = omega (arith, within) in shows_at t reads i read behind at shows.1
-
--- the same of a read that was noted
-
-pub since_noted : (old now later : Seat) (key : Key) (row : Row) (before reads : List ReadOf) → Looked old now → Looked now later → AreReadSince old now before → IsNoted later key row before reads → AreReadSince old later reads
-since_noted old now later key row before reads first second are noted =
-    let read : ReadOf = record { key = key; row = row; version = noted.version } in
-    subst (AreReadSince old later) (sym noted.added)
-    (since_push old later before read (all_since_later old now later before second are) (since_now old later key row noted.version (looked_trans old now later first second) noted.is))
-
-pub shows_noted : (t : Tables) (seat : Seat) (key : Key) (row : Row) (before reads : List ReadOf) → IsNoted seat key row before reads → Shows t reads → Shows t before × (row_of t key ≡ row)
-shows_noted t seat key row before reads noted shows =
-    shows_push t before (record { key = key; row = row; version = noted.version }) (subst (Shows t) noted.added shows)
 
 -- the entries behind a beginning are not of a caller whose entries all stand in it
 

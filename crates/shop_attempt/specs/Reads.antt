@@ -1,11 +1,10 @@
 -- What an attempt read, and how it stands to the log.
-use Rattle.std.specs.Prelude.{◌≡◌, ◌≢◌, ℕ, ◌-◌, ◌==◌, ◌<◌, ◌≤◌, List, [], ◌∷◌, ◌++◌, length, Option, Some, None, slice_get, if◌then◌else◌}
+use Rattle.std.specs.Prelude.{◌≡◌, ◌≢◌, ℕ, ◌-◌, ◌==◌, ◌<◌, ◌≤◌, List, [], ◌∷◌, length, Option, Some, None, slice_get, if◌then◌else◌}
 use Rattle.shop_log.specs.Histories as histories
 use Rattle.shop_model.specs.declared.tables.Tables.{Tables}
 use Rattle.shop_model.specs.Sound.{Sound, Room}
 use Rattle.shop_history.specs.declared.acts.Entry.{Entry}
 use Rattle.shop_history.specs.declared.keys.Key.{Key}
-use Rattle.shop_history.specs.declared.keys.Row.{Row}
 use Rattle.shop_history.specs.Keys.{row_of}
 use Rattle.shop_history.specs.Logs.{history, version_of, SameCatalogue}
 use Rattle.shop_attempt.specs.declared.attempts.Conflict.{Conflict}

@@ -1,5 +1,5 @@
-use shop_history::{Act, Drawn, Key, Row};
 use crate::Stock;
+use shop_history::{Act, Drawn, Key, Row};
 use shop_model::{AddressText, Cart, Customer, Item, Order};
 use shop_text::Listed;
 

@@ -1,7 +1,7 @@
 use std::marker::Model;
 
 /// What an item has in stock.
-#[derive(Clone, Copy, Debug)]
+#[derive(Debug, Drop)]
 pub struct Stock {
     /// The item's id.
     pub item: u32,

@@ -1,11 +1,14 @@
 -- Entries that may follow keep the tables sound, and each uses one of the room.
-use Rattle.std.proofs.Common.{◌≡◌, ℕ, suc, ◌+◌, ◌-◌, ◌*◌, ◌^◌, ◌<◌, ◌≤◌, List, [], ◌∷◌, length, Option, Some, None, IfSome, option_map, unwrap_or, refl, arith, length-append}
+use Rattle.std.proofs.Common.{◌≡◌, ℕ, suc, ◌+◌, ◌-◌, ◌*◌, ◌^◌, ◌<◌, ◌≤◌, List, [], ◌∷◌, length, take, Option, Some, None, IfSome, option_map, unwrap_or, refl, arith, length-append}
 use Rattle.std.proofs.lemmas.List.{length-set}
 use Rattle.std.proofs.lemmas.List.Elements.{All-weaker}
+use Rattle.shop_log.proofs.Extending.{extends_length, take_extends}
 use Rattle.shop_log.proofs.Legality as legality
+use Rattle.shop_log.proofs.Legality.{legal_front}
 use Rattle.shop_model.specs.declared.tables.Tables.{Tables}
 use Rattle.shop_model.specs.CartAsked.{CartAsked}
 use Rattle.shop_model.specs.Carts.{check_cart, check_asked, lines_named, lines_after, cart_lines, carts_with}
+use Rattle.shop_model.specs.Checks.{check}
 use Rattle.shop_model.specs.Limits.{stamp_limit, restocks_limit}
 use Rattle.shop_model.specs.Lookups.{row_numbered}
 use Rattle.shop_model.specs.Rows.{CartRow}
@@ -13,10 +16,10 @@ use Rattle.shop_model.specs.Sound.{Sound, Room}
 use Rattle.shop_history.specs.declared.acts.Act.{Act}
 use Rattle.shop_history.specs.declared.acts.Act.TheVariants.{Cart}
 use Rattle.shop_history.specs.declared.acts.Entry.{Entry}
-use Rattle.shop_history.specs.Acts.{with_carts, play, check, IsInForm}
+use Rattle.shop_history.specs.Acts.{play, request_of, IsInForm}
 use Rattle.shop_history.specs.Logs.{history, after, tables, Legal, MayFollow, IsGood}
-use Rattle.shop_history.proofs.Carts.{named_there}
 use Rattle.shop_history.proofs.Lines.{AreFit, none_fit, cart_lines_fit}
+use Rattle.shop_history.proofs.MayChange.{named_there}
 use Rattle.shop_history.proofs.Places.{all_numbered}
 use Rattle.shop_history.proofs.SoundCarts.{AreSound, carts_sound, sound_with, push_sound, set_sound}
 
@@ -34,7 +37,7 @@ room_less t more less below room = record {
 }
 
 -- a cart more uses one of the room
-room_with : (t : Tables) (carts : List CartRow) (room : ℕ) → length carts ≤ length t.carts + 1 → Room t (suc room) → Room (with_carts t carts) room
+room_with : (t : Tables) (carts : List CartRow) (room : ℕ) → length carts ≤ length t.carts + 1 → Room t (suc room) → Room (record t { carts = carts }) room
 room_with t carts room one_more had =
     let less : Room t room = room_less t (suc room) room (omega arith) had in
     record {
@@ -82,7 +85,7 @@ carts_one_more carts None lines = omega (arith, length-append carts (record { id
 carts_one_more carts (Some id) lines = omega (arith, length-set carts (id - 1) (record { id = id; lines = lines }))
 
 -- an act that is not refused
-play_good : (t : Tables) (stamp : ℕ) (act : Act) (room : ℕ) → check t act ≡ None → IsGood t (suc room) → IsGood (play t stamp act).tables room
+play_good : (t : Tables) (stamp : ℕ) (act : Act) (room : ℕ) → check t (request_of act) ≡ None → IsGood t (suc room) → IsGood (play t stamp act).tables room
 play_good t stamp (Cart asked draw) room passes good =
     let lines : List (ℕ × ℕ) = lines_after t asked draw in
     let carts : List CartRow = carts_with t.carts asked.ids.cart lines in
@@ -91,7 +94,7 @@ play_good t stamp (Cart asked draw) room passes good =
     (lines_after_fit t asked draw good.sound passes) (carts_sound t good.sound) in
     record { sound = sound_with t carts are good.sound; room_for = room_with t carts room (carts_one_more t.carts asked.ids.cart lines) good.room_for }
 
-pub good_after : (t : Tables) (entry : Entry) (room : ℕ) → entry.stamp ≤ stamp_limit → IsInForm entry.act → check t entry.act ≡ None → IsGood t (suc room) → IsGood (after t entry) room
+pub good_after : (t : Tables) (entry : Entry) (room : ℕ) → entry.stamp ≤ stamp_limit → IsInForm entry.act → check t (request_of entry.act) ≡ None → IsGood t (suc room) → IsGood (after t entry) room
 good_after t entry room bound form passes good = play_good t entry.stamp entry.act room passes good
 
 pub good_log : (t : Tables) (most : ℕ) → IsGood t most → (log : List Entry) → Legal t log → length log ≤ most → IsGood (tables t log) (most - length log)
@@ -99,3 +102,9 @@ unfolding history
 good_log t most good =
     legality.good_after history (MayFollow t) IsGood t
     (λ log entry room follows before. good_after (tables t log) entry room follows.bound follows.form follows.passes before) most good
+
+-- the tables are sound after every beginning of a legal log
+pub sound_throughout : (t : Tables) (most : ℕ) → IsGood t most → (log : List Entry) → Legal t log → length log ≤ most → (count : ℕ) → Sound (tables t (take count log))
+sound_throughout t most good log legal short count =
+    let shorter : length (take count log) ≤ most = omega (arith, short, extends_length (take count log) log (take_extends log count)) in
+    (good_log t most good (take count log) (legal_front (MayFollow t) log legal count) shorter).sound

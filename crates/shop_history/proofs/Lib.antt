@@ -1,6 +1,9 @@
 pub mod Rows
 pub mod Places
-pub mod Carts
+pub mod Kept
+pub mod Drawing
+pub mod MayChange
+pub mod Raising
 pub mod Lines
 pub mod SoundCarts
 pub mod Goods

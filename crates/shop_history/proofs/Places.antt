@@ -68,10 +68,6 @@ module _ {A : Type 0} where
   none_row xs id (inl e) = cond-true _ _ _ (eq-eqb id 0 e)
   none_row xs id (inr past) = cond-false _ _ _ (ne_eqb id 0 (λ e. omega arith)) ∙ slice_get_past xs (id - 1) (omega arith)
 
-  -- what is not in a longer list is not in a shorter one
-  pub none_shorter : (xs ys : List A) (id : ℕ) → length xs ≤ length ys → row_numbered ys id ≡ None → row_numbered xs id ≡ None
-  none_shorter xs ys id shorter none = none_row xs id (⊎_elim (λ e. inl e) (λ past. inr (omega arith)) (row_none ys id none))
-
   -- a row in the place of another
   pub row_set_apart : (xs : List A) (id other : ℕ) (y : A) → 0 < id → (other ≡ id → ⊥) → row_numbered (slice_set xs (id - 1) y) other ≡ row_numbered xs other
   row_set_apart xs id other y above apart = row_same (slice_set xs (id - 1) y) xs other (λ some. set_other xs (id - 1) (other - 1) y (λ e. apart (omega (arith, above))))

@@ -9,7 +9,6 @@ use Rattle.shop_model.specs.declared.tables.Tables.{Tables}
 use Rattle.shop_model.specs.Lookups.{row_numbered}
 use Rattle.shop_model.specs.Rows.{CartRow}
 use Rattle.shop_model.specs.Sound.{Sound, IsFit, IsStocked, Runs, OrderNames}
-use Rattle.shop_history.specs.Acts.{with_carts}
 use Rattle.shop_history.proofs.Lines.{AreFit}
 use Rattle.shop_history.proofs.Places.{IsThere, is_there, id_numbered}
 
@@ -26,19 +25,19 @@ carts_sound t sound = record {
       record { few = fit.few; distinct = fit.distinct; quantities = fit.quantities; exist = sound.names.carts k d within };
 }
 
-pub sound_with : (t : Tables) (carts : List CartRow) → AreSound (length t.items) carts → Sound t → Sound (with_carts t carts)
+pub sound_with : (t : Tables) (carts : List CartRow) → AreSound (length t.items) carts → Sound t → Sound (record t { carts = carts })
 sound_with t carts are sound = record {
   lines = sound.lines;
   charges = sound.charges;
   payments = sound.payments;
-  stock = All-weaker (IsStocked t) (IsStocked (with_carts t carts)) (λ i h. record { level = h.level; low = h.low }) t.items sound.stock;
+  stock = All-weaker (IsStocked t) (IsStocked (record t { carts = carts })) (λ i h. record { level = h.level; low = h.low }) t.items sound.stock;
   names = record {
     addresses = sound.names.addresses;
     customers = sound.names.customers;
     authors = record { authors = sound.names.authors.authors };
     related = sound.names.related;
     orders =
-        All-weaker (OrderNames t) (OrderNames (with_carts t carts))
+        All-weaker (OrderNames t) (OrderNames (record t { carts = carts }))
         (λ o h. record { customer = h.customer; ship_address = h.ship_address; country = h.country; items = h.items }) t.orders sound.names.orders;
     carts = λ k d within. (are.fit k d within).exist;
     last = sound.names.last;

@@ -3,3 +3,4 @@ pub mod Extending
 pub mod Versions
 pub mod Shortest
 pub mod Legality
+pub mod Codes
