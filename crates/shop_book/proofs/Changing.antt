@@ -1,16 +1,15 @@
 -- What a change makes of a book.
-use Rattle.std.proofs.Common.{◌≡◌, ◌≢◌, ℕ, suc, ◌+◌, ◌-◌, ◌^◌, ◌<◌, ◌≤◌, ◌==◌, List, [], ◌∷◌, ◌++◌, length, None, Contains, ◌⊎◌, ⊎_elim, inl, inr, refl, sym, ◌∙◌, ap, subst, arith, length-append}
+use Rattle.std.proofs.Common.{◌≡◌, ℕ, suc, ◌+◌, ◌-◌, ◌^◌, ◌<◌, ◌≤◌, List, [], ◌∷◌, ◌++◌, length, Contains, ◌⊎◌, ⊎_elim, sym, ◌∙◌, ap, subst, arith, length-append}
 use Rattle.std.proofs.lemmas.Bool.{cases_eq, eq-eqb, ne_eqb, cond-true, cond-false}
 use Rattle.std.proofs.lemmas.List.Elements.{All-weaker, All-push}
 use Rattle.shop_log.specs.Histories.Legal.{push}
 use Rattle.shop_model.specs.declared.tables.Tables.{Tables}
-use Rattle.shop_model.specs.Checks.{check}
 use Rattle.shop_model.specs.Limits.{stamp_limit}
 use Rattle.shop_history.specs.declared.acts.Entry.{Entry}
 use Rattle.shop_history.specs.declared.keys.Key.{Key}
-use Rattle.shop_history.specs.Acts.{play, request_of, IsInForm}
+use Rattle.shop_history.specs.Acts.{play, IsInForm}
 use Rattle.shop_history.specs.Keys.{row_of}
-use Rattle.shop_history.specs.Logs.{tables, version_of, entries_of, MayFollow, IsGood}
+use Rattle.shop_history.specs.Logs.{entries_of, MayFollow, IsGood}
 use Rattle.shop_history.specs.MayChange.{may_change}
 use Rattle.shop_history.proofs.Goods.{good_log, good_after}
 use Rattle.shop_history.proofs.MayChange.{frame}

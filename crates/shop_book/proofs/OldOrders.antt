@@ -1,14 +1,12 @@
 -- The orders of a book are those of its opening.
-use Rattle.std.proofs.Common.{◌≡◌, ℕ, ◌+◌, ◌≤◌, nat_lt, Bool, List, [], ◌∷◌, length, map, filter, sum_by, refl, sym, ◌∙◌, ap, arith}
-use Rattle.std.specs.List.{range_with_len, list_any}
-use Rattle.std.specs.Str.{bytes_eq}
+use Rattle.std.proofs.Common.{◌≡◌, ℕ, ◌+◌, ◌≤◌, nat_lt, List, [], ◌∷◌, length, map, filter, sum_by, refl, sym, ◌∙◌, ap, arith}
+use Rattle.std.specs.List.{range_with_len}
 use Rattle.std.proofs.lemmas.Bool.{le-ltb}
 use Rattle.std.proofs.lemmas.List.{length-map}
-use Rattle.shop_model.specs.declared.tables.Tables.{Tables}
 use Rattle.shop_model.specs.Rows.{OrderRow}
 use Rattle.shop_history.proofs.Kept.{kept}
 use Rattle.shop_book.specs.Books.{BookValue, IsBook, tables_of}
-use Rattle.shop_book.specs.Summaries.{new_orders, summary_of, has_auth}
+use Rattle.shop_book.specs.Summaries.{new_orders, summary_of}
 
 -- where ids run up to a number, none is above it
 none_above : (orders : List OrderRow) (from born : ℕ) → map (λ o. o.id) orders ≡ range_with_len from (length orders) → from + length orders ≤ born + 1

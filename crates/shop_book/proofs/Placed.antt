@@ -1,5 +1,5 @@
 -- Which keys have a place for a version, and when two carts are equal.
-use Rattle.std.proofs.Common.{◌≡◌, ◌≢◌, ℕ, ◌-◌, ◌<◌, ◌≤◌, ◌&&◌, Bool, true, List, [], length, Option, Some, None, nat_eq, refl, sym, ◌∙◌, ap, subst, arith}
+use Rattle.std.proofs.Common.{◌≡◌, ◌≢◌, ℕ, ◌-◌, ◌≤◌, ◌&&◌, Bool, true, List, length, Some, None, nat_eq, refl, sym, ◌∙◌, ap, arith}
 use Rattle.std.specs.Cmp.Lexicographic.{pointwise}
 use Rattle.std.proofs.lemmas.Option.{slice_get_within}
 use lib.Pointwise.{pointwise_decides}
@@ -16,7 +16,6 @@ use Rattle.shop_history.specs.Same.{same}
 use Rattle.shop_history.proofs.Places.{IsThere, is_there}
 use Rattle.shop_book.specs.declared.rows.Rows.{Rows}
 use Rattle.shop_book.specs.declared.versions.Versions.{Versions}
-use Rattle.shop_book.specs.declared.watching.Watched.{Watched}
 use Rattle.shop_book.specs.Stored.{HasPlace, HasPlaces, MorePlaces}
 use Rattle.shop_book.specs.RowsNow.{tables_with}
 use Rattle.shop_book.specs.Watching.{CanWatch, IsWatchable}

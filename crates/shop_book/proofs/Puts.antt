@@ -1,52 +1,34 @@
--- What writes make of the tables: no row goes, only listed tables change, and names come first.
-use Rattle.std.proofs.Common.{◌≡◌, ℕ, ◌+◌, ◌-◌, ◌<◌, ◌≤◌, List, [], ◌∷◌, ◌++◌, length, get_or, set, take, drop, slice_set, Option, Some, None, refl, sym, ◌∙◌, ap, subst, arith, eqb, append_assoc, length-append}
-use Rattle.std.proofs.lemmas.Bool.{cond_both}
-use Rattle.std.proofs.lemmas.List.{length-set, take_more_set, drop-set-lt, drop_more}
+-- What writes make of the tables, and when they can be made: their ids fit, and names come first.
+use Rattle.std.proofs.Common.{◌≡◌, ℕ, ◌+◌, ◌<◌, ◌≤◌, List, [], ◌∷◌, ◌++◌, length, get_or, set, take, drop, refl, sym, ◌∙◌, ap, subst, arith, append_assoc, length-append}
+use Rattle.std.proofs.lemmas.List.{take_more_set, drop-set-lt, drop_more}
 use Rattle.shop_model.specs.declared.tables.Tables.{Tables}
 use Rattle.shop_model.specs.Empty.{no_tables}
-use Rattle.shop_model.specs.Limits.{stamp_limit, day_of}
-use Rattle.shop_model.specs.Lookups.{row_numbered}
+use Rattle.shop_model.specs.Limits.{stamp_limit}
+use Rattle.shop_history.proofs.Kept.{Grows}
 use Rattle.shop_attempt.specs.declared.attempts.Write.{Write}
-use Rattle.shop_attempt.specs.declared.attempts.Write.TheVariants.{PutCart, Login, AddAddress, AddCustomer, AddOrder, SetStock, PutItem}
-use Rattle.shop_attempt.specs.Writes.{changed_row, put_row, logged_in, written_one, written}
+use Rattle.shop_attempt.specs.declared.attempts.Write.TheVariants.{Login, AddCustomer}
+use Rattle.shop_attempt.specs.Writes.{logged_in, entered, written_one, written}
+use Rattle.shop_attempt.proofs.Writing.{changed_length, written_grows}
 use Rattle.shop_book.specs.declared.rows.Rows.{Rows}
 use Rattle.shop_book.specs.Puts.{named_one, named, count_after_one, count_after, IdsFit, AreReady}
 use Rattle.shop_book.specs.RowsNow.{tables_with, HasRoom}
 
--- ## No row goes
+-- ## Ids that fit
 
-module _ {Row : Type 0} where
-  put_longer : (rows : List Row) (id : ℕ) (make : ℕ → Row) → length rows ≤ length (put_row rows id make)
-  put_longer rows id make = cond_both (eqb id 0) (rows ++ make (length rows + 1) ∷ []) (slice_set rows (id - 1) (make id)) (λ (xs : List Row). length rows ≤ length xs)
-      (λ _. omega (arith, length-append rows (make (length rows + 1) ∷ []))) (λ _. omega (arith, length-set rows (id - 1) (make id)))
-
-  changed_length : (rows : List Row) (id : ℕ) (change : Row → Row) (row : Option Row) → length (changed_row rows id change row) ≡ length rows
-  changed_length rows id change None = refl
-  changed_length rows id change (Some row) = length-set rows (id - 1) (change row)
-
-  pushed_longer : (rows : List Row) (row : Row) → length rows ≤ length (rows ++ row ∷ [])
-  pushed_longer rows row = omega (arith, length-append rows (row ∷ []))
-
-less : {few many : ℕ} → few ≤ many → many < 4294967296 → few < 4294967296
-less short fits = omega (arith, short, fits)
-
--- where the ids fit after a write, they did before
-before_one : (t : Tables) (stamp : ℕ) (write : Write) → IdsFit (written_one t stamp write) → IdsFit t
-before_one t stamp (PutCart cart) fits = record { items = fits.items; customers = fits.customers; carts = omega (arith, fits.carts, put_longer t.carts cart.id (λ id. record cart { id = id })); addresses = fits.addresses; orders = fits.orders }
-before_one t stamp (Login id) fits = record { items = fits.items; customers = omega (arith, fits.customers, changed_length t.customers id (logged_in stamp) (row_numbered t.customers id)); carts = fits.carts; addresses = fits.addresses; orders = fits.orders }
-before_one t stamp (AddAddress text) fits = record { items = fits.items; customers = fits.customers; carts = fits.carts; addresses = less (pushed_longer t.addresses _) fits.addresses; orders = fits.orders }
-before_one t stamp (AddCustomer customer) fits = record { items = fits.items; customers = less (pushed_longer t.customers _) fits.customers; carts = fits.carts; addresses = fits.addresses; orders = fits.orders }
-before_one t stamp (AddOrder order days) fits = record { items = fits.items; customers = fits.customers; carts = fits.carts; addresses = fits.addresses; orders = less (pushed_longer t.orders _) fits.orders }
-before_one t stamp (SetStock stock) fits = record { items = omega (arith, fits.items, changed_length t.items stock.item (λ item. record item { stock = stock.stock; restocks = stock.restocks }) (row_numbered t.items stock.item)); customers = fits.customers; carts = fits.carts; addresses = fits.addresses; orders = fits.orders }
-before_one t stamp (PutItem item) fits = record { items = omega (arith, fits.items, put_longer t.items item.id (λ id. record item { id = id; published = day_of stamp })); customers = fits.customers; carts = fits.carts; addresses = fits.addresses; orders = fits.orders }
-
-before : (t : Tables) (stamp : ℕ) (writes : List Write) → IdsFit (written t stamp writes) → IdsFit t
-before t stamp [] fits = fits
-before t stamp (write ∷ writes) fits = before_one t stamp write (before (written_one t stamp write) stamp writes fits)
+-- where the ids fit in tables that have grown, they fit before
+fits_before : (t u : Tables) → Grows t u → IdsFit u → IdsFit t
+fits_before t u grows fits = record {
+  items = omega (arith, grows.items, fits.items);
+  customers = omega (arith, grows.customers, fits.customers);
+  carts = omega (arith, grows.carts, fits.carts);
+  addresses = omega (arith, grows.addresses, fits.addresses);
+  orders = omega (arith, grows.orders, fits.orders);
+}
 
 -- the ids of the first write fit where those of all do
 pub first_fits : (t : Tables) (stamp : ℕ) (write : Write) (writes : List Write) → IdsFit (written t stamp (write ∷ writes)) → IdsFit (written_one t stamp write)
-first_fits t stamp write writes fits = before (written_one t stamp write) stamp writes fits
+first_fits t stamp write writes fits =
+    fits_before (written_one t stamp write) (written t stamp (write ∷ writes)) (written_grows (written_one t stamp write) stamp writes) fits
 
 -- ## The tables that writes do not touch
 
@@ -55,13 +37,8 @@ abbrev over : Tables → Tables → Tables
 over t u = record t { items = u.items; customers = u.customers; last = u.last; carts = u.carts; addresses = u.addresses; orders = u.orders }
 
 over_one : (t u : Tables) (stamp : ℕ) (write : Write) → written_one (over t u) stamp write ≡ over t (written_one u stamp write)
-over_one t u stamp (PutCart cart) = refl
-over_one t u stamp (Login id) = refl
-over_one t u stamp (AddAddress text) = refl
 over_one t u stamp (AddCustomer customer) = refl
-over_one t u stamp (AddOrder order days) = refl
-over_one t u stamp (SetStock stock) = refl
-over_one t u stamp (PutItem item) = refl
+over_one t u stamp _ = refl
 
 written_over : (t u : Tables) (stamp : ℕ) (writes : List Write) → written (over t u) stamp writes ≡ over t (written u stamp writes)
 written_over t u stamp [] = refl
@@ -80,13 +57,9 @@ fits_alone t rows stamp writes fits =
 
 -- the count of customers is that of the tables
 pub count_one : (t : Tables) (stamp : ℕ) (write : Write) → length (written_one t stamp write).customers ≡ count_after_one (length t.customers) write
-count_one t stamp (PutCart cart) = refl
-count_one t stamp (Login id) = changed_length t.customers id (logged_in stamp) (row_numbered t.customers id)
-count_one t stamp (AddAddress text) = refl
-count_one t stamp (AddCustomer customer) = length-append t.customers _
-count_one t stamp (AddOrder order days) = refl
-count_one t stamp (SetStock stock) = refl
-count_one t stamp (PutItem item) = refl
+count_one t stamp (Login id) = changed_length t.customers id (logged_in stamp)
+count_one t stamp (AddCustomer customer) = length-append t.customers (entered t stamp customer ∷ [])
+count_one t stamp _ = refl
 
 count_all : (t : Tables) (stamp : ℕ) (writes : List Write) → length (written t stamp writes).customers ≡ count_after (length t.customers) writes
 count_all t stamp [] = refl
@@ -103,22 +76,12 @@ named_length count (write ∷ writes) = grind (arith, named_length (count_after_
 
 -- who is named already gets the same name
 name_again : (count : ℕ) (write : Write) → named_one count (named_one count write) ≡ named_one count write
-name_again count (PutCart cart) = refl
-name_again count (Login id) = refl
-name_again count (AddAddress text) = refl
 name_again count (AddCustomer customer) = refl
-name_again count (AddOrder order days) = refl
-name_again count (SetStock stock) = refl
-name_again count (PutItem item) = refl
+name_again count _ = refl
 
 count_again : (count : ℕ) (write : Write) → count_after_one count (named_one count write) ≡ count_after_one count write
-count_again count (PutCart cart) = refl
-count_again count (Login id) = refl
-count_again count (AddAddress text) = refl
 count_again count (AddCustomer customer) = refl
-count_again count (AddOrder order days) = refl
-count_again count (SetStock stock) = refl
-count_again count (PutItem item) = refl
+count_again count _ = refl
 
 names_again : (count : ℕ) (writes : List Write) → named count (named count writes) ≡ named count writes
 names_again count [] = refl
@@ -129,13 +92,8 @@ names_again count (write ∷ writes) =
 
 -- and is entered as who is not
 named_written_one : (t : Tables) (stamp : ℕ) (write : Write) → written_one t stamp (named_one (length t.customers) write) ≡ written_one t stamp write
-named_written_one t stamp (PutCart cart) = refl
-named_written_one t stamp (Login id) = refl
-named_written_one t stamp (AddAddress text) = refl
 named_written_one t stamp (AddCustomer customer) = refl
-named_written_one t stamp (AddOrder order days) = refl
-named_written_one t stamp (SetStock stock) = refl
-named_written_one t stamp (PutItem item) = refl
+named_written_one t stamp _ = refl
 
 pub named_written : (t : Tables) (stamp : ℕ) (writes : List Write) → written t stamp (named (length t.customers) writes) ≡ written t stamp writes
 named_written t stamp [] = refl
@@ -189,13 +147,8 @@ count_longer count [] = omega arith
 count_longer count (write ∷ writes) = omega (arith, one_longer count write, count_longer (count_after_one count write) writes)
   where
     one_longer : (count : ℕ) (write : Write) → count ≤ count_after_one count write
-    one_longer count (PutCart cart) = omega arith
-    one_longer count (Login id) = omega arith
-    one_longer count (AddAddress text) = omega arith
     one_longer count (AddCustomer customer) = omega arith
-    one_longer count (AddOrder order days) = omega arith
-    one_longer count (SetStock stock) = omega arith
-    one_longer count (PutItem item) = omega arith
+    one_longer count _ = omega arith
 
 -- room for all is room for the first
 pub room_one : (rows : Rows) (rest : List Write) (write : Write) → HasRoom rows (length (write ∷ rest)) → HasRoom rows 1

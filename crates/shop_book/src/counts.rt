@@ -17,7 +17,9 @@ impl Counts {
     pub(crate) fn new(alloc: Global) -> Counts
         ensures { (caller : ℕ) → spec.count_in result caller ≡ 0 }
     {
-        Counts { by_caller: HashMap::new(alloc) }
+        Counts {
+            by_caller: HashMap::new(alloc),
+        }
     }
 
     /// How many entries a caller has.

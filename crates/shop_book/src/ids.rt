@@ -21,7 +21,11 @@ fn new_id(before: usize, after: usize) -> Option<u32>
     requires { after < 2 ^ 32 }
     ensures { result ≡ spec.id_behind before after }
 {
-    if before < after { Some(before as u32 + 1) } else { None }
+    if before < after {
+        Some(before as u32 + 1)
+    } else {
+        None
+    }
 }
 
 impl Sizes {

@@ -63,12 +63,7 @@ impl Rows {
     }
 
     /// What a key of a label shows; authors are those of these tables.
-    pub(crate) fn label_row(
-        &self,
-        alloc: Global,
-        tables: &Tables,
-        id: u32,
-    ) -> Result<Row, Memory>
+    pub(crate) fn label_row(&self, alloc: Global, tables: &Tables, id: u32) -> Result<Row, Memory>
         requires { Sound (tables_with tables.now self.now) }
         ensures { IfOk result (λ row. row ≡ keys.row_of (tables_with tables.now self.now) (Key.Label id)) }
     {

@@ -12,12 +12,7 @@ use std::alloc::Global;
 
 /// What a key shows in the tables with these rows. The lists of new and of best sold items are made
 /// of the tables as they were, since no act changes items or orders yet.
-pub(crate) fn shown(
-    alloc: Global,
-    tables: &Tables,
-    rows: &Rows,
-    key: &Key,
-) -> Result<Row, Memory>
+pub(crate) fn shown(alloc: Global, tables: &Tables, rows: &Rows, key: &Key) -> Result<Row, Memory>
     requires opened { Sound tables.now }
     requires sound { Sound (tables_with tables.now rows.now) }
     requires lists { SameLists tables.now rows.now }

@@ -8,7 +8,9 @@ ghost use Rattle.shop_book.specs.RowsNow.{tables_with, KeepsRoom, TakesOne};
 
 use crate::rows::Rows;
 use shop_attempt::{Stock, Write};
-use shop_model::{Address, AddressText, CardUse, Cart, Customer, DAY_LIMIT, Item, Order, SESSION_TIME};
+use shop_model::{
+    Address, AddressText, CardUse, Cart, Customer, DAY_LIMIT, Item, Order, SESSION_TIME,
+};
 use shop_text::{Memory, digsyl, digsyl_lower};
 use std::alloc::Global;
 
@@ -33,11 +35,7 @@ fn name_customer(alloc: Global, write: &mut Write, count: u32) -> Result<u32, Me
 }
 
 /// Writes the names of new customers, behind so many. A refusal may come after some of them.
-pub(crate) fn name_customers(
-    alloc: Global,
-    writes: &mut [Write],
-    mut count: u32,
-) -> Result<(), Memory>
+fn name_customers(alloc: Global, writes: &mut [Write], mut count: u32) -> Result<(), Memory>
     requires { spec.count_after count writes.old < 2 ^ 32 }
     ensures { OnOk result (writes.new ≡ spec.named count writes.old) }
 {
@@ -74,7 +72,11 @@ fn put_item(items: &mut Vec<Item>, item: Item, stamp: u64)
     let published = (stamp / DAY_LENGTH) as u32;
     if item.id == 0 {
         let id = items.len() as u32 + 1;
-        items.push_reserved(Item { id, published, ..item });
+        items.push_reserved(Item {
+            id,
+            published,
+            ..item
+        });
     } else if (item.id as usize - 1) < items.len() {
         let place = item.id as usize - 1;
         items[place] = Item { published, ..item };
@@ -116,7 +118,6 @@ fn add_address(addresses: &mut Vec<Address>, text: AddressText)
     let id = addresses.len() as u32 + 1;
     addresses.push_reserved(Address { id, text });
 }
-
 
 /// An id, or, where it is 0, the last one of so many.
 fn or_last(id: u32, count: usize) -> u32

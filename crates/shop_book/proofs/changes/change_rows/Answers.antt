@@ -1,9 +1,5 @@
-use Rattle.std.proofs.Common.{◌≡◌, ◌≢◌, length, sym, ◌∙◌, ap, subst, arith, get_or}
-use Rattle.shop_model.specs.declared.tables.Tables.{Tables}
+use Rattle.std.proofs.Common.{length, sym, ◌∙◌, subst, arith, get_or}
 use Rattle.shop_model.specs.Empty.{no_tables}
-use Rattle.shop_history.specs.declared.keys.Row.{Row}
-use Rattle.shop_history.specs.declared.keys.Row.TheVariants.{Absent}
-use Rattle.shop_attempt.specs.Writes.{written}
 use Rattle.shop_book.specs.declared.watching.Watched.{Watched}
 use Rattle.shop_book.specs.Puts.{IdsFit}
 use Rattle.shop_book.specs.RowsNow.{tables_with}

@@ -1,4 +1,3 @@
-use Rattle.std.proofs.Common.{◌≡◌}
 use Rattle.shop_book.proofs.Placed.{carts_same}
 use Rattle.shop_book.proofs.watching.same_cart.Goals as goal
 

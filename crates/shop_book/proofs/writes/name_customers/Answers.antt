@@ -21,8 +21,7 @@ loop-write-preserved c =
     let write = c.write-item.result in
     let new = c.name_customer.new.write in
     let within : i < length writes = omega arith in
-    let count = c.in_ok-count.ensures.count in
-    (
+    let count = c.in_ok-count.ensures.count in (
       rw count (named_step writes i c.loop-write.count write new within c.in_ok-count.ensures.named ∙ c.loop-write.invariant.0),
       rw count (count_step writes i c.loop-write.count write new within ∙ c.loop-write.invariant.1),
     )

@@ -1,22 +1,19 @@
-use Rattle.std.proofs.Common.{◌≡◌, ℕ, ◌+◌, ◌<◌, ◌==◌, if◌then◌else◌, List, [], ◌∷◌, ◌++◌, length, vec_len, Some, get_or, refl, sym, ◌∙◌, ap, subst, arith, length-append}
+use Rattle.std.proofs.Common.{◌≡◌, ℕ, ◌+◌, ◌<◌, ◌==◌, if◌then◌else◌, List, [], ◌∷◌, ◌++◌, length, refl, sym, ◌∙◌, ap, subst, arith, length-append}
 use Rattle.shop_model.specs.declared.tables.Tables.{Tables}
-use Rattle.shop_attempt.specs.declared.attempts.Write.{Write}
 use Rattle.shop_attempt.specs.Writes.{written}
 use Rattle.shop_history.specs.declared.acts.Entry.{Entry}
 use Rattle.shop_history.specs.Drawing.{new_ids}
-use Rattle.shop_history.specs.Keys.{row_of}
 use Rattle.shop_history.proofs.Raising.{RaisedFor}
 use Rattle.shop_book.specs.declared.watching.Watched.{Watched}
-use Rattle.shop_book.specs.Books.{BookValue, IsBook, tables_of}
+use Rattle.shop_book.specs.Books.{BookValue, tables_of}
 use Rattle.shop_book.specs.BookView.{book_of}
 use Rattle.shop_book.specs.Keeping.{IsKept}
 use Rattle.shop_book.specs.Puts.{AreReady, named}
 use Rattle.shop_book.specs.RowsNow.{tables_with, HasRoom}
-use Rattle.shop_book.specs.Settles.{Taken}
 use Rattle.shop_book.specs.Stored as versioned
 use Rattle.shop_book.specs.Stored.{stored}
 use Rattle.shop_book.specs.Watching.{AreOf, keys_of}
-use Rattle.shop_book.proofs.Changing.{IsNext, next_of, cart_fits, names_fit, kept_roomy, ready, kept_after, with_entry}
+use Rattle.shop_book.proofs.Changing.{IsNext, next_of, cart_fits, names_fit, kept_roomy, ready, kept_after}
 use Rattle.shop_book.proofs.Puts.{named_length}
 use Rattle.shop_book.proofs.book.Book.change.Goals as goal
 

@@ -1,6 +1,5 @@
-use Rattle.std.proofs.Common.{◌∙◌, subst, arith, ap, length}
-use Rattle.shop_history.specs.Logs.{entries_of}
-use Rattle.shop_book.specs.Books.{BookValue, IsBook}
+use Rattle.std.proofs.Common.{◌∙◌, subst, arith}
+use Rattle.shop_book.specs.Books.{IsBook}
 use Rattle.shop_book.proofs.Callers.{few_entries}
 use Rattle.shop_book.proofs.book.Book.count_of.Goals as goal
 

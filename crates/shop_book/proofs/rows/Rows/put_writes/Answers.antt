@@ -2,8 +2,8 @@ use Rattle.std.proofs.Common.{◌≡◌, ◌∷◌, length, ap, ◌∙◌, subst
 use Rattle.std.specs.Vec.Iter.{into_iter_items}
 use Rattle.shop_model.specs.Empty.{no_tables}
 use Rattle.shop_attempt.specs.Writes.{written}
-use Rattle.shop_book.specs.RowsNow.{tables_with, HasRoom}
-use Rattle.shop_book.specs.Puts.{IdsFit, named}
+use Rattle.shop_book.specs.RowsNow.{tables_with}
+use Rattle.shop_book.specs.Puts.{IdsFit}
 use Rattle.shop_book.proofs.Puts.{first_fits, first_named, rest_named, room_one}
 use Rattle.shop_book.proofs.rows.Rows.put_writes.Goals as goal
 

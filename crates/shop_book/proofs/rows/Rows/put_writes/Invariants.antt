@@ -1,4 +1,4 @@
-use Rattle.std.proofs.Common.{◌≡◌, ℕ, length}
+use Rattle.std.proofs.Common.{◌≡◌, length}
 use Rattle.std.specs.Vec.Iter.{into_iter_items}
 use Rattle.shop_model.specs.declared.tables.Tables.{Tables}
 use Rattle.shop_attempt.specs.Writes.{written}
