@@ -1,8 +1,8 @@
-ghost use Rattle.std.specs.Prelude.{◌≡◌, ◌≤◌, ◌+◌, ◌*◌, ◌/◌, ◌++◌, decimal, length, min};
+ghost use Rattle.std.specs.Prelude.{◌≡◌, ◌≤◌, ◌+◌, ◌*◌, ◌++◌, decimal, length, min};
 ghost use Rattle.shop_text.specs.Texts.{digsyl, escape};
 ghost use Rattle.shop_text.specs.Syllables.{spelled};
-ghost use Rattle.shop_model.specs.Limits.{day_limit};
-ghost use Rattle.shop_history.specs.Drafts.{id_text, day_length};
+ghost use Rattle.shop_model.specs.Limits.{day_limit, day_of};
+ghost use Rattle.shop_history.specs.Drafts.{id_text};
 ghost use Rattle.shop_pages.specs.Templates.{hole_text, hole_room};
 
 use crate::out::Out;
@@ -30,7 +30,7 @@ pub enum Hole {
 
 /// The day that comes so many days after that of a stamp, 9999-12-31 at most.
 fn day_after(stamp: u64, later: u32) -> u32
-    ensures { result ≡ min (stamp / day_length + later) day_limit }
+    ensures { result ≡ min (day_of stamp + later) day_limit }
 {
     let day = stamp / DAY_LENGTH + u64::from(later);
     day.min(u64::from(DAY_LIMIT)) as u32
