@@ -6,6 +6,8 @@
 #![tactic(auto)]
 
 mod runs;
+#[cfg(test)]
+mod tests;
 
 use runs::{Shop, run};
 use shop_model::{

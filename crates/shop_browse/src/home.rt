@@ -210,7 +210,7 @@ fn greet<St: Store>(
 }
 
 /// The promotion, and a greeting for the customer whose number was given.
-pub(crate) fn home<St: Store>(
+pub fn home<St: Store>(
     alloc: Global,
     store: &mut St,
     ask: &Ask,

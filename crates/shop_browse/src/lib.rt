@@ -4,16 +4,16 @@
 
 mod attempted;
 mod calls;
-mod home;
+pub mod home;
 mod labels;
 mod lines;
 mod links;
 mod list_pages;
-mod product_detail;
+pub mod product_detail;
 mod promotion;
-mod rankings;
-mod search_request;
-mod search_results;
+pub mod rankings;
+pub mod search_request;
+pub mod search_results;
 
 pub use attempted::{Ask, Attempted, attempt_of};
 pub use calls::attempt;

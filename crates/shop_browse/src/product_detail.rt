@@ -186,7 +186,7 @@ fn listed(alloc: Global, reads: ItemReads) -> Result<Listed<ReadOf>, Memory>
 }
 
 /// The page of the item with this number.
-pub(crate) fn product_detail<St: Store>(
+pub fn product_detail<St: Store>(
     alloc: Global,
     store: &mut St,
     ask: &Ask,

@@ -64,7 +64,7 @@ fn attempt_list<St: Store>(
 }
 
 /// An attempt at the newest items of a subject.
-pub(crate) fn new_products<St: Store>(
+pub fn new_products<St: Store>(
     alloc: Global,
     store: &mut St,
     ask: &Ask,
@@ -81,7 +81,7 @@ pub(crate) fn new_products<St: Store>(
 }
 
 /// An attempt at the best sold items of a subject.
-pub(crate) fn best_sellers<St: Store>(
+pub fn best_sellers<St: Store>(
     alloc: Global,
     store: &mut St,
     ask: &Ask,

@@ -78,7 +78,7 @@ fn search_page(alloc: Global, promotion: &Promotion, ids: IdsAsked) -> Result<Op
 }
 
 /// The promotion and a form to search with; the customer isn't looked at.
-pub(crate) fn search_request<St: Store>(
+pub fn search_request<St: Store>(
     alloc: Global,
     store: &mut St,
     ask: &Ask,

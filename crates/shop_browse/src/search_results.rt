@@ -34,7 +34,7 @@ fn search_heading(alloc: Global, asked: &SearchResults) -> Result<Listed<Block>,
 }
 
 /// An attempt at what a search finds.
-pub(crate) fn search_results<St: Store>(
+pub fn search_results<St: Store>(
     alloc: Global,
     store: &mut St,
     ask: &Ask,

@@ -1,0 +1,119 @@
+//! Each call that only reads, once over the desk's shop with seed 0.
+ghost use Rattle.std.specs.Prelude.{◌≡◌};
+
+use crate::runs::Shop;
+use shop_browse::home::home;
+use shop_browse::product_detail::product_detail;
+use shop_browse::rankings::{best_sellers, new_products};
+use shop_browse::search_request::search_request;
+use shop_browse::search_results::search_results;
+use shop_browse::{Ask, Attempted};
+use shop_history::Draft;
+use shop_model::{
+    BestSellers, Home, IdsAsked, NewProducts, ProductDetail, Scale, SearchKind, SearchRequest,
+    SearchResults, Subject,
+};
+use shop_search::Index;
+use shop_text::{Memory, Text};
+use std::alloc::Global;
+use std::test::Fail;
+
+const IDS: IdsAsked = IdsAsked {
+    c: None,
+    cart: None,
+};
+
+/// The ask with the word 0 at the first moment.
+fn ask_of<'a>(scale: &'a Scale, index: &'a Index) -> Ask<'a>
+    ensures scale { result.scale.now ≡ scale.now }
+    ensures index { result.index.now ≡ index.now }
+{
+    Ask {
+        scale,
+        index,
+        moment: 0,
+        draw: 0,
+    }
+}
+
+fn at_home(alloc: Global) -> Result<Attempted, Memory> {
+    let mut shop = Shop::open(alloc, Scale::desk())?;
+    let ask = ask_of(&shop.scale, &shop.index);
+    home(alloc, &mut shop.store, &ask, &Home { ids: IDS })
+}
+
+fn at_new_products(alloc: Global) -> Result<Attempted, Memory> {
+    let mut shop = Shop::open(alloc, Scale::desk())?;
+    let ask = ask_of(&shop.scale, &shop.index);
+    let subject = Subject::NonFiction;
+    new_products(
+        alloc,
+        &mut shop.store,
+        &ask,
+        &NewProducts { subject, ids: IDS },
+    )
+}
+
+fn at_best_sellers(alloc: Global) -> Result<Attempted, Memory> {
+    let mut shop = Shop::open(alloc, Scale::desk())?;
+    let ask = ask_of(&shop.scale, &shop.index);
+    let subject = Subject::NonFiction;
+    best_sellers(
+        alloc,
+        &mut shop.store,
+        &ask,
+        &BestSellers { subject, ids: IDS },
+    )
+}
+
+fn at_product_detail(alloc: Global) -> Result<Attempted, Memory> {
+    let mut shop = Shop::open(alloc, Scale::desk())?;
+    let ask = ask_of(&shop.scale, &shop.index);
+    product_detail(
+        alloc,
+        &mut shop.store,
+        &ask,
+        &ProductDetail { item: 1, ids: IDS },
+    )
+}
+
+fn at_search_request(alloc: Global) -> Result<Attempted, Memory> {
+    let mut shop = Shop::open(alloc, Scale::desk())?;
+    let ask = ask_of(&shop.scale, &shop.index);
+    search_request(alloc, &mut shop.store, &ask, &SearchRequest { ids: IDS })
+}
+
+fn at_search_results(alloc: Global) -> Result<Attempted, Memory> {
+    let mut shop = Shop::open(alloc, Scale::desk())?;
+    let ask = ask_of(&shop.scale, &shop.index);
+    let asked = SearchResults {
+        kind: SearchKind::Title,
+        text: Text::copy(alloc, b"ALSE")?,
+        ids: IDS,
+    };
+    search_results(alloc, &mut shop.store, &ask, &asked)
+}
+
+/// Whether an attempt shows a page with this title, by so many reads.
+fn shows(attempted: &Attempted, title: &str, reads: usize) -> bool {
+    match attempted {
+        Attempted::Ready(attempt, Draft::Fixed(page)) => {
+            page.status == 200
+                && page.title.bytes() == title.as_bytes()
+                && attempt.reads.as_slice().len() == reads
+        }
+        _ => false,
+    }
+}
+
+#[test]
+fn each_shows_its_page(rt: HostRuntime) -> Result<(), Fail> {
+    let alloc = rt.alloc();
+    assert!(rt; shows(&at_home(alloc)?, "Home", 6));
+    assert!(rt; shows(&at_new_products(alloc)?, "New Products", 6));
+    assert!(rt; shows(&at_best_sellers(alloc)?, "Best Sellers", 5));
+    assert!(rt; shows(&at_product_detail(alloc)?, "Product Detail", 2));
+    assert!(rt; shows(&at_search_request(alloc)?, "Search Request", 6));
+    assert!(rt; shows(&at_search_results(alloc)?, "Search Results", 1));
+    Ok(())
+}
