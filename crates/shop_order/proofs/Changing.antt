@@ -141,7 +141,7 @@ items_exist t asked draw lines sound leaves = subst (Exist t) leaves.after (line
 module _ (start middle now : Seat) (asked : CartAsked) (moment draw items : ℕ) (cart : Option ReadOf) (lines : List (ℕ × ℕ)) (rows : List ReadOf) (size : items ≡ length now.opening.items)
     (first : Looked start middle) (second : Looked middle now) (was : ReadsCart start middle asked.ids.cart cart) (makes : MakesOfCart items asked draw cart lines) (read : ReadsItems middle now lines rows) where
   all_for : AreReadFor start now (CartRequest asked) draw (rows ++ cart_reads cart)
-  all_for = call_reads start middle now asked items draw cart lines rows size first second was makes.made.lines_are read
+  all_for = call_reads start middle now asked items draw cart lines rows size first second was makes read
 
   leaves_there : (t : Tables) → Agrees now.opening t (rows ++ cart_reads cart) → Leaves t asked draw lines
   leaves_there t agrees =

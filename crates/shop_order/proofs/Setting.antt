@@ -28,8 +28,8 @@ module _ (Q : ℕ → Type 0) where
       let P : ℕ × ℕ → Type 0 = λ l. Q l.0 in
       set_lines_on sets (set_line one.0 one.1 lines) (All-tail P one sets set) (set_line_on one.0 one.1 lines (All-head P one sets set) all)
 
-  or_drawn_on : (items draw : ℕ) (lines : List (ℕ × ℕ)) → Q (1 + draw % items) → All (λ l. Q l.0) lines → All (λ l. Q l.0) (or_drawn items draw lines)
-  or_drawn_on items draw [] drawn all = All-cons (λ (l : ℕ × ℕ). Q l.0) (1 + draw % items, 1) [] drawn all
+  or_drawn_on : (items draw : ℕ) (lines : List (ℕ × ℕ)) → (lines ≡ [] → Q (1 + draw % items)) → All (λ l. Q l.0) lines → All (λ l. Q l.0) (or_drawn items draw lines)
+  or_drawn_on items draw [] drawn all = All-cons (λ (l : ℕ × ℕ). Q l.0) (1 + draw % items, 1) [] (drawn refl) all
   or_drawn_on items draw (line ∷ lines) drawn all = all
 
   one_more_on : (asked : Option ℕ) (lines : List (ℕ × ℕ)) → ((item : ℕ) → asked ≡ Some item → Q item) → All (λ l. Q l.0) (one_more asked lines)
@@ -40,7 +40,7 @@ module _ (Q : ℕ → Type 0) where
   among_on lines is = λ k d within. is (get_or lines k d).0 (k, (get_or lines k d).1, slice_get-get_or lines k d within)
 
   pub made_on : (items : ℕ) (asked : CartAsked) (draw : ℕ) (lines : List (ℕ × ℕ)) → ((item : ℕ) → asked.item ≡ Some item → Q item) → ((item : ℕ) → IsAmong item asked.sets → Q item)
-      → ((item : ℕ) → IsAmong item lines → Q item) → Q (1 + draw % items) → All (λ l. Q l.0) (cart_lines items asked draw lines)
+      → ((item : ℕ) → IsAmong item lines → Q item) → (set_lines (wanted asked lines) lines ≡ [] → Q (1 + draw % items)) → All (λ l. Q l.0) (cart_lines items asked draw lines)
   unfolding cart_lines
   made_on items asked draw lines one sets old drawn =
       let want : All (λ l. Q l.0) (wanted asked lines) = All-append (λ (l : ℕ × ℕ). Q l.0) (one_more asked.item lines) asked.sets (one_more_on asked.item lines one) (among_on asked.sets sets) in
