@@ -1,11 +1,12 @@
 -- How the point of a request makes a round.
-use Rattle.std.proofs.Common.{◌≡◌, ℕ, List, [], ◌∷◌, ◌++◌, Option, IsSome, refl, sym, ◌∙◌, ap, subst}
+use Rattle.std.proofs.Common.{◌≡◌, ℕ, List, [], ◌∷◌, ◌++◌, length, Option, IsSome, refl, sym, ◌∙◌, ap, subst}
 use Rattle.std.specs.Io.KnownBytes.{Appends}
 use Rattle.std.proofs.lemmas.List.Elements.{All-weaker}
 use Rattle.shop_edges.specs.Causes.{count_up}
 use Rattle.shop_edges.specs.Clocks.{Tells}
 use Rattle.shop_model.specs.declared.requests.Request.{Request}
 use Rattle.shop_model.specs.declared.tables.Tables.{Tables}
+use Rattle.shop_model.specs.Catalogues.{Catalogue, catalogue}
 use Rattle.shop_model.specs.Checks.{check}
 use Rattle.shop_model.specs.Show.{show}
 use Rattle.shop_history.specs.Logs.{tables, page_at}
@@ -22,7 +23,7 @@ use Rattle.shop_engine.specs.Rounds.{Round, Place, PointAs, IsMetAt, moment_of, 
 use Rattle.shop_engine.specs.Served.{place_of}
 use Rattle.shop_engine.specs.Steps.{Answered}
 use Rattle.shop_engine.specs.Tries.{Stays, IsMet, reply_of_page}
-use Rattle.shop_engine.specs.Workers.{Caller, Progress, WorkerState}
+use Rattle.shop_engine.specs.Workers.{Caller, Progress, WorkerState, IsPosted}
 use Rattle.shop_engine.proofs.Lasts.{last_entry}
 
 -- a conflict of a seat is one of its place
@@ -46,6 +47,17 @@ module _ (caller : Caller) (old new : Seat) (request : Request) (reading : ℕ) 
   stays_as (Busy conflicts) met = subst (λ n. Stays old new [] n point.moment) (sym met.tries_are) met.busy.stays
   stays_as Full met = met.full.stays
   stays_as Plain met = absurd met
+
+  -- the caller is still posted at the seat
+  pub still_posted : (index : Catalogue) (kind : PointKind) → IsPosted old index caller → MetAs old new request point bytes kind → IsPosted new index caller
+  still_posted index kind was met =
+      let follows = (stays_as kind met).follows in
+      record {
+        valid = follows.valid was.valid;
+        number = follows.caller ∙ was.number;
+        named = was.named ∙ ap catalogue (sym follows.opening);
+        scaled = was.scaled ∙ ap (λ (t : Tables). length t.items) (sym follows.opening);
+      }
 
   -- what the place's opening tables are, and its caller
   shown_there : (t : Tables) → new.opening ≡ t → IsSome (show (tables new.opening new.seen) request point.draw) → IsSome (show (tables t new.seen) request point.draw)
