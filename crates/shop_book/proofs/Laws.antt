@@ -8,14 +8,13 @@ use Rattle.shop_history.specs.declared.acts.Entry.{Entry}
 use Rattle.shop_history.specs.declared.keys.Key.{Key}
 use Rattle.shop_history.specs.Logs.{history, tables, version_of, MayFollow, IsGood}
 use Rattle.shop_history.proofs.Goods.{good_log}
-use Rattle.shop_history.proofs.Rows.{tells_rows}
 use Rattle.shop_book.specs.Books.{BookValue, IsBook}
 use Rattle.shop_book.specs.Laws.{IsShortest, IsGoodThroughout}
 
 pub version_shortest : (t : Tables) (log : List Entry) (key : Key) (version : ℕ) → version ≡ version_of t log key → IsShortest t log key version
 version_shortest t log key version is = subst (IsShortest t log key) (sym is) (record {
-  still = still_from history tells_rows t log key (version_of t log key) (omega arith);
-  shortest = shortest history tells_rows t log key;
+  still = still_from history t log key (version_of t log key) (omega arith);
+  shortest = shortest history t log key;
 })
 
 pub good_throughout : (b : BookValue) → IsBook b → IsGoodThroughout b

@@ -1,10 +1,10 @@
-pub mod Kept
 pub mod Puts
-pub mod Solos
-pub mod Opens
-pub mod Changing
-pub mod Versions
-pub mod Writes
-pub mod Counts
+pub mod Raises
+pub mod Placed
+pub mod Few
+pub mod Kept
 pub mod Laws
 pub mod OldOrders
+pub mod Callers
+pub mod Solos
+pub mod Changing

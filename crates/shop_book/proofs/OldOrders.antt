@@ -1,14 +1,12 @@
 -- The orders of a book are those of its opening.
-use Rattle.std.proofs.Common.{◌≡◌, ℕ, ◌+◌, ◌≤◌, nat_lt, Bool, List, [], ◌∷◌, length, map, filter, sum_by, refl, sym, ◌∙◌, ap, arith}
-use Rattle.std.specs.List.{range_with_len, list_any}
-use Rattle.std.specs.Str.{bytes_eq}
+use Rattle.std.proofs.Common.{◌≡◌, ℕ, ◌+◌, ◌≤◌, nat_lt, List, [], ◌∷◌, length, map, filter, sum_by, refl, sym, ◌∙◌, ap, arith}
+use Rattle.std.specs.List.{range_with_len}
 use Rattle.std.proofs.lemmas.Bool.{le-ltb}
 use Rattle.std.proofs.lemmas.List.{length-map}
-use Rattle.shop_model.specs.declared.tables.Tables.{Tables}
 use Rattle.shop_model.specs.Rows.{OrderRow}
-use Rattle.shop_history.proofs.Carts.{only_carts}
+use Rattle.shop_history.proofs.Kept.{kept}
 use Rattle.shop_book.specs.Books.{BookValue, IsBook, tables_of}
-use Rattle.shop_book.specs.Summaries.{new_orders, summary_of, has_auth}
+use Rattle.shop_book.specs.Summaries.{new_orders, summary_of}
 
 -- where ids run up to a number, none is above it
 none_above : (orders : List OrderRow) (from born : ℕ) → map (λ o. o.id) orders ≡ range_with_len from (length orders) → from + length orders ≤ born + 1
@@ -24,7 +22,8 @@ module _ (b : BookValue) (book : IsBook b) where
   no_new_orders =
       let orders : List OrderRow = b.opening.tables.orders in
       let runs : map (λ (o : OrderRow). o.id) orders ≡ range_with_len 1 (length orders) = book.opens.good.sound.ids.orders.from_one ∙ ap (range_with_len 1) (length-map orders (λ (o : OrderRow). o.id)) in
-      ap new_orders (only_carts b.opening.tables b.log)
+      ap (filter (λ o. nat_lt (tables_of b).born_orders o.id)) (kept b.opening.tables b.log).orders
+      ∙ ap (λ born. filter (λ (o : OrderRow). nat_lt born o.id) orders) (kept b.opening.tables b.log).born_orders
       ∙ none_above orders 1 b.opening.tables.born_orders runs (omega (arith, book.opens.born))
 
   pub summary_is : (entries : ℕ) → entries ≡ length b.log → record { entries = entries; orders = 0; cents = 0 } ≡ summary_of b
@@ -32,8 +31,3 @@ module _ (b : BookValue) (book : IsBook b) where
   summary_is entries is =
       sym (ap (λ (orders : List OrderRow). record { entries = length b.log; orders = length orders; cents = sum_by (λ o. o.total) orders }) no_new_orders
       ∙ ap (λ n. record { entries = n; orders = 0; cents = 0 }) (sym is))
-
-pub auth_is : (b : BookValue) (auth : List ℕ) (orders : List OrderRow) (found : Bool) → orders ≡ b.opening.tables.orders → found ≡ list_any (λ o. bytes_eq o.card.auth auth) orders → found ≡ has_auth (tables_of b) auth
-unfolding has_auth
-auth_is b auth orders found all is =
-    is ∙ ap (list_any (λ o. bytes_eq o.card.auth auth)) (all ∙ ap (λ (t : Tables). t.orders) (sym (only_carts b.opening.tables b.log)))

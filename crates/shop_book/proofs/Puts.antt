@@ -1,27 +1,162 @@
--- What writes make of the carts.
-use Rattle.std.proofs.Common.{◌≡◌, ℕ, ◌+◌, ◌-◌, ◌<◌, ◌≤◌, List, [], ◌∷◌, ◌++◌, length, slice_set, ap, arith, eqb, length-append}
-use Rattle.std.proofs.lemmas.Bool.{cond_both}
-use Rattle.std.proofs.lemmas.List.{length-set}
-use Rattle.shop_model.specs.Rows.{CartRow}
+-- What writes make of the tables, and when they can be made: their ids fit, and names come first.
+use Rattle.std.proofs.Common.{◌≡◌, ℕ, ◌+◌, ◌<◌, ◌≤◌, List, [], ◌∷◌, ◌++◌, length, get_or, set, take, drop, refl, sym, ◌∙◌, ap, subst, arith, append_assoc, length-append}
+use Rattle.std.proofs.lemmas.List.{take_more_set, drop-set-lt, drop_more}
+use Rattle.shop_model.specs.declared.tables.Tables.{Tables}
+use Rattle.shop_model.specs.Empty.{no_tables}
+use Rattle.shop_model.specs.Limits.{stamp_limit}
+use Rattle.shop_history.proofs.Kept.{Grows}
 use Rattle.shop_attempt.specs.declared.attempts.Write.{Write}
-use Rattle.shop_attempt.specs.declared.attempts.Write.TheVariants.{PutCart}
-use Rattle.shop_attempt.specs.Faithful.{put_cart, put_write, put_all}
+use Rattle.shop_attempt.specs.declared.attempts.Write.TheVariants.{Login, AddCustomer}
+use Rattle.shop_attempt.specs.Writes.{logged_in, entered, written_one, written}
+use Rattle.shop_attempt.proofs.Writing.{changed_length, written_grows}
+use Rattle.shop_book.specs.declared.rows.Rows.{Rows}
+use Rattle.shop_book.specs.Puts.{named_one, named, count_after_one, count_after, IdsFit, AreReady}
+use Rattle.shop_book.specs.RowsNow.{tables_with, HasRoom}
 
-put_longer : (carts : List CartRow) (cart : CartRow) → length carts ≤ length (put_cart carts cart)
-put_longer carts cart =
-    let new : CartRow = record { id = length carts + 1; lines = cart.lines } in
-    cond_both (eqb cart.id 0) (carts ++ new ∷ []) (slice_set carts (cart.id - 1) cart) (λ xs. length carts ≤ length xs)
-    (λ _. omega (arith, length-append carts (new ∷ []))) (λ _. omega (arith, length-set carts (cart.id - 1) cart))
+-- ## Ids that fit
 
-write_longer : (carts : List CartRow) (write : Write) → length carts ≤ length (put_write carts write)
-write_longer carts (PutCart cart) = put_longer carts cart
+-- where the ids fit in tables that have grown, they fit before
+fits_before : (t u : Tables) → Grows t u → IdsFit u → IdsFit t
+fits_before t u grows fits = record {
+  items = omega (arith, grows.items, fits.items);
+  customers = omega (arith, grows.customers, fits.customers);
+  carts = omega (arith, grows.carts, fits.carts);
+  addresses = omega (arith, grows.addresses, fits.addresses);
+  orders = omega (arith, grows.orders, fits.orders);
+}
 
--- writes take no cart away
-pub put_all_longer : (carts : List CartRow) (writes : List Write) → length carts ≤ length (put_all carts writes)
-put_all_longer carts [] = omega arith
-put_all_longer carts (write ∷ writes) = omega (arith, write_longer carts write, put_all_longer (put_write carts write) writes)
+-- the ids of the first write fit where those of all do
+pub first_fits : (t : Tables) (stamp : ℕ) (write : Write) (writes : List Write) → IdsFit (written t stamp (write ∷ writes)) → IdsFit (written_one t stamp write)
+first_fits t stamp write writes fits =
+    fits_before (written_one t stamp write) (written t stamp (write ∷ writes)) (written_grows (written_one t stamp write) stamp writes) fits
 
--- the first write fits where all do
-pub first_fits : (carts : List CartRow) (all rest : List Write) (write : Write) (most : ℕ) → all ≡ write ∷ rest → length (put_all carts all) < most → length (put_write carts write) < most
-first_fits carts all rest write most is fits =
-    omega (arith, put_all_longer (put_write carts write) rest, ap (λ (writes : List Write). length (put_all carts writes)) is, fits)
+-- ## The tables that writes do not touch
+
+-- tables with the rows of others in the tables that writes change
+abbrev over : Tables → Tables → Tables
+over t u = record t { items = u.items; customers = u.customers; last = u.last; carts = u.carts; addresses = u.addresses; orders = u.orders }
+
+over_one : (t u : Tables) (stamp : ℕ) (write : Write) → written_one (over t u) stamp write ≡ over t (written_one u stamp write)
+over_one t u stamp (AddCustomer customer) = refl
+over_one t u stamp _ = refl
+
+written_over : (t u : Tables) (stamp : ℕ) (writes : List Write) → written (over t u) stamp writes ≡ over t (written u stamp writes)
+written_over t u stamp [] = refl
+written_over t u stamp (write ∷ writes) =
+    ap (λ v. written v stamp writes) (over_one t u stamp write) ∙ written_over t (written_one u stamp write) stamp writes
+
+-- whether ids fit does not hang on them
+fits_over : (t u : Tables) → IdsFit (over t u) → IdsFit u
+fits_over t u fits = record { items = fits.items; customers = fits.customers; carts = fits.carts; addresses = fits.addresses; orders = fits.orders }
+
+fits_alone : (t : Tables) (rows : Rows) (stamp : ℕ) (writes : List Write) → IdsFit (written (tables_with t rows) stamp writes) → IdsFit (written (tables_with no_tables rows) stamp writes)
+fits_alone t rows stamp writes fits =
+    fits_over t (written (tables_with no_tables rows) stamp writes) (subst IdsFit (written_over t (tables_with no_tables rows) stamp writes) fits)
+
+-- ## Names come first
+
+-- the count of customers is that of the tables
+pub count_one : (t : Tables) (stamp : ℕ) (write : Write) → length (written_one t stamp write).customers ≡ count_after_one (length t.customers) write
+count_one t stamp (Login id) = changed_length t.customers id (logged_in stamp)
+count_one t stamp (AddCustomer customer) = length-append t.customers (entered t stamp customer ∷ [])
+count_one t stamp _ = refl
+
+count_all : (t : Tables) (stamp : ℕ) (writes : List Write) → length (written t stamp writes).customers ≡ count_after (length t.customers) writes
+count_all t stamp [] = refl
+count_all t stamp (write ∷ writes) =
+    count_all (written_one t stamp write) stamp writes ∙ ap (λ count. count_after count writes) (count_one t stamp write)
+
+-- so many customers fit where the ids do
+pub count_fits : (t : Tables) (stamp : ℕ) (writes : List Write) → IdsFit (written t stamp writes) → count_after (length t.customers) writes < 4294967296
+count_fits t stamp writes fits = rw (← count_all t stamp writes) fits.customers
+
+pub named_length : (count : ℕ) (writes : List Write) → length (named count writes) ≡ length writes
+named_length count [] = refl
+named_length count (write ∷ writes) = grind (arith, named_length (count_after_one count write) writes)
+
+-- who is named already gets the same name
+name_again : (count : ℕ) (write : Write) → named_one count (named_one count write) ≡ named_one count write
+name_again count (AddCustomer customer) = refl
+name_again count _ = refl
+
+count_again : (count : ℕ) (write : Write) → count_after_one count (named_one count write) ≡ count_after_one count write
+count_again count (AddCustomer customer) = refl
+count_again count _ = refl
+
+names_again : (count : ℕ) (writes : List Write) → named count (named count writes) ≡ named count writes
+names_again count [] = refl
+names_again count (write ∷ writes) =
+    ap (λ (w : Write). w ∷ named (count_after_one count (named_one count write)) (named (count_after_one count write) writes)) (name_again count write)
+    ∙ ap (λ k. named_one count write ∷ named k (named (count_after_one count write) writes)) (count_again count write)
+    ∙ ap (λ (ws : List Write). named_one count write ∷ ws) (names_again (count_after_one count write) writes)
+
+-- and is entered as who is not
+named_written_one : (t : Tables) (stamp : ℕ) (write : Write) → written_one t stamp (named_one (length t.customers) write) ≡ written_one t stamp write
+named_written_one t stamp (AddCustomer customer) = refl
+named_written_one t stamp _ = refl
+
+pub named_written : (t : Tables) (stamp : ℕ) (writes : List Write) → written t stamp (named (length t.customers) writes) ≡ written t stamp writes
+named_written t stamp [] = refl
+named_written t stamp (write ∷ writes) =
+    let count : ℕ = length t.customers in
+    ap (λ u. written u stamp (named (count_after_one count write) writes)) (named_written_one t stamp write)
+    ∙ ap (λ k. written (written_one t stamp write) stamp (named k writes)) (sym (count_one t stamp write))
+    ∙ named_written (written_one t stamp write) stamp writes
+
+-- ## Writes are ready
+
+-- named writes can be made where there is room and the ids fit
+pub are_ready : (t : Tables) (rows : Rows) (stamp : ℕ) (writes : List Write) → HasRoom rows (length writes) → IdsFit (written (tables_with t rows) stamp writes) → stamp ≤ stamp_limit
+    → AreReady rows stamp (named (length rows.customers.items) writes)
+are_ready t rows stamp writes room fits bound = record {
+  room = subst (HasRoom rows) (sym (named_length (length rows.customers.items) writes)) room;
+  fits = subst IdsFit (sym (named_written (tables_with no_tables rows) stamp writes)) (fits_alone t rows stamp writes fits);
+  names = names_again (length rows.customers.items) writes;
+  bound = bound;
+}
+
+-- what is left of writes that are named is named
+pub rest_named : (t : Tables) (stamp : ℕ) (write : Write) (writes : List Write) → named (length t.customers) (write ∷ writes) ≡ write ∷ writes → named (length (written_one t stamp write).customers) writes ≡ writes
+rest_named t stamp write writes names =
+    let rest : named (count_after_one (length t.customers) write) writes ≡ writes = cc in
+    ap (λ k. named k writes) (count_one t stamp write) ∙ rest
+
+pub first_named : (count : ℕ) (write : Write) (writes : List Write) → named count (write ∷ writes) ≡ write ∷ writes → named_one count write ≡ write
+first_named count write writes names = cc
+
+-- ## Naming, one write after another
+
+pub named_step : (writes : List Write) (i count : ℕ) (write new : Write) → i < length writes → new ≡ named_one count (get_or writes i write)
+    → take (i + 1) (set writes i new) ++ named (count_after_one count (get_or writes i write)) (drop (i + 1) (set writes i new)) ≡ take i writes ++ named count (drop i writes)
+named_step writes i count write new within is =
+    let done : take (i + 1) (set writes i new) ≡ take i writes ++ new ∷ [] = take_more_set writes i new within in
+    let todo : drop (i + 1) (set writes i new) ≡ drop (i + 1) writes = drop-set-lt (i + 1) writes i new (omega arith) in
+    let here : drop i writes ≡ get_or writes i write ∷ drop (i + 1) writes = drop_more writes i write within in
+    rw (done, todo, here, append_assoc, is) refl
+
+pub count_step : (writes : List Write) (i count : ℕ) (write new : Write) → i < length writes
+    → count_after (count_after_one count (get_or writes i write)) (drop (i + 1) (set writes i new)) ≡ count_after count (drop i writes)
+count_step writes i count write new within =
+    let todo : drop (i + 1) (set writes i new) ≡ drop (i + 1) writes = drop-set-lt (i + 1) writes i new (omega arith) in
+    let here : drop i writes ≡ get_or writes i write ∷ drop (i + 1) writes = drop_more writes i write within in
+    rw (todo, here) refl
+
+-- a write that is left and those after it fit together
+pub count_longer : (count : ℕ) (writes : List Write) → count ≤ count_after count writes
+count_longer count [] = omega arith
+count_longer count (write ∷ writes) = omega (arith, one_longer count write, count_longer (count_after_one count write) writes)
+  where
+    one_longer : (count : ℕ) (write : Write) → count ≤ count_after_one count write
+    one_longer count (AddCustomer customer) = omega arith
+    one_longer count _ = omega arith
+
+-- room for all is room for the first
+pub room_one : (rows : Rows) (rest : List Write) (write : Write) → HasRoom rows (length (write ∷ rest)) → HasRoom rows 1
+room_one rows rest write room = record {
+  items = omega (arith, room.items);
+  customers = omega (arith, room.customers);
+  last = omega (arith, room.last);
+  carts = omega (arith, room.carts);
+  addresses = omega (arith, room.addresses);
+  orders = omega (arith, room.orders);
+}

@@ -1,6 +1,7 @@
--- An accepted settle of the one caller, as its seat sees it.
+-- An accepted settle of the caller who has a book, as its seat sees it; and its marks.
 use Rattle.std.proofs.Common.{◌≡◌, ℕ, ◌≤◌, max, List, [], ◌∷◌, ◌++◌, length, drop, Option, Some, None, refl, sym, ◌∙◌, ap, subst, arith, append-nil, length-append}
 use Rattle.std.specs.Prelude.{All}
+use Rattle.std.proofs.lemmas.Bool.{eq-eqb}
 use Rattle.std.proofs.lemmas.List.{drop-append-le}
 use Rattle.std.proofs.lemmas.List.Elements.{All-push}
 use Rattle.shop_log.proofs.Extending.{extends_self}
@@ -11,36 +12,40 @@ use Rattle.shop_history.specs.Logs.{entries_of}
 use Rattle.shop_attempt.specs.declared.attempts.Attempt.{Attempt}
 use Rattle.shop_attempt.specs.declared.attempts.Settle.{Settle}
 use Rattle.shop_attempt.specs.declared.attempts.Settle.TheVariants.{Done}
-use Rattle.shop_attempt.specs.Marks.{KeepsMarks}
+use Rattle.shop_attempt.specs.Marks.{AreMarks, StillMarked}
 use Rattle.shop_attempt.specs.Reads.{first_stale}
+use Rattle.shop_attempt.specs.Seats.{IsSeat}
 use Rattle.shop_attempt.specs.Settles as seat
-use Rattle.shop_book.specs.Books.{BookValue}
+use Rattle.shop_book.specs.Books.{BookValue, IsBook}
 use Rattle.shop_book.specs.Settles.{Taken, IsFresh, made}
-use Rattle.shop_book.specs.Solos.{SoloValue, seat_of, IsKeptMark}
-use Rattle.shop_book.proofs.Counts.{entries_mine}
+use Rattle.shop_book.specs.Solos.{SoloValue, seat_of, IsKeptMark, marks_of}
+use Rattle.shop_book.proofs.Callers.{entries_mine}
 
 -- a book with what a settle made behind its log
 abbrev taken : BookValue → List Entry → ℕ → BookValue
 taken b entries stamp = record { opening = b.opening; log = b.log ++ entries; latest = stamp }
 
-abbrev solo : BookValue → ℕ → ℕ → ℕ → SoloValue
-solo book calls settles greatest = record { book = book; calls = calls; settles = settles; greatest = greatest }
+abbrev solo : BookValue → ℕ → ℕ → ℕ → ℕ → SoloValue
+solo book caller calls settles greatest = record {
+  book = book;
+  visitor = record { caller = caller; calls = calls; settles = settles; greatest = greatest };
+}
 
-module _ (old : BookValue) (calls settles more_calls more_settles greatest number : ℕ) (attempt : Attempt) (drawn : Drawn) (fresh : IsFresh old attempt) where
+module _ (old : BookValue) (caller calls settles more_calls more_settles greatest number : ℕ) (attempt : Attempt) (drawn : Drawn) (fresh : IsFresh old attempt) where
   abbrev stamp : ℕ
   stamp = max old.latest attempt.moment
 
   abbrev before : SoloValue
-  before = solo old calls settles greatest
+  before = solo old caller calls settles greatest
 
   abbrev behind : List Entry → SoloValue
-  behind entries = solo (taken old entries stamp) more_calls more_settles (max greatest attempt.moment)
+  behind entries = solo (taken old entries stamp) caller more_calls more_settles (max greatest attempt.moment)
 
   -- a reading
-  confirmed : (front : drawn.front ≡ length (old.log ++ [])) → Taken old (taken old [] stamp) 1 number stamp None drawn → seat.Confirmed (seat_of before) (seat_of (behind [])) attempt drawn
+  confirmed : (front : drawn.front ≡ length (old.log ++ [])) → Taken old (taken old [] stamp) caller number stamp None drawn → seat.Confirmed (seat_of before) (seat_of (behind [])) attempt drawn
   confirmed front is = record {
     accepted = record {
-      is_found = record { grows = record { rest = []; is = refl }; mine = ap (entries_of 1) (append-nil old.log); alone = λ _. append-nil old.log };
+      is_found = record { grows = record { rest = []; is = refl }; mine = ap (entries_of caller) (append-nil old.log); alone = λ _. append-nil old.log };
       fresh = ap (λ (log : List Entry). first_stale old.opening.tables log attempt.reads) (append-nil old.log) ∙ fresh;
       front = front;
       moment = omega (arith, is.stamp_is);
@@ -48,16 +53,16 @@ module _ (old : BookValue) (calls settles more_calls more_settles greatest numbe
       latest = refl;
       greatest = refl;
     };
-    own = ap (entries_of 1) (append-nil old.log);
+    own = ap (entries_of caller) (append-nil old.log);
     ids = is.ids;
   }
 
   -- a change
-  added : (act : Act) → (front : drawn.front ≡ length (old.log ++ made 1 number stamp (Some act))) → Taken old (taken old (made 1 number stamp (Some act)) stamp) 1 number stamp (Some act) drawn
-      → seat.Added (seat_of before) (seat_of (behind (made 1 number stamp (Some act)))) attempt act drawn
+  added : (act : Act) → (front : drawn.front ≡ length (old.log ++ made caller number stamp (Some act))) → Taken old (taken old (made caller number stamp (Some act)) stamp) caller number stamp (Some act) drawn
+      → seat.Added (seat_of before) (seat_of (behind (made caller number stamp (Some act)))) attempt act drawn
   added act front is = record {
     before = old.log;
-    entry = record { caller = 1; number = number; stamp = stamp; act = act };
+    entry = record { caller = caller; number = number; stamp = stamp; act = act };
     accepted = record {
       is_found = record { grows = extends_self old.log; mine = refl; alone = λ _. refl };
       fresh = fresh;
@@ -68,7 +73,7 @@ module _ (old : BookValue) (calls settles more_calls more_settles greatest numbe
       greatest = refl;
     };
     seen = refl;
-    own = entries_mine 1 old.log (record { caller = 1; number = number; stamp = stamp; act = act }) refl;
+    own = entries_mine caller old.log (record { caller = caller; number = number; stamp = stamp; act = act }) (eq-eqb caller caller refl);
     room = is.room refl;
     caller = refl;
     does = refl;
@@ -76,22 +81,22 @@ module _ (old : BookValue) (calls settles more_calls more_settles greatest numbe
     ids = is.ids;
   }
 
-  taken_as : (act : Option Act) → Taken old (taken old (made 1 number stamp act) stamp) 1 number stamp act drawn → seat.DoneAs (seat_of before) (seat_of (behind (made 1 number stamp act))) attempt act drawn
+  taken_as : (act : Option Act) → Taken old (taken old (made caller number stamp act) stamp) caller number stamp act drawn → seat.DoneAs (seat_of before) (seat_of (behind (made caller number stamp act))) attempt act drawn
   taken_as None is = confirmed is.front is
   taken_as (Some act) is = added act is.front is
 
-  solo_done : (new : BookValue) → Taken old new 1 number stamp attempt.act drawn
-      → seat.DoneAs (seat_of before) (seat_of (solo new more_calls more_settles (max greatest attempt.moment))) attempt attempt.act drawn
+  solo_done : (new : BookValue) → Taken old new caller number stamp attempt.act drawn
+      → seat.DoneAs (seat_of before) (seat_of (solo new caller more_calls more_settles (max greatest attempt.moment))) attempt attempt.act drawn
   solo_done new is =
-      subst (λ (b : BookValue). seat.DoneAs (seat_of before) (seat_of (solo b more_calls more_settles (max greatest attempt.moment))) attempt attempt.act drawn) (sym is.book)
-      (taken_as attempt.act (subst (λ (b : BookValue). Taken old b 1 number stamp attempt.act drawn) is.book is))
+      subst (λ (b : BookValue). seat.DoneAs (seat_of before) (seat_of (solo b caller more_calls more_settles (max greatest attempt.moment))) attempt attempt.act drawn) (sym is.book)
+      (taken_as attempt.act (subst (λ (b : BookValue). Taken old b caller number stamp attempt.act drawn) is.book is))
 
-  pub solo_settled : (new : BookValue) → Taken old new 1 number stamp attempt.act drawn → (was : SoloValue) → before ≡ was → (raised : ℕ) → raised ≡ max greatest attempt.moment
-      → (answer : Settle) → answer ≡ Done drawn → seat.SettledAs (seat_of was) (seat_of (solo new more_calls more_settles raised)) attempt answer
+  pub solo_settled : (new : BookValue) → Taken old new caller number stamp attempt.act drawn → (was : SoloValue) → before ≡ was → (raised : ℕ) → raised ≡ max greatest attempt.moment
+      → (answer : Settle) → answer ≡ Done drawn → seat.SettledAs (seat_of was) (seat_of (solo new caller more_calls more_settles raised)) attempt answer
   solo_settled new is was was_is raised raised_is answer answer_is =
-      subst (λ (s : Settle). seat.SettledAs (seat_of was) (seat_of (solo new more_calls more_settles raised)) attempt s) (sym answer_is)
-      (subst (λ (s : SoloValue). seat.DoneAs (seat_of s) (seat_of (solo new more_calls more_settles raised)) attempt attempt.act drawn) was_is
-      (subst (λ n. seat.DoneAs (seat_of before) (seat_of (solo new more_calls more_settles n)) attempt attempt.act drawn) (sym raised_is) (solo_done new is)))
+      subst (λ (s : Settle). seat.SettledAs (seat_of was) (seat_of (solo new caller more_calls more_settles raised)) attempt s) (sym answer_is)
+      (subst (λ (s : SoloValue). seat.DoneAs (seat_of s) (seat_of (solo new caller more_calls more_settles raised)) attempt attempt.act drawn) was_is
+      (subst (λ n. seat.DoneAs (seat_of before) (seat_of (solo new caller more_calls more_settles n)) attempt attempt.act drawn) (sym raised_is) (solo_done new is)))
 
 -- a mark stays one behind later entries
 mark_longer : (log : List Entry) (entry : Entry) (front moment : ℕ) → front ≤ length log → moment ≤ entry.stamp
@@ -99,23 +104,27 @@ mark_longer : (log : List Entry) (entry : Entry) (front moment : ℕ) → front 
 mark_longer log entry front moment within late behind =
     subst (All (λ (e : Entry). moment ≤ e.stamp)) (sym (drop-append-le front log (entry ∷ []) within)) (All-push (λ (e : Entry). moment ≤ e.stamp) (drop front log) entry behind late)
 
-mark_taken : (old : BookValue) (number stamp : ℕ) (act : Option Act) → old.latest ≤ stamp → (front moment : ℕ) → IsKeptMark old front moment → IsKeptMark (taken old (made 1 number stamp act) stamp) front moment
-mark_taken old number stamp None late front moment mark = record {
+mark_taken : (old : BookValue) (caller number stamp : ℕ) (act : Option Act) → old.latest ≤ stamp → (front moment : ℕ) → IsKeptMark old front moment → IsKeptMark (taken old (made caller number stamp act) stamp) front moment
+mark_taken old caller number stamp None late front moment mark = record {
   within = omega (arith, mark.within, ap length (append-nil old.log));
   moment_is = omega (arith, mark.moment_is, late);
   behind = subst (λ (log : List Entry). All (λ (e : Entry). moment ≤ e.stamp) (drop front log)) (sym (append-nil old.log)) mark.behind;
 }
-mark_taken old number stamp (Some act) late front moment mark = record {
-  within = omega (arith, mark.within, length-append old.log (made 1 number stamp (Some act)));
+mark_taken old caller number stamp (Some act) late front moment mark = record {
+  within = omega (arith, mark.within, length-append old.log (made caller number stamp (Some act)));
   moment_is = omega (arith, mark.moment_is, late);
-  behind = mark_longer old.log (record { caller = 1; number = number; stamp = stamp; act = act }) front moment mark.within (omega (arith, mark.moment_is, late)) mark.behind;
+  behind = mark_longer old.log (record { caller = caller; number = number; stamp = stamp; act = act }) front moment mark.within (omega (arith, mark.moment_is, late)) mark.behind;
 }
 
-pub solo_marks : (old new : BookValue) (calls settles greatest number stamp : ℕ) (act : Option Act) (drawn : Drawn) → old.latest ≤ stamp → Taken old new 1 number stamp act drawn
-    → KeepsMarks (λ front moment. IsKeptMark old front moment) (λ front moment. IsKeptMark new front moment) (seat_of (solo new calls settles greatest))
-solo_marks old new calls settles greatest number stamp act drawn late is = record {
-  still = record {
-    kept = λ front moment mark. subst (λ (b : BookValue). IsKeptMark b front moment) (sym is.book) (mark_taken old number stamp act late front moment mark);
-  };
-  are = λ front moment mark. record { within = mark.within; behind = mark.behind };
+pub marks_stay : (old new : SoloValue) (number stamp : ℕ) (act : Option Act) (drawn : Drawn) → old.book.latest ≤ stamp → Taken old.book new.book old.visitor.caller number stamp act drawn
+    → StillMarked (marks_of old) (marks_of new)
+marks_stay old new number stamp act drawn late is = record {
+  kept = λ front moment mark. subst (λ (b : BookValue). IsKeptMark b front moment) (sym is.book) (mark_taken old.book old.visitor.caller number stamp act late front moment mark);
 }
+
+-- a seat at a book is one, and its marks are marks
+pub seat_is : (solo : SoloValue) → IsBook solo.book → IsSeat (seat_of solo)
+seat_is solo is = record { good = is.opens.good; legal = is.legal; short = is.short }
+
+pub marks_are : (solo : SoloValue) → AreMarks (marks_of solo) solo.book.log
+marks_are solo = record { are = λ front moment mark. record { within = mark.within; behind = mark.behind } }

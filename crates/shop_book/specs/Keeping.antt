@@ -1,17 +1,19 @@
 -- What a book keeps of its log, so that it never goes through it.
-use Rattle.std.specs.Prelude.{◌≡◌, ℕ, List, length, map}
-use Rattle.std.specs.List.{range_with_len}
-use Rattle.shop_model.specs.Rows.{CartRow}
-use Rattle.shop_history.specs.declared.keys.Key.TheVariants.{Cart}
-use Rattle.shop_history.specs.Logs.{version_of}
+use Rattle.std.specs.Prelude.{◌≡◌, ℕ, length}
+use Rattle.shop_history.specs.declared.keys.Key.{Key}
+use Rattle.shop_history.specs.Logs.{version_of, entries_of}
+use Rattle.shop_book.specs.declared.counts.Counts.{Counts}
+use Rattle.shop_book.specs.declared.rows.Rows.{Rows}
+use Rattle.shop_book.specs.declared.versions.Versions.{Versions}
 use Rattle.shop_book.specs.Books.{BookValue, IsBook, tables_of}
+use Rattle.shop_book.specs.Counted.{count_in}
+use Rattle.shop_book.specs.RowsNow.{tables_with}
+use Rattle.shop_book.specs.Stored.{stored, HasPlaces}
 
--- the version of each cart of so many
-abbrev pub cart_versions : BookValue → ℕ → List ℕ
-cart_versions b count = map (λ id. version_of b.opening.tables b.log (Cart id)) (range_with_len 1 count)
-
--- the carts are those of the tables now, and each has its version beside it
-pub record IsKept (b : BookValue) (carts : List CartRow) (versions : List ℕ) : Type 0 where
+-- the rows are those of the tables now, each with a place for its version, and the versions and the counts are those of the log
+pub record IsKept (b : BookValue) (rows : Rows) (versions : Versions) (counts : Counts) : Type 0 where
   pub is_book : IsBook b
-  pub carts_are : carts ≡ (tables_of b).carts
-  pub versions_are : versions ≡ cart_versions b (length carts)
+  pub rows_are : tables_with b.opening.tables rows ≡ tables_of b
+  pub places : HasPlaces versions rows
+  pub versions_are : (key : Key) → stored versions key ≡ version_of b.opening.tables b.log key
+  pub counts_are : (caller : ℕ) → count_in counts caller ≡ length (entries_of caller b.log)

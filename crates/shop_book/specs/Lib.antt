@@ -2,8 +2,13 @@ pub mod Openings
 pub mod Books
 pub mod Laws
 pub mod BookView
+pub mod RowsNow
+pub mod Puts
+pub mod Sizes
+pub mod Stored
+pub mod Counted
+pub mod Watching
 pub mod Keeping
-pub mod Changes
 pub mod Settles
 pub mod Summaries
 pub mod Solos

@@ -5,7 +5,7 @@ use Rattle.shop_history.specs.declared.acts.Act.{Act}
 use Rattle.shop_history.specs.declared.acts.Drawn.{Drawn}
 use Rattle.shop_history.specs.declared.acts.Entry.{Entry}
 use Rattle.shop_history.specs.declared.acts.Ids.{Ids}
-use Rattle.shop_history.specs.Acts.{play, no_ids}
+use Rattle.shop_history.specs.Drawing.{no_ids, new_ids}
 use Rattle.shop_attempt.specs.declared.attempts.Attempt.{Attempt}
 use Rattle.shop_attempt.specs.declared.attempts.Conflict.{Conflict}
 use Rattle.shop_attempt.specs.declared.attempts.Settle.{Settle}
@@ -19,10 +19,10 @@ made caller number stamp None = []
 made caller number stamp (Some act) =
     record { caller = caller; number = number; stamp = stamp; act = act } ∷ []
 
--- the ids of the rows that a change makes
-abbrev pub ids_drawn : Tables → ℕ → Option Act → Ids
-ids_drawn t stamp None = no_ids
-ids_drawn t stamp (Some act) = (play t stamp act).ids
+-- the ids of the rows that a change makes, read off the tables before and after
+abbrev pub ids_drawn : Tables → Tables → Option Act → Ids
+ids_drawn before after None = no_ids
+ids_drawn before after (Some act) = new_ids before after
 
 -- no read is stale
 abbrev pub IsFresh : BookValue → Attempt → Type 0
@@ -38,7 +38,7 @@ pub record Taken (old new : BookValue) (caller number stamp : ℕ) (act : Option
     latest = stamp;
   }
   pub front : drawn.front ≡ length new.log
-  pub ids : drawn.ids ≡ ids_drawn (tables_of old) stamp act
+  pub ids : drawn.ids ≡ ids_drawn (tables_of old) (tables_of new) act
 
 -- an attempt is accepted at the larger of the latest stamp and its moment
 pub record Accepted (old new : BookValue) (caller number : ℕ) (attempt : Attempt) (drawn : Drawn) : Type 0 where

@@ -2,4 +2,4 @@ use Rattle.shop_book.specs.declared.solo.Solo.TheInside.{Inside}
 use Rattle.shop_book.specs.Solos.{SoloValue}
 
 abbrev pub solo_of : Inside → SoloValue
-solo_of i = record { book = i.book; calls = i.calls; settles = i.settles; greatest = i.greatest }
+solo_of i = record { book = i.book; visitor = i.visitor }

@@ -1,4 +1,4 @@
-ghost use Rattle.std.specs.Prelude.{◌≡◌, ◌+◌, ◌≤◌, [], length, IfOk};
+ghost use Rattle.std.specs.Prelude.{◌≡◌, ◌+◌, ◌≤◌, [], length, IfOk, IsSome};
 ghost use Rattle.shop_model.specs.Limits.{stamp_limit};
 ghost use Rattle.shop_history.specs.Keys as keys;
 ghost use Rattle.shop_history.specs.Logs.{version_of, entries_of};
@@ -10,24 +10,29 @@ ghost use Rattle.shop_book.specs.Openings.{IsOpening};
 ghost use Rattle.shop_book.specs.Settles.{SettledAs, TakenAs};
 ghost use Rattle.shop_book.specs.Summaries as spec;
 
-use crate::changes::{copies, is_left, make_room, new_ids, put_writes, raise, zeros};
+use crate::changes::{change_rows, make_room};
+use crate::counts::Counts;
 use crate::orders::some_auth;
-use crate::rows::{best_row, cart_row, customer_row, item_row, label_row, newest_row};
+use crate::rows::Rows;
+use crate::shown::shown;
+use crate::versions::Versions;
+use crate::watching::watch;
 use crate::{Opening, Summary};
 use shop_attempt::{Attempt, Conflict, ReadOf, Settle, Write};
 use shop_history::{Act, Drawn, Entry, Ids, Key, Row};
-use shop_model::{AuthId, Cart, Tables, row_numbered};
+use shop_model::{AuthId, Tables};
 use shop_text::{Listed, Memory};
 use std::alloc::Global;
 use std::marker::Model;
 
-/// A shop as a log of changes over its opening tables, with the rows as they are now and the versions
-/// of these. The tables that no change touches are those of the opening.
+/// A shop as a log of changes over its opening tables, with the rows as they are now, their versions,
+/// and how many entries each caller has.
 #[derive(Debug, Drop)]
 pub struct Book {
     opening: Opening,
-    carts: Vec<Cart>,
-    cart_versions: Vec<u64>,
+    rows: Rows,
+    versions: Versions,
+    counts: Counts,
     log: Vec<Entry>,
     latest: u64,
 }
@@ -42,7 +47,7 @@ impl Model for Book {
 
     ghost view = { book_of };
 
-    ghost invariant = { λ i. IsKept (book_of i) i.carts.items i.cart_versions.items };
+    ghost invariant = { λ i. IsKept (book_of i) i.rows i.versions i.counts };
 }
 
 impl Book {
@@ -52,12 +57,13 @@ impl Book {
         ensures value { IfOk result (λ book. book ≡ record { opening = record { tables = tables; limit = limit }; log = []; latest = 0 }) }
         ensures kept { IfOk result IsBook }
     {
-        let carts = copies(alloc, tables.carts.as_slice())?;
-        let cart_versions = zeros(alloc, carts.len())?;
+        let rows = Rows::copy_of(alloc, &tables)?;
+        let versions = Versions::new(alloc, &rows)?;
         Ok(Book {
             opening: Opening { tables, limit },
-            carts,
-            cart_versions,
+            rows,
+            versions,
+            counts: Counts::new(alloc),
             log: Vec::new(alloc),
             latest: 0,
         })
@@ -71,40 +77,9 @@ impl Book {
         ensures kept { IsBook self.now }
         ensures sound { IsGoodThroughout self.now }
     {
-        let row = self.row(*self.log.allocator(), key)?;
-        Ok((row, self.version(key)))
-    }
-
-    /// What a key shows.
-    fn row(&self, alloc: Global, key: &Key) -> Result<Row, Memory>
-        ensures { IfOk result (λ row. row ≡ keys.row_of (tables_of self.now) key.now) }
-    {
-        let tables = &self.opening.tables;
-        match key {
-            Key::Item(id) => item_row(alloc, tables, *id),
-            Key::Label(id) => label_row(alloc, tables, *id),
-            Key::Customer(id) => customer_row(alloc, tables, *id),
-            Key::Cart(id) => cart_row(self.carts.as_slice(), *id),
-            Key::NewIn(subject) => newest_row(alloc, tables, *subject),
-            Key::BestIn(subject) => best_row(alloc, tables, *subject),
-        }
-    }
-
-    /// The version of a key.
-    fn version(&self, key: &Key) -> u64
-        ensures { result ≡ version_of self.now.opening.tables self.now.log key.now }
-    {
-        match key {
-            Key::Item(_) => 0,
-            Key::Label(_) => 0,
-            Key::Customer(_) => 0,
-            Key::Cart(id) => match row_numbered(self.cart_versions.as_slice(), *id) {
-                Some(version) => *version,
-                None => 0,
-            },
-            Key::NewIn(_) => 0,
-            Key::BestIn(_) => 0,
-        }
+        let alloc = *self.log.allocator();
+        let row = shown(alloc, &self.opening.tables, &self.rows, key)?;
+        Ok((row, self.versions.of(key)))
     }
 
     /// The first read whose version is no more the key's.
@@ -112,9 +87,8 @@ impl Book {
         ensures first { result ≡ reading.first_stale self.now.opening.tables self.now.log reads }
         ensures kept { IsBook self.now }
     {
-        let _ = &self.log;
         for read in reads.into_vec() {
-            let found = self.version(&read.key);
+            let found = self.versions.of(&read.key);
             if found != read.version {
                 return Some(Conflict {
                     key: read.key,
@@ -130,20 +104,31 @@ impl Book {
     pub fn count_of(&self, caller: u32) -> u64
         ensures value { result ≡ length (entries_of caller self.now.log) }
         ensures bound { result ≤ 1000000 }
+        ensures kept { IsBook self.now }
     {
-        let mut rest = self.log.as_slice();
-        while let [before @ .., last] = rest {
-            if last.caller == caller {
-                return last.number;
-            }
-            rest = before;
-        }
-        0
+        self.counts.of(caller)
+    }
+
+    /// How many changes were made.
+    pub fn size(&self) -> u64
+        ensures value { result ≡ length self.now.log }
+        ensures kept { IsBook self.now }
+    {
+        self.log.len() as u64
+    }
+
+    /// The latest stamp, 0 where there is none, in milliseconds since 1970-01-01.
+    pub fn latest(&self) -> u64
+        ensures value { result ≡ self.now.latest }
+        ensures kept { IsBook self.now }
+    {
+        self.latest
     }
 
     /// What the book has come to. No act makes an order yet.
     pub fn summary(&self) -> Summary
-        ensures { result ≡ spec.summary_of self.now }
+        ensures value { result ≡ spec.summary_of self.now }
+        ensures kept { IsBook self.now }
     {
         Summary {
             entries: self.log.len() as u64,
@@ -154,15 +139,16 @@ impl Book {
 
     /// Whether an order has this authorisation.
     pub fn has_auth(&self, auth: &AuthId) -> bool
-        ensures { result ≡ spec.has_auth (tables_of self.now) auth.now }
+        ensures value { result ≡ spec.has_auth (tables_of self.now) auth.now }
+        ensures kept { IsBook self.now }
     {
-        some_auth(self.opening.tables.orders.as_slice(), auth)
+        some_auth(&self.rows.orders, auth)
     }
 
-    /// Settles an attempt of a caller, whose next change has this number: refuses it where a read is
-    /// not up to date, or where it would add an entry to a full log; else accepts it.
+    /// Settles an attempt of a caller, whose next change, if it is one, has this number: refuses it
+    /// where a read is not up to date, or where it would add an entry to a full log; else accepts it.
     pub fn settle(&mut self, caller: u32, number: u64, attempt: Attempt) -> Settle
-        requires number { number ≡ length (entries_of caller self.old.log) + 1 }
+        requires number { IsSome attempt.act → number ≡ length (entries_of caller self.old.log) + 1 }
         requires faithful { Faithful self.old.opening.tables self.old.log attempt }
         requires moment { attempt.moment ≤ stamp_limit }
         ensures settled { SettledAs self.old self.new caller number attempt result }
@@ -227,25 +213,39 @@ impl Book {
         if size >= self.opening.limit {
             return Settle::Full(size);
         }
+        // All that takes memory comes before the first change.
+        let alloc = *self.log.allocator();
+        let Ok(watched) = watch(alloc, &self.rows, &act) else {
+            return Settle::Memory;
+        };
+        let more = writes.len();
+        let Ok(writes) = self.rows.named(alloc, writes) else {
+            return Settle::Memory;
+        };
         if !make_room(
             &mut self.log,
-            &mut self.carts,
-            &mut self.cart_versions,
-            writes.len(),
+            &mut self.rows,
+            &mut self.versions,
+            &mut self.counts,
+            more,
         ) {
             return Settle::Memory;
         }
-        let cart = act.cart();
-        let ids = new_ids(self.carts.as_slice(), cart);
-        let left = is_left(self.carts.as_slice(), cart, writes.as_slice());
-        put_writes(&mut self.carts, writes);
-        raise(&mut self.cart_versions, cart, left, size + 1);
+        let ids = change_rows(
+            &mut self.rows,
+            &mut self.versions,
+            &watched,
+            stamp,
+            size + 1,
+            writes,
+        );
         self.log.push_reserved(Entry {
             caller,
             number,
             stamp,
             act,
         });
+        self.counts.set(caller, number);
         self.latest = stamp;
         Settle::Done(Drawn {
             front: size + 1,

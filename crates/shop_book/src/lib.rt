@@ -1,16 +1,25 @@
 //! The plain book of a shop: its opening tables, the log of changes, and the rows with their
-//! versions; and the store of a caller who has the book alone.
+//! versions; and the store of a caller who has the book for now.
 #![tactic(auto)]
 
 mod book;
 mod changes;
+mod copies;
+mod counts;
+mod ids;
 mod opening;
 mod orders;
 mod rows;
+mod shown;
 mod solo;
 mod summary;
+mod versions;
+mod visitor;
+mod watching;
+mod writes;
 
 pub use book::Book;
 pub use opening::Opening;
 pub use solo::Solo;
 pub use summary::Summary;
+pub use visitor::Visitor;

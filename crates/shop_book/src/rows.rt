@@ -1,73 +1,102 @@
 ghost use Rattle.std.specs.Prelude.{◌≡◌, IfOk};
+ghost use Rattle.std.specs.Bool.{OnTrue};
 ghost use Rattle.shop_history.specs.Keys as keys;
+ghost use Rattle.shop_model.specs.declared.tables.Tables.{Tables};
 ghost use Rattle.shop_model.specs.Lookups as spec;
 ghost use Rattle.shop_model.specs.Sound.{Sound};
+ghost use Rattle.shop_book.specs.RowsNow.{tables_with, HasRoom};
 
+use crate::copies::copies;
 use shop_history::{Key, Label, Row};
-use shop_model::{Cart, Subject, Tables, row_numbered};
-use shop_ranking::{best, newest};
+use shop_model::{Address, Cart, Customer, Item, Order, Tables, row_numbered};
 use shop_text::{Memory, Text};
 use std::alloc::Global;
 
-/// What a key of an item shows.
-pub(crate) fn item_row(alloc: Global, tables: &Tables, id: u32) -> Result<Row, Memory>
-    ensures { IfOk result (λ row. row ≡ keys.row_of tables.now (Key.Item id)) }
-{
-    match row_numbered(tables.items.as_slice(), id) {
-        None => Ok(Row::Absent),
-        Some(item) => Ok(Row::Item(item.copy(alloc)?)),
+/// The rows of the tables that writes change.
+#[derive(Debug, Drop)]
+pub(crate) struct Rows {
+    pub(crate) items: Vec<Item>,
+    pub(crate) customers: Vec<Customer>,
+    /// For each customer the id of its last order, if it has one.
+    pub(crate) last: Vec<Option<u32>>,
+    pub(crate) carts: Vec<Cart>,
+    pub(crate) addresses: Vec<Address>,
+    pub(crate) orders: Vec<Order>,
+}
+
+impl Rows {
+    /// Copies of the rows of these tables.
+    pub(crate) fn copy_of(alloc: Global, tables: &Tables) -> Result<Rows, Memory>
+        ensures { IfOk result (λ rows. tables_with tables.now rows ≡ tables.now) }
+    {
+        Ok(Rows {
+            items: copies(alloc, tables.items.as_slice())?,
+            customers: copies(alloc, tables.customers.as_slice())?,
+            last: copies(alloc, tables.last.as_slice())?,
+            carts: copies(alloc, tables.carts.as_slice())?,
+            addresses: copies(alloc, tables.addresses.as_slice())?,
+            orders: copies(alloc, tables.orders.as_slice())?,
+        })
     }
-}
 
-/// What a key of a label shows.
-pub(crate) fn label_row(alloc: Global, tables: &Tables, id: u32) -> Result<Row, Memory>
-    requires { Sound tables.now }
-    ensures { IfOk result (λ row. row ≡ keys.row_of tables.now (Key.Label id)) }
-{
-    match row_numbered(tables.items.as_slice(), id) {
-        None => Ok(Row::Absent),
-        Some(item) => match row_numbered(tables.authors.as_slice(), item.author) {
-            None => unreachable!(),
-            Some(author) => Ok(Row::Label(Label {
-                title: Text::copy(alloc, item.title.bytes())?,
-                first: Text::copy(alloc, author.first.bytes())?,
-                last: Text::copy(alloc, author.last.bytes())?,
-            })),
-        },
+    /// Makes room for so many more rows in each table; answers whether there is.
+    pub(crate) fn make_room(&mut self, more: usize) -> bool
+        ensures same { (t : Tables) → tables_with t self.new ≡ tables_with t self.old }
+        ensures room { OnTrue result (HasRoom self.new more) }
+    {
+        self.items.reserve(more).is_ok()
+            && self.customers.reserve(more).is_ok()
+            && self.last.reserve(more).is_ok()
+            && self.carts.reserve(more).is_ok()
+            && self.addresses.reserve(more).is_ok()
+            && self.orders.reserve(more).is_ok()
     }
-}
 
-/// What a key of a customer shows.
-pub(crate) fn customer_row(alloc: Global, tables: &Tables, id: u32) -> Result<Row, Memory>
-    ensures { IfOk result (λ row. row ≡ keys.row_of tables.now (Key.Customer id)) }
-{
-    match row_numbered(tables.customers.as_slice(), id) {
-        None => Ok(Row::Absent),
-        Some(customer) => Ok(Row::Customer(customer.copy(alloc)?)),
+    /// What a key of an item shows.
+    pub(crate) fn item_row(&self, alloc: Global, id: u32) -> Result<Row, Memory>
+        ensures { IfOk result (λ row. row ≡ keys.shown Row.Item (spec.row_numbered self.now.items.items id)) }
+    {
+        match row_numbered(&self.items, id) {
+            None => Ok(Row::Absent),
+            Some(item) => Ok(Row::Item(item.copy(alloc)?)),
+        }
     }
-}
 
-/// What a key of a cart shows, where these are the carts.
-pub(crate) fn cart_row(carts: &[Cart], id: u32) -> Result<Row, Memory>
-    ensures { IfOk result (λ row. row ≡ keys.shown Row.Cart (spec.row_numbered carts.now id)) }
-{
-    match row_numbered(carts, id) {
-        None => Ok(Row::Absent),
-        Some(cart) => Ok(Row::Cart(cart.copy()?)),
+    /// What a key of a label shows; authors are those of these tables.
+    pub(crate) fn label_row(&self, alloc: Global, tables: &Tables, id: u32) -> Result<Row, Memory>
+        requires { Sound (tables_with tables.now self.now) }
+        ensures { IfOk result (λ row. row ≡ keys.row_of (tables_with tables.now self.now) (Key.Label id)) }
+    {
+        match row_numbered(&self.items, id) {
+            None => Ok(Row::Absent),
+            Some(item) => match row_numbered(tables.authors.as_slice(), item.author) {
+                None => unreachable!(),
+                Some(author) => Ok(Row::Label(Label {
+                    title: Text::copy(alloc, item.title.bytes())?,
+                    first: Text::copy(alloc, author.first.bytes())?,
+                    last: Text::copy(alloc, author.last.bytes())?,
+                })),
+            },
+        }
     }
-}
 
-/// What the key of a subject's newest items shows.
-pub(crate) fn newest_row(alloc: Global, tables: &Tables, subject: Subject) -> Result<Row, Memory>
-    ensures { IfOk result (λ row. row ≡ keys.row_of tables.now (Key.NewIn subject)) }
-{
-    Ok(Row::Items(newest(alloc, tables, subject)?))
-}
+    /// What a key of a customer shows.
+    pub(crate) fn customer_row(&self, alloc: Global, id: u32) -> Result<Row, Memory>
+        ensures { IfOk result (λ row. row ≡ keys.shown Row.Customer (spec.row_numbered self.now.customers.items id)) }
+    {
+        match row_numbered(&self.customers, id) {
+            None => Ok(Row::Absent),
+            Some(customer) => Ok(Row::Customer(customer.copy(alloc)?)),
+        }
+    }
 
-/// What the key of a subject's best sold items shows.
-pub(crate) fn best_row(alloc: Global, tables: &Tables, subject: Subject) -> Result<Row, Memory>
-    requires { Sound tables.now }
-    ensures { IfOk result (λ row. row ≡ keys.row_of tables.now (Key.BestIn subject)) }
-{
-    Ok(Row::Items(best(alloc, tables, subject)?))
+    /// What a key of a cart shows.
+    pub(crate) fn cart_row(&self, id: u32) -> Result<Row, Memory>
+        ensures { IfOk result (λ row. row ≡ keys.shown Row.Cart (spec.row_numbered self.now.carts.items id)) }
+    {
+        match row_numbered(&self.carts, id) {
+            None => Ok(Row::Absent),
+            Some(cart) => Ok(Row::Cart(cart.copy()?)),
+        }
+    }
 }

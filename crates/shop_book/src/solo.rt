@@ -1,18 +1,19 @@
 ghost use Rattle.std.specs.Prelude.{◌≡◌};
+ghost use Rattle.shop_attempt.specs.Marks.{AreMarks};
+ghost use Rattle.shop_attempt.specs.Seats.{IsSeat};
+ghost use Rattle.shop_book.specs.Solos.{seated, seat_of, marks_of};
 
-use crate::Book;
+use crate::{Book, Visitor};
 use shop_attempt::{Attempt, Settle, Store};
 use shop_history::{Key, Row};
 use shop_text::Memory;
 use std::marker::Model;
 
-/// The seat of caller 1, who has a book alone.
+/// The seat of a caller who has a book alone for now.
 #[derive(Debug, Drop)]
 pub struct Solo {
     book: Book,
-    calls: u64,
-    settles: u64,
-    greatest: u64,
+    visitor: Visitor,
 }
 
 impl Model for Solo {
@@ -26,52 +27,72 @@ impl Model for Solo {
 }
 
 impl Solo {
-    /// The seat, with no calls yet.
+    /// The seat of caller 1, with no calls yet.
     pub fn new(book: Book) -> Solo
-        ensures { result ≡ record { book = book; calls = 0; settles = 0; greatest = 0 } }
+        ensures value { result ≡ seated book 1 }
+        ensures valid { IsSeat (seat_of result) }
+        ensures marked { AreMarks (marks_of result) (seat_of result).seen }
     {
-        Solo {
-            book,
+        Solo::of(book, 1)
+    }
+
+    /// The seat of whichever caller has the book for now, with no calls yet. Callers are numbered
+    /// from 1; those who take turns at a book have numbers of their own.
+    pub fn of(book: Book, caller: u32) -> Solo
+        ensures value { result ≡ seated book caller }
+        ensures valid { IsSeat (seat_of result) }
+        ensures marked { AreMarks (marks_of result) (seat_of result).seen }
+    {
+        let _size = book.size();
+        let visitor = Visitor {
+            caller,
             calls: 0,
             settles: 0,
             greatest: 0,
-        }
+        };
+        Solo { book, visitor }
+    }
+
+    /// Gives the seat to another visitor, and answers who had it.
+    pub fn turn(&mut self, visitor: Visitor) -> Visitor
+        ensures was { result ≡ self.old.visitor }
+        ensures is { self.new ≡ record { book = self.old.book; visitor = visitor } }
+    {
+        let was = self.visitor;
+        self.visitor = visitor;
+        was
     }
 
     /// The book.
     pub fn into_book(self) -> Book
         ensures { result ≡ self.book }
     {
-        let Solo {
-            book,
-            calls: _,
-            settles: _,
-            greatest: _,
-        } = self;
+        let Solo { book, visitor: _ } = self;
         book
     }
 }
 
 impl Store for Solo {
-    ghost use Rattle.shop_book.specs.Solos.{seat_of, IsKeptMark};
+    ghost use Rattle.shop_book.specs.Solos.{seat_of, marks_of};
 
     ghost seat = { seat_of };
 
-    ghost marked = { λ s front moment. IsKeptMark s.book front moment };
+    ghost marked = { marks_of };
 
     fn read(&mut self, key: &Key) -> Result<(Row, u64), Memory> {
-        self.calls = self.calls.saturating_add(1);
+        self.visitor.calls = self.visitor.calls.saturating_add(1);
         self.book.read(key)
     }
 
     fn settle(&mut self, attempt: Attempt) -> Settle {
-        self.calls = self.calls.saturating_add(1);
-        self.settles = self.settles.saturating_add(1);
+        self.visitor.calls = self.visitor.calls.saturating_add(1);
+        self.visitor.settles = self.visitor.settles.saturating_add(1);
         let moment = attempt.moment;
-        let number = self.book.count_of(1) + 1;
-        let settled = self.book.settle(1, number, attempt);
+        let caller = self.visitor.caller;
+        let number = self.book.count_of(caller) + 1;
+        let settled = self.book.settle(caller, number, attempt);
         if let Settle::Done(_) = settled {
-            self.greatest = self.greatest.max(moment);
+            self.visitor.greatest = self.visitor.greatest.max(moment);
         }
         settled
     }

@@ -1,5 +1,8 @@
+ghost use Rattle.std.specs.Prelude.{◌≡◌, IfOk};
+
 use crate::{AuthId, CardType};
-use shop_text::Text;
+use shop_text::{Memory, Text};
+use std::alloc::Global;
 use std::marker::Model;
 
 /// The payment of an order by card.
@@ -31,4 +34,22 @@ impl Model for CardUse {
     ghost view = { row_of };
 
     ghost invariant = { λ i. IsCardUse (row_of i) };
+}
+
+impl CardUse {
+    /// A copy of the row.
+    pub fn copy(&self, alloc: Global) -> Result<CardUse, Memory>
+        ensures { IfOk result (λ copy. copy ≡ self.now) }
+    {
+        Ok(CardUse {
+            card: self.card,
+            number: Text::copy(alloc, self.number.bytes())?,
+            name: Text::copy(alloc, self.name.bytes())?,
+            expiry: Text::copy(alloc, self.expiry.bytes())?,
+            auth: self.auth,
+            total: self.total,
+            stamp: self.stamp,
+            country: self.country,
+        })
+    }
 }

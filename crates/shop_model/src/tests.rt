@@ -279,3 +279,72 @@ fn a_cart_is_copied(rt: HostRuntime) -> Result<(), Fail> {
     assert_eq!(rt; again.lines.as_slice(), cart.lines.as_slice());
     Ok(())
 }
+
+fn an_address(alloc: Global) -> Result<Address, Memory> {
+    Ok(Address {
+        id: 5,
+        text: AddressText {
+            street1: Text::copy(alloc, b"12 River St")?,
+            street2: Text::copy(alloc, b"Unit 3")?,
+            city: Text::copy(alloc, b"Oxford")?,
+            state: Text::copy(alloc, b"OX")?,
+            zip: Text::copy(alloc, b"30005")?,
+            country: 2,
+        },
+    })
+}
+
+fn an_order(alloc: Global) -> Result<Order, Memory> {
+    let mut lines = Listed::new(alloc);
+    lines.push(Line {
+        number: 1,
+        item: 7,
+        quantity: 2,
+        cost: 1943,
+    })?;
+    Ok(Order {
+        id: 3,
+        customer: 4,
+        placed: 1000,
+        discount: 50,
+        sub: 1943,
+        tax: 160,
+        ship: 500,
+        total: 2603,
+        ship_type: ShipType::Mail,
+        ship_day: 11_003,
+        ship_address: 5,
+        status: OrderState::Pending,
+        lines,
+        card: CardUse {
+            card: CardType::Visa,
+            number: Text::copy(alloc, b"4000000000000004")?,
+            name: Text::copy(alloc, b"Dan Foster")?,
+            expiry: Text::copy(alloc, b"2027-05")?,
+            auth: AuthId::of(12),
+            total: 2603,
+            stamp: 1000,
+            country: 2,
+        },
+    })
+}
+
+#[test]
+fn an_address_is_copied(rt: HostRuntime) -> Result<(), Fail> {
+    let alloc = rt.alloc();
+    let address = an_address(alloc)?.copy(alloc)?;
+    assert_eq!(rt; address.text.zip.bytes(), b"30005".as_slice());
+    assert_eq!(rt; address.text.country, 2);
+    Ok(())
+}
+
+#[test]
+fn an_order_is_copied(rt: HostRuntime) -> Result<(), Fail> {
+    let alloc = rt.alloc();
+    let order = an_order(alloc)?.copy(alloc)?;
+    assert_eq!(rt; order.total, 2603);
+    assert_eq!(rt; order.lines.as_slice()[0].cost, 1943);
+    assert_eq!(rt; order.card.expiry.bytes(), b"2027-05".as_slice());
+    assert_eq!(rt; order.card.auth.bytes(), b"000000000000012".as_slice());
+    Ok(())
+}

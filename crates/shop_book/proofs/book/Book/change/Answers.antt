@@ -1,56 +1,109 @@
-use Rattle.std.proofs.Common.{◌≡◌, ◌+◌, ◌<◌, ◌∙◌, List, [], ◌∷◌, ◌++◌, length, vec_len, ap, arith}
-use Rattle.shop_model.specs.Rows.{CartRow}
+use Rattle.std.proofs.Common.{◌≡◌, ℕ, ◌+◌, ◌<◌, ◌==◌, if◌then◌else◌, List, [], ◌∷◌, ◌++◌, length, refl, sym, ◌∙◌, ap, subst, arith, length-append}
+use Rattle.shop_model.specs.declared.tables.Tables.{Tables}
+use Rattle.shop_attempt.specs.Writes.{written}
 use Rattle.shop_history.specs.declared.acts.Entry.{Entry}
-use Rattle.shop_history.specs.Acts.{cart_named}
-use Rattle.shop_attempt.specs.Faithful.{put_all}
+use Rattle.shop_history.specs.Drawing.{new_ids}
+use Rattle.shop_history.proofs.Raising.{RaisedFor}
+use Rattle.shop_book.specs.declared.watching.Watched.{Watched}
+use Rattle.shop_book.specs.Books.{BookValue, tables_of}
 use Rattle.shop_book.specs.BookView.{book_of}
-use Rattle.shop_book.specs.Changes.{is_left}
-use Rattle.shop_book.proofs.Changing.{may_now, kept_now, same_kept, same_there, same_raised, same_left}
-use Rattle.shop_book.proofs.Kept.{as_many}
+use Rattle.shop_book.specs.Keeping.{IsKept}
+use Rattle.shop_book.specs.Puts.{AreReady, named}
+use Rattle.shop_book.specs.RowsNow.{tables_with, HasRoom}
+use Rattle.shop_book.specs.Stored as versioned
+use Rattle.shop_book.specs.Stored.{stored}
+use Rattle.shop_book.specs.Watching.{AreOf, keys_of}
+use Rattle.shop_book.proofs.Changing.{IsNext, next_of, cart_fits, names_fit, kept_roomy, ready, kept_after}
+use Rattle.shop_book.proofs.Puts.{named_length}
 use Rattle.shop_book.proofs.book.Book.change.Goals as goal
 
-pub new_ids-ids-requires : goal.new_ids-ids-requires
-new_ids-ids-requires c =
-    let left : length c.self.inside.log.items < c.self.inside.opening.limit = omega arith in
-    let may = may_now (book_of c.self.inside) c.self.inside.carts.items c.self.inside.cart_versions.items c.self.invariant c.args.self.now c.self.view_is c.args.stamp c.requires.bound left c.args.act c.args.writes.items c.requires.stamp c.cart-cart.ensures.form c.requires.makes in
-    omega (arith, may.next, ap length c.as_slice.ensures.value, ap length c.make_room.ensures.carts)
+pub watch-requires : goal.watch-requires
+watch-requires c =
+    let b : BookValue = book_of c.self.inside in
+    let entry : Entry = record { caller = c.args.caller; number = c.args.number; stamp = c.args.stamp; act = c.args.act } in
+    let left : length c.self.inside.log.items < c.self.inside.opening.limit = omega (arith, c.if-size-self.false, c.len-size.ensures, c.self.inside.log.ok.0) in
+    let next : IsNext b entry c.args.writes.items = next_of b c.args.self.now c.self.view_is entry c.args.writes.items left c.requires.stamp c.requires.bound c.requires.number c.requires.makes in
+    omega (arith, cart_fits b c.self.invariant.is_book entry c.args.writes.items next, ap (λ (t : Tables). length t.carts) c.self.invariant.rows_are)
 
-pub is_left-left-requires : goal.is_left-left-requires
-is_left-left-requires c =
-    let left : length c.self.inside.log.items < c.self.inside.opening.limit = omega arith in
-    let may = may_now (book_of c.self.inside) c.self.inside.carts.items c.self.inside.cart_versions.items c.self.invariant c.args.self.now c.self.view_is c.args.stamp c.requires.bound left c.args.act c.args.writes.items c.requires.stamp c.cart-cart.ensures.form c.requires.makes in
-    same_there _ _ _ _ c.cart-cart.ensures.value (ap length (c.as_slice-2.ensures.value ∙ c.make_room.ensures.carts)) may.there
+pub named-requires : goal.named-requires
+named-requires c =
+    let b : BookValue = book_of c.self.inside in
+    let entry : Entry = record { caller = c.args.caller; number = c.args.number; stamp = c.args.stamp; act = c.args.act } in
+    let left : length c.self.inside.log.items < c.self.inside.opening.limit = omega (arith, c.if-size-self.false, c.len-size.ensures, c.self.inside.log.ok.0) in
+    let next : IsNext b entry c.args.writes.items = next_of b c.args.self.now c.self.view_is entry c.args.writes.items left c.requires.stamp c.requires.bound c.requires.number c.requires.makes in
+    names_fit b c.self.invariant.is_book entry c.args.writes.items next c.in-Ok.ensures.form c.self.inside.rows c.self.inside.versions c.self.inside.counts c.self.invariant
 
-pub put_writes-requires-clause-fits : goal.put_writes-requires-clause-fits
-put_writes-requires-clause-fits c =
-    let left : length c.self.inside.log.items < c.self.inside.opening.limit = omega arith in
-    let may = may_now (book_of c.self.inside) c.self.inside.carts.items c.self.inside.cart_versions.items c.self.invariant c.args.self.now c.self.view_is c.args.stamp c.requires.bound left c.args.act c.args.writes.items c.requires.stamp c.cart-cart.ensures.form c.requires.makes in
-    rw c.make_room.ensures.carts may.fits
+pub invariant_of-self : goal.invariant_of-self
+invariant_of-self c =
+    subst (λ (log : List Entry). IsKept (record { opening = c.self.inside.opening; log = log; latest = c.self.inside.latest }) c.make_room.new.rows c.make_room.new.versions c.make_room.new.counts) (sym c.make_room.ensures.log)
+    (kept_roomy (book_of c.self.inside) c.self.inside.rows c.make_room.new.rows c.self.inside.versions c.make_room.new.versions c.self.inside.counts c.make_room.new.counts
+    c.self.invariant c.make_room.ensures.rows c.make_room.ensures.versions c.make_room.ensures.places c.make_room.ensures.counts)
 
-pub raise-requires-clause-there : goal.raise-requires-clause-there
-raise-requires-clause-there c =
-    let left : length c.self.inside.log.items < c.self.inside.opening.limit = omega arith in
-    let may = may_now (book_of c.self.inside) c.self.inside.carts.items c.self.inside.cart_versions.items c.self.invariant c.args.self.now c.self.view_is c.args.stamp c.requires.bound left c.args.act c.args.writes.items c.requires.stamp c.cart-cart.ensures.form c.requires.makes in
-    let many : length c.self.inside.cart_versions.items ≡ length c.self.inside.carts.items = as_many (book_of c.self.inside) c.self.inside.carts.items c.self.inside.cart_versions.items c.self.invariant in
-    let size : vec_len c.make_room.new.versions ≡ length c.self.inside.carts.items = omega (arith, c.make_room.new.versions.ok.0, ap length c.make_room.ensures.versions, many) in
-    same_there (cart_named c.args.act) c.cart-cart.result (length c.self.inside.carts.items) (vec_len c.make_room.new.versions) c.cart-cart.ensures.value size may.there
+pub change_rows-ids-requires-clause-ready : goal.change_rows-ids-requires-clause-ready
+change_rows-ids-requires-clause-ready c =
+    let b : BookValue = book_of c.self.inside in
+    let entry : Entry = record { caller = c.args.caller; number = c.args.number; stamp = c.args.stamp; act = c.args.act } in
+    let left : length c.self.inside.log.items < c.self.inside.opening.limit = omega (arith, c.if-size-self.false, c.len-size.ensures, c.self.inside.log.ok.0) in
+    let next : IsNext b entry c.args.writes.items = next_of b c.args.self.now c.self.view_is entry c.args.writes.items left c.requires.stamp c.requires.bound c.requires.number c.requires.makes in
+    subst (AreReady c.make_room.new.rows c.args.stamp) (sym c.in-Ok-named.ensures)
+    (ready b c.self.invariant.is_book entry c.args.writes.items next c.in-Ok.ensures.form c.self.inside.rows c.self.inside.versions c.self.inside.counts c.self.invariant
+    c.make_room.new.rows (c.make_room.ensures.rows c.self.inside.opening.tables)
+    (subst (HasRoom c.make_room.new.rows) (omega (arith, c.len-more.ensures, c.args.writes.ok.0)) c.if-not-make_room.ensures.rows_room))
+
+pub change_rows-ids-requires-clause-places : goal.change_rows-ids-requires-clause-places
+change_rows-ids-requires-clause-places c =
+    (kept_roomy (book_of c.self.inside) c.self.inside.rows c.make_room.new.rows c.self.inside.versions c.make_room.new.versions c.self.inside.counts c.make_room.new.counts
+    c.self.invariant c.make_room.ensures.rows c.make_room.ensures.versions c.make_room.ensures.places c.make_room.ensures.counts).places
+
+pub change_rows-ids-requires-clause-room : goal.change_rows-ids-requires-clause-room
+change_rows-ids-requires-clause-room c =
+    let many : c.len-more.result ≡ length c.in-Ok-named.writes.items
+    = omega (arith, c.len-more.ensures, c.args.writes.ok.0, ap length c.in-Ok-named.ensures, named_length (length c.self.inside.rows.customers.items) c.args.writes.items) in
+    subst (versioned.HasRoom c.make_room.new.versions) many c.if-not-make_room.ensures.versions_room
+
+pub change_rows-ids-requires-clause-rows : goal.change_rows-ids-requires-clause-rows
+change_rows-ids-requires-clause-rows c = λ t.
+    subst (λ (watched : List Watched). AreOf (tables_with t c.make_room.new.rows) watched) (sym c.deref.ensures.value)
+    (subst (λ (u : Tables). AreOf u c.in-Ok.watched.items) (sym (c.make_room.ensures.rows t)) (c.in-Ok.ensures.rows t))
 
 pub invariant_of-self-2 : goal.invariant_of-self-2
 invariant_of-self-2 c =
-    let left : length c.self.inside.log.items < c.self.inside.opening.limit = omega arith in
-    let size : c.len-size.result + 1 ≡ length c.self.inside.log.items + 1 = omega (arith, c.self.inside.log.ok.0) in
+    let b : BookValue = book_of c.self.inside in
     let entry : Entry = record { caller = c.args.caller; number = c.args.number; stamp = c.args.stamp; act = c.args.act } in
-    let rows : c.as_slice-2.result.now ≡ c.self.inside.carts.items = c.as_slice-2.ensures.value ∙ c.make_room.ensures.carts in
-    let stays : c.is_left-left.result ≡ is_left c.self.inside.carts.items (cart_named c.args.act) c.args.writes.items
-    = c.is_left-left.ensures ∙ same_left c.self.inside.carts.items c.as_slice-2.result.now (cart_named c.args.act) c.cart-cart.result c.args.writes.items c.as_slice-3.result.now rows c.cart-cart.ensures.value c.as_slice-3.ensures.value in
-    same_kept c.self.inside.opening c.args.stamp (c.self.inside.log.items ++ entry ∷ []) c.push_reserved.new.self.items
-    (put_all c.self.inside.carts.items c.args.writes.items) c.put_writes.new.carts.items
-    _ c.raise.new.versions.items
-    (c.push_reserved.ensures.items ∙ ap (λ (l : List Entry). l ++ entry ∷ []) c.make_room.ensures.log)
-    (c.put_writes.ensures ∙ ap (λ (xs : List CartRow). put_all xs c.args.writes.items) c.make_room.ensures.carts)
-    (c.raise.ensures
-    ∙ same_raised c.self.inside.cart_versions.items c.make_room.new.versions.items (cart_named c.args.act) c.cart-cart.result _ c.is_left-left.result (length c.self.inside.log.items + 1) (c.len-size.result + 1) c.make_room.ensures.versions c.cart-cart.ensures.value stays size)
-    (kept_now (book_of c.self.inside) c.self.inside.carts.items c.self.inside.cart_versions.items c.self.invariant c.args.self.now c.self.view_is c.args.stamp c.requires.bound left c.args.caller c.args.number c.args.act c.args.writes.items c.requires.stamp c.cart-cart.ensures.form c.requires.makes c.requires.number)
+    let left : length c.self.inside.log.items < c.self.inside.opening.limit = omega (arith, c.if-size-self.false, c.len-size.ensures, c.self.inside.log.ok.0) in
+    let next : IsNext b entry c.args.writes.items = next_of b c.args.self.now c.self.view_is entry c.args.writes.items left c.requires.stamp c.requires.bound c.requires.number c.requires.makes in
+    let log : c.push_reserved.new.self.items ≡ c.self.inside.log.items ++ entry ∷ [] = c.push_reserved.ensures.items ∙ ap (λ (l : List Entry). l ++ entry ∷ []) c.make_room.ensures.log in
+    let t : Tables = c.self.inside.opening.tables in
+    let made : tables_with t c.change_rows-ids.new.rows ≡ written (tables_with t c.make_room.new.rows) c.args.stamp (named (length c.self.inside.rows.customers.items) c.args.writes.items)
+    = c.change_rows-ids.ensures.made t ∙ ap (written (tables_with t c.make_room.new.rows) c.args.stamp) c.in-Ok-named.ensures in
+    let size : c.len-size.result + 1 ≡ length c.self.inside.log.items + 1 = omega (arith, c.len-size.ensures, c.self.inside.log.ok.0) in
+    let rises : RaisedFor (tables_with t c.make_room.new.rows) (tables_with t c.change_rows-ids.new.rows) (length c.self.inside.log.items + 1) (keys_of c.in-Ok.watched.items) (stored c.make_room.new.versions) (stored c.change_rows-ids.new.versions)
+    = subst (λ n. RaisedFor (tables_with t c.make_room.new.rows) (tables_with t c.change_rows-ids.new.rows) n (keys_of c.in-Ok.watched.items) (stored c.make_room.new.versions) (stored c.change_rows-ids.new.versions)) size
+    (subst (λ (watched : List Watched). RaisedFor (tables_with t c.make_room.new.rows) (tables_with t c.change_rows-ids.new.rows) (c.len-size.result + 1) (keys_of watched) (stored c.make_room.new.versions) (stored c.change_rows-ids.new.versions)) c.deref.ensures.value (c.change_rows-ids.ensures.raised t)) in
+    subst (λ (l : List Entry). IsKept (record { opening = c.self.inside.opening; log = l; latest = c.args.stamp }) c.change_rows-ids.new.rows c.change_rows-ids.new.versions c.set.new.self) (sym log)
+    (kept_after b c.self.invariant.is_book entry c.args.writes.items next c.in-Ok.ensures.form c.self.inside.rows c.self.inside.versions c.self.inside.counts c.self.invariant
+    c.make_room.new.rows (c.make_room.ensures.rows t) c.change_rows-ids.new.rows c.make_room.new.versions c.change_rows-ids.new.versions c.set.new.self made
+    (keys_of c.in-Ok.watched.items) (c.in-Ok.ensures.keys t) c.change_rows-ids.ensures.places c.make_room.ensures.versions rises
+    (λ caller. c.set.ensures caller ∙ ap (λ (count : ℕ). if c.args.caller == caller then c.args.number else count) (c.make_room.ensures.counts caller)))
+
+pub returns-clause-taken : goal.returns-clause-taken
+returns-clause-taken c =
+    let b : BookValue = book_of c.self.inside in
+    let t : Tables = c.self.inside.opening.tables in
+    let entry : Entry = record { caller = c.args.caller; number = c.args.number; stamp = c.args.stamp; act = c.args.act } in
+    let left : length c.self.inside.log.items < c.self.inside.opening.limit = omega (arith, c.if-size-self.false, c.len-size.ensures, c.self.inside.log.ok.0) in
+    let log : c.push_reserved.new.self.items ≡ c.self.inside.log.items ++ entry ∷ [] = c.push_reserved.ensures.items ∙ ap (λ (l : List Entry). l ++ entry ∷ []) c.make_room.ensures.log in
+    rw (← c.self.view_is)
+    (record {
+      room = λ some. left;
+      stamp_is = refl;
+      book = ap (λ (l : List Entry). record { opening = c.self.inside.opening; log = l; latest = c.args.stamp }) log;
+      front = omega (arith, c.len-size.ensures, c.self.inside.log.ok.0, ap length log, length-append c.self.inside.log.items (entry ∷ []));
+      ids =
+          c.change_rows-ids.ensures.ids t
+          ∙ ap (λ (u : Tables). new_ids u (tables_with t c.change_rows-ids.new.rows)) (c.make_room.ensures.rows t ∙ c.self.invariant.rows_are)
+          ∙ ap (new_ids (tables_of b)) (invariant_of-self-2 c).rows_are;
+    })
 
 pub returns-clause-kept : goal.returns-clause-kept
 returns-clause-kept c = (invariant_of-self-2 c).is_book

@@ -1,29 +1,15 @@
-use Rattle.std.proofs.Common.{◌-◌, ◌∙◌, ap, length, arith}
-use Rattle.std.proofs.lemmas.List.{length-take-le}
-use Rattle.shop_book.proofs.Counts.{number_of_last, legal_rest, entries_rest, few_entries}
+use Rattle.std.proofs.Common.{◌∙◌, subst, arith}
+use Rattle.shop_book.specs.Books.{IsBook}
+use Rattle.shop_book.proofs.Callers.{few_entries}
 use Rattle.shop_book.proofs.book.Book.count_of.Goals as goal
 
-pub returns-then-last-caller-clause-value : goal.returns-then-last-caller-clause-value
-returns-then-last-caller-clause-value c =
-    let rest = c.loop-rest.rest.now in
-    number_of_last c.args.self.now.opening.tables c.args.caller rest c.last-item.result _ c.in-len1-up.len_at_least c.last-item.is c.loop-rest.invariant.0 c.if-last-caller.true
-    ∙ ap length c.loop-rest.invariant.1
+pub returns-clause-value : goal.returns-clause-value
+returns-clause-value c = rw (← c.self.view_is) (c.of.ensures ∙ c.self.invariant.counts_are c.args.caller)
 
-pub returns-then-last-caller-clause-bound : goal.returns-then-last-caller-clause-bound
-returns-then-last-caller-clause-bound c =
-    let rest = c.loop-rest.rest.now in
-    omega (
-      arith,
-      number_of_last c.args.self.now.opening.tables c.args.caller rest c.last-item.result _ c.in-len1-up.len_at_least c.last-item.is c.loop-rest.invariant.0 c.if-last-caller.true,
-      few_entries c.args.caller rest,
-      c.loop-rest.invariant.2,
-    )
+pub returns-clause-kept : goal.returns-clause-kept
+returns-clause-kept c = subst IsBook c.self.view_is c.self.invariant.is_book
 
-pub loop-rest-preserved : goal.loop-rest-preserved
-loop-rest-preserved c =
-    let rest = c.loop-rest.rest.now in (
-      legal_rest c.args.self.now.opening.tables c.args.caller rest c.last-item.result _ c.in-len1-up.len_at_least c.last-item.is c.loop-rest.invariant.0,
-      entries_rest c.args.self.now.opening.tables c.args.caller rest c.last-item.result _ c.in-len1-up.len_at_least c.last-item.is c.loop-rest.invariant.0 c.if-last-caller.false
-          ∙ c.loop-rest.invariant.1,
-      omega (arith, length-take-le (length rest - 1) rest (omega arith), c.loop-rest.invariant.2),
-    )
+pub returns-clause-bound : goal.returns-clause-bound
+returns-clause-bound c =
+    let book : IsBook c.args.self.now = returns-clause-kept c in
+    omega (arith, returns-clause-value c, few_entries c.args.caller c.args.self.now.log, book.short, book.opens.bound)

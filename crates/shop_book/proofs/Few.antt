@@ -1,0 +1,41 @@
+-- Writes add few rows.
+use Rattle.std.proofs.Common.{ℕ, ◌+◌, ◌-◌, ◌≤◌, eqb, List, [], ◌∷◌, ◌++◌, length, slice_set, arith, length-append}
+use Rattle.std.proofs.lemmas.Bool.{cond_both}
+use Rattle.std.proofs.lemmas.List.{length-set}
+use Rattle.shop_model.specs.declared.tables.Tables.{Tables}
+use Rattle.shop_model.specs.Limits.{day_of}
+use Rattle.shop_attempt.specs.declared.attempts.Write.{Write}
+use Rattle.shop_attempt.specs.declared.attempts.Write.TheVariants.{PutCart, Login, AddAddress, AddCustomer, AddOrder, SetStock, PutItem}
+use Rattle.shop_attempt.specs.Writes.{put_row, logged_in, entered, written_one, written}
+use Rattle.shop_attempt.proofs.Writing.{changed_length}
+
+-- tables with few rows more, of those that have versions
+pub record FewMore (t u : Tables) (more : ℕ) : Type 0 where
+  pub items : length u.items ≤ length t.items + more
+  pub customers : length u.customers ≤ length t.customers + more
+  pub carts : length u.carts ≤ length t.carts + more
+
+put_one_more : {Row : Type 0} (rows : List Row) (id : ℕ) (make : ℕ → Row) → length (put_row rows id make) ≤ length rows + 1
+put_one_more {Row} rows id make =
+    cond_both (eqb id 0) (rows ++ make (length rows + 1) ∷ []) (slice_set rows (id - 1) (make id)) (λ (xs : List Row). length xs ≤ length rows + 1)
+    (λ _. omega (arith, length-append rows (make (length rows + 1) ∷ []))) (λ _. omega (arith, length-set rows (id - 1) (make id)))
+
+few_one : (t : Tables) (stamp : ℕ) (write : Write) → FewMore t (written_one t stamp write) 1
+few_one t stamp (PutCart cart) = record { items = omega arith; customers = omega arith; carts = put_one_more t.carts cart.id (λ id. record cart { id = id }) }
+few_one t stamp (Login id) = record { items = omega arith; customers = omega (arith, changed_length t.customers id (logged_in stamp)); carts = omega arith }
+few_one t stamp (AddAddress text) = record { items = omega arith; customers = omega arith; carts = omega arith }
+few_one t stamp (AddCustomer customer) = record { items = omega arith; customers = omega (arith, length-append t.customers (entered t stamp customer ∷ [])); carts = omega arith }
+few_one t stamp (AddOrder order days) = record { items = omega arith; customers = omega arith; carts = omega arith }
+few_one t stamp (SetStock stock) = record {
+  items = omega (arith, changed_length t.items stock.item (λ item. record item { stock = stock.stock; restocks = stock.restocks }));
+  customers = omega arith;
+  carts = omega arith;
+}
+few_one t stamp (PutItem item) = record { items = put_one_more t.items item.id (λ id. record item { id = id; published = day_of stamp }); customers = omega arith; carts = omega arith }
+
+pub few_more : (t : Tables) (stamp : ℕ) (writes : List Write) → FewMore t (written t stamp writes) (length writes)
+few_more t stamp [] = record { items = omega arith; customers = omega arith; carts = omega arith }
+few_more t stamp (write ∷ writes) =
+    let first : FewMore t (written_one t stamp write) 1 = few_one t stamp write in
+    let rest : FewMore (written_one t stamp write) (written t stamp (write ∷ writes)) (length writes) = few_more (written_one t stamp write) stamp writes in
+    record { items = omega (arith, first.items, rest.items); customers = omega (arith, first.customers, rest.customers); carts = omega (arith, first.carts, rest.carts) }

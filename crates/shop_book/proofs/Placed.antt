@@ -1,0 +1,70 @@
+-- Which keys have a place for a version, and when two carts are equal.
+use Rattle.std.proofs.Common.{◌≡◌, ◌≢◌, ℕ, ◌-◌, ◌≤◌, ◌&&◌, Bool, true, List, length, Some, None, nat_eq, refl, sym, ◌∙◌, ap, arith}
+use Rattle.std.specs.Cmp.Lexicographic.{pointwise}
+use Rattle.std.proofs.lemmas.Option.{slice_get_within}
+use lib.Pointwise.{pointwise_decides}
+use Rattle.shop_model.specs.declared.tables.Tables.{Tables}
+use Rattle.shop_model.specs.Lookups.{row_numbered}
+use Rattle.shop_model.specs.Rows.{CartRow}
+use Rattle.shop_model.specs.Sound.{Has}
+use Rattle.shop_history.specs.declared.keys.Key as key
+use Rattle.shop_history.specs.declared.keys.Key.{Key}
+use Rattle.shop_history.specs.declared.keys.Row.{Row}
+use Rattle.shop_history.specs.declared.keys.Row.TheVariants as row
+use Rattle.shop_history.specs.Keys.{row_of, shown}
+use Rattle.shop_history.specs.Same.{same}
+use Rattle.shop_history.proofs.Places.{IsThere, is_there}
+use Rattle.shop_book.specs.declared.rows.Rows.{Rows}
+use Rattle.shop_book.specs.declared.versions.Versions.{Versions}
+use Rattle.shop_book.specs.Stored.{HasPlace, HasPlaces, MorePlaces}
+use Rattle.shop_book.specs.RowsNow.{tables_with}
+use Rattle.shop_book.specs.Watching.{CanWatch, IsWatchable}
+
+has_row : {A : Type 0} (rows : List A) (id : ℕ) (x : A) → row_numbered rows id ≡ Some x → Has (length rows) id
+has_row rows id x is =
+    let there : IsThere rows id x = is_there rows id x is in
+    record { first = there.above; last = omega (arith, slice_get_within rows (id - 1) x there.at, there.above) }
+
+more_places : (size more id : ℕ) → size ≤ more → Has size id → Has more id
+more_places size more id longer has = record { first = has.first; last = omega (arith, has.last, longer) }
+
+-- a key keeps its place
+pub more_place : (old new : Versions) (k : Key) → MorePlaces old new → HasPlace old k → HasPlace new k
+more_place old new (key.TheVariants.Item id) more has = more_places _ _ id more.items has
+more_place old new (key.TheVariants.Label id) more has = has
+more_place old new (key.TheVariants.Customer id) more has = more_places _ _ id more.customers has
+more_place old new (key.TheVariants.Cart id) more has = more_places _ _ id more.carts has
+more_place old new (key.TheVariants.NewIn subject) more has = has
+more_place old new (key.TheVariants.BestIn subject) more has = has
+
+-- a watched key that shows a row has a place
+pub place_shown : (v : Versions) (rows : Rows) (t : Tables) (k : Key) → IsWatchable k → HasPlaces v rows → row_of (tables_with t rows) k ≢ row.Absent → HasPlace v k
+place_shown v rows t (key.TheVariants.Cart id) kind places is_shown =
+    elim (row_numbered rows.carts.items id) as (λ there. row_numbered rows.carts.items id ≡ there → shown row.Cart there ≢ row.Absent → Has (length v.carts.items) id) [
+      | None ↦ (λ is some. absurd (some refl))
+      | Some cart ↦ (λ is some. more_places _ _ id places.carts (has_row rows.carts.items id cart is))
+    ] refl is_shown
+place_shown v rows t _ kind places is_shown = absurd kind
+
+-- and so has one that shows another row than it did
+pub place_changed : (v : Versions) (rows : Rows) (t : Tables) (k : Key) (kept : Row) → CanWatch v (record { key = k; row = kept }) → HasPlaces v rows
+    → row_of (tables_with t rows) k ≢ kept → HasPlace v k
+place_changed v rows t k kept can places changed =
+    elim (same (row_of (tables_with t rows) k) row.Absent) as (λ _. HasPlace v k) [
+      | yes gone ↦ can.place (λ absent. changed (gone ∙ sym absent))
+      | no there ↦ place_shown v rows t k can.kind places there
+    ]
+
+same_line : (a b : ℕ × ℕ) → (nat_eq a.0 b.0 && nat_eq a.1 b.1) ≡ true → a ≡ b
+same_line a b is = grind (arith, is)
+
+line_same : (a b : ℕ × ℕ) → a ≡ b → (nat_eq a.0 b.0 && nat_eq a.1 b.1) ≡ true
+line_same a b is = grind (arith, is)
+
+-- the test of lines tells just those that are equal
+pub carts_same : (cart other : CartRow) (same : Bool) → cart.id ≡ other.id → same ≡ pointwise (λ a b. nat_eq a.0 b.0 && nat_eq a.1 b.1) cart.lines other.lines
+    → (same ≡ true → cart ≡ other) × (cart ≡ other → same ≡ true)
+carts_same cart other same id is =
+    let lines = pointwise_decides (λ (a b : ℕ × ℕ). (same_line a b, line_same a b)) cart.lines other.lines in
+    let make : ℕ → List (ℕ × ℕ) → CartRow = λ id lines. record { id = id; lines = lines } in
+    (λ yes. ap (λ (n : ℕ). make n cart.lines) id ∙ ap (make other.id) (lines.0 (sym is ∙ yes)), λ equal. is ∙ lines.1 (ap (λ (c : CartRow). c.lines) equal))

@@ -1,0 +1,39 @@
+use Rattle.std.proofs.Common.{length, sym, ◌∙◌, subst, arith, get_or}
+use Rattle.shop_model.specs.Empty.{no_tables}
+use Rattle.shop_book.specs.declared.watching.Watched.{Watched}
+use Rattle.shop_book.specs.Puts.{IdsFit}
+use Rattle.shop_book.specs.RowsNow.{tables_with}
+use Rattle.shop_book.specs.Stored.{stored}
+use Rattle.shop_book.specs.Watching.{keys_of}
+use Rattle.shop_book.proofs.Few.{FewMore, few_more}
+use Rattle.shop_book.proofs.Placed.{more_place, place_shown}
+use Rattle.shop_book.proofs.Raises.{raised_from}
+use Rattle.shop_book.proofs.changes.change_rows.Goals as goal
+
+pub grow-requires : goal.grow-requires
+grow-requires c =
+    let few : FewMore (tables_with no_tables c.args.rows.now) (tables_with no_tables c.put_writes.new.self) (length c.args.writes.items)
+    = subst (λ u. FewMore (tables_with no_tables c.args.rows.now) u (length c.args.writes.items)) (sym (c.put_writes.ensures no_tables)) (few_more (tables_with no_tables c.args.rows.now) c.args.stamp c.args.writes.items) in
+    record {
+      items = omega (arith, few.items, c.requires.places.items, c.requires.room.items, c.args.versions.now.items.ok);
+      customers = omega (arith, few.customers, c.requires.places.customers, c.requires.room.customers, c.args.versions.now.customers.ok);
+      carts = omega (arith, few.carts, c.requires.places.carts, c.requires.room.carts, c.args.versions.now.carts.ok);
+    }
+
+pub raise_changed-requires-clause-watchable : goal.raise_changed-requires-clause-watchable
+raise_changed-requires-clause-watchable c = λ k d within.
+    let kept : Watched = get_or c.args.watched.now k d in
+    record {
+      kind = c.requires.kinds k d within;
+      place = λ some.
+          more_place c.args.versions.now c.grow.new.self kept.key c.grow.ensures.longer
+          (place_shown c.args.versions.now c.args.rows.now no_tables kept.key (c.requires.kinds k d within) c.requires.places (λ absent. some (c.requires.rows no_tables k d within ∙ absent)));
+    }
+
+pub new_ids-requires : goal.new_ids-requires
+new_ids-requires c = subst IdsFit (sym (c.put_writes.ensures no_tables)) c.requires.ready.fits
+
+pub returns-clause-raised : goal.returns-clause-raised
+returns-clause-raised c = λ t.
+    raised_from (tables_with t c.args.rows.now) (tables_with t c.put_writes.new.self) c.args.number (keys_of c.args.watched.now) (stored c.args.versions.now) (stored c.grow.new.self) (stored c.raise_changed.new.versions)
+    c.grow.ensures.same (c.raise_changed.ensures.raised (tables_with t c.args.rows.now) t (c.requires.rows t))
