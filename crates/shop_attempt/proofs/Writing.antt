@@ -28,17 +28,10 @@ put_longer rows id make =
 -- tables only grow as writes are made
 
 grows_self : (t : Tables) → Grows t t
-grows_self t = record { addresses = omega arith; customers = omega arith; items = omega arith; orders = omega arith; carts = omega arith; last = omega arith }
+grows_self t = grind arith
 
 grows_then : (t u w : Tables) → Grows t u → Grows u w → Grows t w
-grows_then t u w first second = record {
-  addresses = omega (arith, first.addresses, second.addresses);
-  customers = omega (arith, first.customers, second.customers);
-  items = omega (arith, first.items, second.items);
-  orders = omega (arith, first.orders, second.orders);
-  carts = omega (arith, first.carts, second.carts);
-  last = omega (arith, first.last, second.last);
-}
+grows_then t u w first second = grind arith
 
 pub written_one_grows : (t : Tables) (stamp : ℕ) (write : Write) → Grows t (written_one t stamp write)
 written_one_grows t stamp (PutCart cart) = grind (arith, put_longer t.carts cart.id (λ id. record cart { id = id }))

@@ -11,13 +11,13 @@ use Rattle.shop_model.specs.declared.requests.NewProducts.{NewProducts}
 use Rattle.shop_model.specs.declared.requests.Request.{Request}
 use Rattle.shop_model.specs.declared.requests.Request.TheVariants as request
 use Rattle.shop_model.specs.declared.requests.SearchKind.{SearchKind}
-use Rattle.shop_model.specs.declared.requests.SearchResults.{SearchResults}
 use Rattle.shop_model.specs.declared.tables.Tables.{Tables}
 use Rattle.shop_model.specs.Catalogues.{Catalogue, catalogue, found}
 use Rattle.shop_model.specs.Lines.{list_page, new_products, best_sellers, search_results}
 use Rattle.shop_model.specs.Kinds.{kind_name}
 use Rattle.shop_model.specs.Subjects.{subject_name}
 use Rattle.shop_model.specs.Rankings.{newest, best}
+use Rattle.shop_model.specs.SearchAsked.{SearchAsked}
 use Rattle.shop_model.specs.Show.{show}
 use Rattle.shop_model.specs.Sound.{Has, Sound}
 use Rattle.shop_history.specs.declared.keys.Key.{Key}
@@ -137,13 +137,13 @@ page_found c request draw kind text items labels ids title head (Some page) are 
 page_found c request draw kind text items labels ids title head None are never shows = λ t fits.
     never t (subst (All (Has (length t.items))) (ap (λ (d : Catalogue). found d kind text) fits.named ∙ sym are) (found_within t kind text fits.sound)) fits.shows
 
-search_shows : (t : Tables) (asked : SearchResults) (draw : ℕ) (head : List Block) → head ≡ Heading (codes "Search Results") ∷ Para (kind_name asked.kind ++ codes ": " ++ asked.text) ∷ []
+search_shows : (t : Tables) (asked : SearchAsked) (draw : ℕ) (head : List Block) → head ≡ Heading (codes "Search Results") ∷ Para (kind_name asked.kind ++ codes ": " ++ asked.text) ∷ []
     → show t (request.SearchResults asked) draw ≡ list_page t asked.ids (codes "Search Results") head (found (catalogue t) asked.kind asked.text)
 unfolding search_results
 search_shows t asked draw head is =
     ap (λ (h : List Block). list_page t asked.ids (codes "Search Results") h (found (catalogue t) asked.kind asked.text)) (sym is)
 
-pub found_attempted : (start now : Seat) (asked : SearchResults) (moment draw : ℕ) (c : Catalogue) (items those_items : List ℕ) (before reads those : List ReadOf) (head : List Block) (page : Option Page)
+pub found_attempted : (start now : Seat) (asked : SearchAsked) (moment draw : ℕ) (c : Catalogue) (items those_items : List ℕ) (before reads those : List ReadOf) (head : List Block) (page : Option Page)
     → c ≡ catalogue start.opening → Looked start now → items ≡ found c asked.kind asked.text → those_items ≡ items → before ≡ [] → AddsLabels start now those_items before reads
     → (0 < length those_items → IsSeat now) → those ≡ reads → head ≡ Heading (codes "Search Results") ∷ Para (kind_name asked.kind ++ codes ": " ++ asked.text) ∷ []
     → IsListPage asked.ids (codes "Search Results") head those_items those page → AttemptedAs start now (request.SearchResults asked) moment draw (attempt_of reads moment draw page)

@@ -3,5 +3,6 @@ pub mod Streams
 pub mod Pieces
 pub mod Clocks
 pub mod BytesInView
+pub mod BytesOutView
 pub mod ListClockView
 pub mod Adapters

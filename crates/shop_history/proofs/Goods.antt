@@ -38,18 +38,7 @@ room_less t more less below room = record {
 
 -- a cart more uses one of the room
 room_with : (t : Tables) (carts : List CartRow) (room : ℕ) → length carts ≤ length t.carts + 1 → Room t (suc room) → Room (record t { carts = carts }) room
-room_with t carts room one_more had =
-    let less : Room t room = room_less t (suc room) room (omega arith) had in
-    record {
-      countries = less.countries;
-      addresses = less.addresses;
-      customers = less.customers;
-      authors = less.authors;
-      items = less.items;
-      orders = less.orders;
-      carts = omega (arith, had.carts, one_more);
-      restocks = less.restocks;
-    }
+room_with t carts room one_more had = grind (arith, room_less t (suc room) room (omega arith) had)
 
 -- the lines that a request begins with, and those that it leaves
 

@@ -24,20 +24,14 @@ pub record Keeps (t u : Tables) : Type 0 where
 pub play_keeps : (t : Tables) (stamp : ℕ) (act : Act) → Keeps t (play t stamp act).tables
 play_keeps t stamp (Cart asked draw) = record { catalogue = refl; countries = refl; born_orders = refl; items = refl; orders = refl }
 
+keeps_then : (t u w : Tables) → Keeps t u → Keeps u w → Keeps t w
+keeps_then t u w first second = grind (arith, first, second)
+
 pub kept : (t : Tables) (log : List Entry) → Keeps t (tables t log)
 kept t =
     by_end (λ log. Keeps t (tables t log))
     (subst (Keeps t) (sym (tables_nil t)) (record { catalogue = refl; countries = refl; born_orders = refl; items = refl; orders = refl }))
-    (λ log entry before.
-    let step : Keeps (tables t log) (after (tables t log) entry) = play_keeps (tables t log) entry.stamp entry.act in
-    subst (Keeps t) (sym (tables_push t log entry))
-    (record {
-      catalogue = step.catalogue ∙ before.catalogue;
-      countries = step.countries ∙ before.countries;
-      born_orders = step.born_orders ∙ before.born_orders;
-      items = step.items ∙ before.items;
-      orders = step.orders ∙ before.orders;
-    }))
+    (λ log entry before. subst (Keeps t) (sym (tables_push t log entry)) (keeps_then t (tables t log) (after (tables t log) entry) before (play_keeps (tables t log) entry.stamp entry.act)))
 
 -- tables of one catalogue have as many items
 pub same_items : (opening t : Tables) → SameCatalogue opening t → length t.items ≡ length opening.items
@@ -58,11 +52,4 @@ carts_longer carts None lines = omega (arith, length-append carts (record { id =
 carts_longer carts (Some id) lines = omega (arith, length-set carts (id - 1) (record { id = id; lines = lines }))
 
 pub play_grows : (t : Tables) (stamp : ℕ) (act : Act) → Grows t (play t stamp act).tables
-play_grows t stamp (Cart asked draw) = record {
-  addresses = omega arith;
-  customers = omega arith;
-  items = omega arith;
-  orders = omega arith;
-  carts = carts_longer t.carts asked.ids.cart (lines_after t asked draw);
-  last = omega arith;
-}
+play_grows t stamp (Cart asked draw) = grind (arith, carts_longer t.carts asked.ids.cart (lines_after t asked draw))

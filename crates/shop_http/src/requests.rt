@@ -1,6 +1,7 @@
-ghost use Rattle.std.specs.Prelude.{◌≡◌, IfOk, codes};
+ghost use Rattle.std.specs.Prelude.{◌≡◌, ◌<◌, ◌≤◌, IfOk, IfSome, length, codes};
 ghost use Rattle.std.specs.Option.{option_map};
 ghost use Rattle.std.specs.Cow.{cow_str_bytes};
+ghost use Rattle.shop_model.specs.Limits.{text_limit};
 ghost use Rattle.shop_http.specs.Requests as spec;
 
 use crate::numbers::number_of;
@@ -149,7 +150,9 @@ fn required_kind(alloc: Global, query: &[u8]) -> Result<Option<SearchKind>, Memo
 
 /// The text that is searched for, where it is of 1 to 100 bytes.
 fn required_text<'a>(alloc: Global, query: &'a [u8]) -> Result<Option<CowStr<'a>>, Memory>
-    ensures { IfOk result (λ text. option_map cow_str_bytes text ≡ spec.required_text (spec.parameter (spec.pairs query.now) (codes "text"))) }
+    ensures value { IfOk result (λ text. option_map cow_str_bytes text ≡ spec.required_text (spec.parameter (spec.pairs query.now) (codes "text"))) }
+    ensures some { IfOk result (λ text. IfSome text (λ t. 0 < length (cow_str_bytes t))) }
+    ensures short { IfOk result (λ text. IfSome text (λ t. length (cow_str_bytes t) ≤ text_limit)) }
 {
     let Some(text) = parameter(alloc, query, b"text")? else {
         return Ok(None);

@@ -115,23 +115,21 @@ module _ {State Entry Key Row : Type 0} (history : History State Entry Key Row) 
 
   -- the version of a log
 
-  version_of-at : (state : State) (log : List Entry) (key : Key) → version_of history state log key ≡ version_at history state log key (length log)
-  unfolding version_of
-  version_of-at state log key = refl
-
   pub version_of-nil : (state : State) (key : Key) → version_of history state [] key ≡ 0
-  version_of-nil state key = version_of-at state [] key ∙ version_at-zero state [] key
+  unfolding version_of
+  version_of-nil state key = version_at-zero state [] key
 
   version_of-push : (state : State) (log : List Entry) (entry : Entry) (key : Key)
       → version_of history state (log ++ entry ∷ []) key ≡ moved (history.row_of (state_after history state log) key) (history.row_of (state_after history state (log ++ entry ∷ [])) key) (version_of history state log key) (length log + 1)
+  unfolding version_of
   version_of-push state log entry key =
       let longer : List Entry = log ++ entry ∷ [] in
       let size : length longer ≡ suc (length log) = omega (arith, length-append log (entry ∷ [])) in
       let extends : Extends log longer = extends_push log entry in
       let one : row_after history state longer (length log) key ≡ history.row_of (state_after history state log) key = row_front state log longer key extends (length log) (omega arith) ∙ row_whole state log key in
       let other : row_after history state longer (suc (length log)) key ≡ history.row_of (state_after history state longer) key = ap (λ n. row_after history state longer n key) (sym size) ∙ row_whole state longer key in
-      let version : version_at history state longer key (length log) ≡ version_of history state log key = version_at-front state log longer key extends (length log) (omega arith) ∙ sym (version_of-at state log key) in
-      version_of-at state longer key ∙ ap (version_at history state longer key) size ∙ version_at-suc state longer key (length log)
+      let version : version_at history state longer key (length log) ≡ version_of history state log key = version_at-front state log longer key extends (length log) (omega arith) in
+      ap (version_at history state longer key) size ∙ version_at-suc state longer key (length log)
       ∙ ap (λ (row : Row). moved row (row_after history state longer (suc (length log)) key) (version_at history state longer key (length log)) (suc (length log))) one
       ∙ ap (λ (row : Row). moved (history.row_of (state_after history state log) key) row (version_at history state longer key (length log)) (suc (length log))) other
       ∙ ap (λ v. moved (history.row_of (state_after history state log) key) (history.row_of (state_after history state longer) key) v (suc (length log))) version
@@ -147,38 +145,29 @@ module _ {State Entry Key Row : Type 0} (history : History State Entry Key Row) 
       → version_of history state (log ++ entry ∷ []) key ≡ length log + 1
   moves_version state log entry key apart = version_of-push state log entry key ∙ moved_apart _ _ _ _ (λ same. apart (sym same))
 
-  -- the version is within the log, and what the key showed then it shows now
-  pub record StandsAt (state : State) (key : Key) (log : List Entry) (version : ℕ) : Type 0 where
-    pub within : version ≤ length log
-    pub version_is : version_of history state (take version log) key ≡ version
-    pub row_is : row_after history state log version key ≡ history.row_of (state_after history state log) key
-
-  pub stands_at : (state : State) (key : Key) (log : List Entry) → StandsAt state key log (version_of history state log key)
-  stands_at state key log =
-      let stands : StandsIn state log key (length log) (version_of history state log key) = subst (StandsIn state log key (length log)) (sym (version_of-at state log key)) (stands_in state log key (length log)) in
-      let version : ℕ = version_of history state log key in
-      let size : length (take version log) ≡ version = length-take-le version log stands.within in
-      record {
-        within = stands.within;
-        version_is =
-            version_of-at state (take version log) key ∙ sym (version_at-front state (take version log) log key (take_extends log version) (length (take version log)) (omega arith))
-            ∙ ap (version_at history state log key) size ∙ stands.again;
-        row_is = stands.row_is ∙ row_whole state log key;
-      }
+  pub stands_now : (state : State) (log : List Entry) (key : Key) → StandsIn state log key (length log) (version_of history state log key)
+  unfolding version_of
+  stands_now state log key = stands_in state log key (length log)
 
   -- what is read of a log is true of it
   pub true_now : (state : State) (log : List Entry) (key : Key) (row : Row) (version : ℕ)
       → row ≡ history.row_of (state_after history state log) key → version ≡ version_of history state log key → IsTrueOf history state log key row version
+  unfolding version_of
   true_now state log key row version row_is version_is =
-      let stands : StandsAt state key log version = subst (StandsAt state key log) (sym version_is) (stands_at state key log) in
-      record { within = stands.within; version_is = stands.version_is; row_is = stands.row_is ∙ sym row_is }
+      let stands : StandsIn state log key (length log) version = subst (StandsIn state log key (length log)) (sym version_is) (stands_now state log key) in
+      let size : length (take version log) ≡ version = length-take-le version log stands.within in
+      record {
+        within = stands.within;
+        version_is = sym (version_at-front state (take version log) log key (take_extends log version) (length (take version log)) (omega arith)) ∙ ap (version_at history state log key) size ∙ stands.again;
+        row_is = stands.row_is ∙ row_whole state log key ∙ sym row_is;
+      }
 
   -- what was true, and has the version that it had, is so now
   pub fresh : (state : State) (log : List Entry) (key : Key) (row : Row) (version : ℕ)
       → IsTrueOf history state log key row version → version_of history state log key ≡ version → history.row_of (state_after history state log) key ≡ row
   fresh state log key row version was same =
-      let stands : StandsAt state key log version = subst (StandsAt state key log) same (stands_at state key log) in
-      sym stands.row_is ∙ was.row_is
+      let stands : StandsIn state log key (length log) version = subst (StandsIn state log key (length log)) same (stands_now state log key) in
+      sym (stands.row_is ∙ row_whole state log key) ∙ was.row_is
 
   -- what was true of a log is true of a longer one
   pub true_longer : (state : State) (log longer : List Entry) (key : Key) (row : Row) (version : ℕ)
@@ -194,10 +183,9 @@ module _ {State Entry Key Row : Type 0} (history : History State Entry Key Row) 
   -- a version that is no newer than a shorter log is the version there
   pub version_before : (state : State) (key : Key) (log longer : List Entry) → Extends log longer
       → version_of history state longer key ≤ length log → version_of history state log key ≡ version_of history state longer key
+  unfolding version_of
   version_before state key log longer extends old =
-      let at : version_of history state longer key ≡ version_at history state longer key (length longer) = version_of-at state longer key in
-      version_of-at state log key ∙ sym (version_at-front state log longer key extends (length log) (omega arith))
-      ∙ version_at-before state longer key (length log) (length longer) (extends_length log longer extends) (omega (arith, at, old)) ∙ sym at
+      sym (version_at-front state log longer key extends (length log) (omega arith)) ∙ version_at-before state longer key (length log) (length longer) (extends_length log longer extends) old
 
   -- an entry that changed what the key shows did so in a longer log too
   pub changed_longer : (state : State) (log longer : List Entry) (key : Key) (number : ℕ) → Extends log longer → ChangedAt history state log key number → ChangedAt history state longer key number
@@ -211,12 +199,12 @@ module _ {State Entry Key Row : Type 0} (history : History State Entry Key Row) 
   -- the entry that a version names changed what the key shows
   pub version_changed : (state : State) (key : Key) (log : List Entry) → 0 < version_of history state log key → ChangedAt history state log key (version_of history state log key)
   version_changed state key log some =
-      let stands : StandsIn state log key (length log) (version_of history state log key) = subst (StandsIn state log key (length log)) (sym (version_of-at state log key)) (stands_in state log key (length log)) in
+      let stands : StandsIn state log key (length log) (version_of history state log key) = stands_now state log key in
       record { some = some; within = stands.within; changed = stands.changed some }
 
   -- versions grow with the log
   pub version_grows : (state : State) (key : Key) (log longer : List Entry) → Extends log longer → version_of history state log key ≤ version_of history state longer key
   version_grows state key log longer extends = ⊎_elim
-      (λ (new : length log < version_of history state longer key). omega (arith, new, (stands_at state key log).within))
+      (λ (new : length log < version_of history state longer key). omega (arith, new, (stands_now state log key).within))
       (λ (old : version_of history state longer key ≤ length log). omega (arith, version_before state key log longer extends old))
       (cases_lt (length log) (version_of history state longer key))

@@ -7,6 +7,8 @@ pub mod LineView
 pub mod CardUseView
 pub mod OrderView
 pub mod CartView
+pub mod SearchAsked
+pub mod SearchResultsView
 pub mod CartAsked
 pub mod CartRequestView
 pub mod AuthIds

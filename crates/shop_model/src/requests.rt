@@ -79,12 +79,25 @@ impl SearchKind {
     }
 }
 
+/// What a search is for.
 #[derive(Debug, Drop)]
 pub struct SearchResults {
     pub kind: SearchKind,
     /// 1 to 100 bytes.
     pub text: Text,
     pub ids: IdsAsked,
+}
+
+impl Model for SearchResults {
+    ghost use Rattle.shop_model.specs.SearchAsked.{SearchAsked, IsSearchAsked};
+
+    ghost Value = { SearchAsked };
+
+    ghost use Rattle.shop_model.specs.SearchResultsView.{asked_of};
+
+    ghost view = { asked_of };
+
+    ghost invariant = { λ i. IsSearchAsked (asked_of i) };
 }
 
 /// What a request for the shopping cart asks for.

@@ -1,3 +1,4 @@
 pub mod Finished
 pub mod Plain
 pub mod Splices
+mod Phrases

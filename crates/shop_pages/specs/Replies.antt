@@ -1,5 +1,6 @@
 -- The bytes of replies (RFC 9112).
-use Rattle.std.specs.Prelude.{◌≡◌, ◌==◌, ℕ, ◌+◌, ◌≤◌, List, [], ◌++◌, length, codes, decimal, if◌then◌else◌}
+use Rattle.std.specs.Prelude.{◌≡◌, ◌==◌, ℕ, ◌+◌, ◌≤◌, List, [], ◌++◌, length, codes, decimal, unwrap_or, if◌then◌else◌}
+use Rattle.http.specs.StatusCode.{reason_phrase}
 use Rattle.shop_model.specs.declared.page.Page.{Page}
 use Rattle.shop_model.specs.PageText.{page_text}
 use Rattle.shop_history.specs.declared.acts.Ids.{Ids}
@@ -9,14 +10,14 @@ use Rattle.shop_history.specs.Drafts.{filled}
 use Rattle.shop_pages.specs.declared.reply.Form.{Form}
 use Rattle.shop_pages.specs.Templates.{TemplateState, template_text, template_room}
 
--- the reason phrase of a status, which is the title of a refusal's page
-abbrev pub phrase_of : ℕ → List ℕ → List ℕ
-phrase_of status title = if status == 200 then codes "OK" else title
+-- the reason phrase of a status; none where the status has no name
+unfoldable pub phrase_of : ℕ → List ℕ
+phrase_of status = unwrap_or (reason_phrase status) []
 
--- the first line of a reply with this status, around a page with this title
-unfoldable pub status_line : ℕ → List ℕ → List ℕ
-status_line status title =
-    codes "HTTP/1.1 " ++ decimal status ++ codes " " ++ phrase_of status title ++ codes "\r\n"
+-- the first line of a reply with this status
+unfoldable pub status_line : ℕ → List ℕ
+status_line status =
+    codes "HTTP/1.1 " ++ decimal status ++ codes " " ++ phrase_of status ++ codes "\r\n"
 
 -- the methods that are served, where another one was asked for
 abbrev pub allow_line : ℕ → List ℕ
@@ -27,9 +28,9 @@ abbrev pub close_line : Form → List ℕ
 close_line form = if form.close then codes "Connection: close\r\n" else []
 
 -- the lines of a reply around a page of so many bytes
-unfoldable pub reply_head : ℕ → List ℕ → ℕ → Form → List ℕ
-reply_head status title len form =
-    status_line status title ++ codes "Content-Type: text/html; charset=utf-8\r\nContent-Length: "
+unfoldable pub reply_head : ℕ → ℕ → Form → List ℕ
+reply_head status len form =
+    status_line status ++ codes "Content-Type: text/html; charset=utf-8\r\nContent-Length: "
     ++ decimal len ++ codes "\r\n" ++ allow_line status ++ close_line form ++ codes "\r\n"
 
 -- the page's text, unless it is left out
@@ -39,16 +40,11 @@ body_of text form = if form.bodiless then [] else text
 -- the reply with a page
 unfoldable pub reply : Page → Form → List ℕ
 reply page form =
-    reply_head page.status page.title (length (page_text page)) form ++ body_of (page_text page) form
+    reply_head page.status (length (page_text page)) form ++ body_of (page_text page) form
 
--- the most bytes of a head beside its phrase
+-- the most bytes of a head; the longest phrase has 31
 abbrev pub head_room : ℕ
-head_room = 160
-
--- the title of a draft's page
-abbrev pub title_of : Draft → List ℕ
-title_of (Fixed page) = page.title
-title_of (Waiting page) = page.title
+head_room = 191
 
 -- the status of a draft's page
 abbrev pub status_of : Draft → ℕ
@@ -64,4 +60,4 @@ pub record ReplyState : Type 0 where
 -- whatever is drawn for the draft, its page stands in the template, and there is room for the reply
 pub record IsReserved (s : ReplyState) (draft : Draft) : Type 0 where
   pub page : (stamp : ℕ) (ids : Ids) → template_text stamp ids s.template ≡ page_text (filled stamp ids draft)
-  pub fits : head_room + length (title_of draft) + template_room s.template ≤ s.room
+  pub fits : head_room + template_room s.template ≤ s.room

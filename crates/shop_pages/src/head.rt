@@ -4,16 +4,23 @@ ghost use Rattle.shop_pages.specs.Replies as spec;
 
 use crate::out::Out;
 use crate::reply::Form;
+use http::StatusCode;
 
-/// The most bytes of a head beside its phrase.
-pub(crate) const HEAD_ROOM: usize = 160;
+/// The most bytes of a head.
+pub(crate) const HEAD_ROOM: usize = 191;
 
 /// The reason phrase of a status.
-fn phrase_of(status: u16, title: &[u8]) -> &[u8]
-    ensures value { result.now ≡ spec.phrase_of status title.now }
-    ensures most { length result.now ≤ 2 + length title.now }
+fn phrase_of(status: u16) -> &'static [u8]
+    ensures value { result.now ≡ spec.phrase_of status }
+    ensures most { length result.now ≤ 31 }
 {
-    if status == 200 { b"OK" } else { title }
+    match StatusCode::from_u16(status) {
+        Ok(code) => match code.canonical_reason() {
+            Some(phrase) => phrase.as_bytes(),
+            None => b"",
+        },
+        Err(_) => b"",
+    }
 }
 
 /// The methods that are served, where another one was asked for.
@@ -42,27 +49,26 @@ fn close_line(form: Form) -> &'static [u8]
 
 /// Adds the first line of a reply.
 #[tactic(auto, unfolding(crate::specs::Replies::status_line))]
-fn put_status_line(out: &mut Out, status: u16, title: &[u8])
-    requires { 40 + length title.now ≤ out.old.room }
-    ensures bytes { out.new.bytes ≡ out.old.bytes ++ spec.status_line status title.now }
-    ensures room { out.old.room ≤ out.new.room + (40 + length title.now) }
+fn put_status_line(out: &mut Out, status: u16)
+    requires { 71 ≤ out.old.room }
+    ensures bytes { out.new.bytes ≡ out.old.bytes ++ spec.status_line status }
+    ensures room { out.old.room ≤ out.new.room + 71 }
 {
     out.put(b"HTTP/1.1 ");
     out.put_decimal(u64::from(status));
     out.put(b" ");
-    out.put(phrase_of(status, title));
+    out.put(phrase_of(status));
     out.put(b"\r\n");
 }
 
-/// Adds the head of a reply with this status and title, around a page of so many bytes; takes no
-/// memory.
+/// Adds the head of a reply with this status, around a page of so many bytes; takes no memory.
 #[tactic(auto, unfolding(crate::specs::Replies::reply_head))]
-pub(crate) fn put_head(out: &mut Out, status: u16, title: &[u8], len: u64, form: Form)
-    requires { spec.head_room + length title.now ≤ out.old.room }
-    ensures bytes { out.new.bytes ≡ out.old.bytes ++ spec.reply_head status title.now len form }
-    ensures room { out.old.room ≤ out.new.room + (spec.head_room + length title.now) }
+pub(crate) fn put_head(out: &mut Out, status: u16, len: u64, form: Form)
+    requires { spec.head_room ≤ out.old.room }
+    ensures bytes { out.new.bytes ≡ out.old.bytes ++ spec.reply_head status len form }
+    ensures room { out.old.room ≤ out.new.room + spec.head_room }
 {
-    put_status_line(out, status, title);
+    put_status_line(out, status);
     out.put(b"Content-Type: text/html; charset=utf-8\r\nContent-Length: ");
     out.put_decimal(len);
     out.put(b"\r\n");

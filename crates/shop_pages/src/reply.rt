@@ -1,4 +1,4 @@
-ghost use Rattle.std.specs.Prelude.{◌≡◌, ◌≤◌, ◌+◌, ◌++◌, length, IfSome};
+ghost use Rattle.std.specs.Prelude.{◌≡◌, ◌≤◌, ◌+◌, ◌++◌, IfSome};
 ghost use Rattle.shop_pages.specs.Templates.{template_room, template_text};
 ghost use Rattle.shop_pages.specs.Replies as spec;
 
@@ -23,16 +23,6 @@ pub struct Form {
     pub bodiless: bool,
 }
 
-/// The title of a draft's page.
-fn title_of(draft: &Draft) -> &[u8]
-    ensures { result.now ≡ spec.title_of draft.now }
-{
-    match draft {
-        Draft::Fixed(page) => page.title.bytes(),
-        Draft::Waiting(page) => page.title.bytes(),
-    }
-}
-
 /// The status of a draft's page.
 fn status_of(draft: &Draft) -> u16
     ensures { result ≡ spec.status_of draft.now }
@@ -43,13 +33,11 @@ fn status_of(draft: &Draft) -> u16
     }
 }
 
-/// The most bytes of the reply to a draft; none where no memory could hold them.
-fn reply_room(template: &Template, draft: &Draft) -> Option<usize>
-    ensures { IfSome result (λ room.
-        room ≡ spec.head_room + length (spec.title_of draft.now) + template_room template.now) }
+/// The most bytes of the reply with a template's page; none where no memory could hold them.
+fn reply_room(template: &Template) -> Option<usize>
+    ensures { IfSome result (λ room. room ≡ spec.head_room + template_room template.now) }
 {
-    let title = title_of(draft).len();
-    template.room()?.checked_add(title)?.checked_add(HEAD_ROOM)
+    template.room()?.checked_add(HEAD_ROOM)
 }
 
 /// Adds the page, unless it is left out; takes no memory.
@@ -103,7 +91,7 @@ impl Reply {
         self.out.clear();
         self.template.clear();
         push_draft(&mut self.template, draft)?;
-        let Some(room) = reply_room(&self.template, draft) else {
+        let Some(room) = reply_room(&self.template) else {
             return Err(Memory);
         };
         self.out.reserve(room)
@@ -116,13 +104,7 @@ impl Reply {
     {
         self.out.clear();
         let len = self.template.len(drawn);
-        put_head(
-            &mut self.out,
-            status_of(draft),
-            title_of(draft),
-            len as u64,
-            form,
-        );
+        put_head(&mut self.out, status_of(draft), len as u64, form);
         put_body(&mut self.out, &self.template, drawn, form);
     }
 

@@ -204,7 +204,7 @@ const NOT_ALLOWED: &str = "HTTP/1.1 405 Method Not Allowed\r\n\
     Allow: GET, POST\r\nConnection: close\r\n\r\n\
     <html><head><title>Method Not Allowed</title></head><body>\n<p>No.</p>\n</body></html>\n";
 
-const BODILESS: &str = "HTTP/1.1 404 Gone &c.\r\n\
+const BODILESS: &str = "HTTP/1.1 404 Not Found\r\n\
     Content-Type: text/html; charset=utf-8\r\nContent-Length: 79\r\n\r\n";
 
 #[test]

@@ -1,5 +1,0 @@
-//! Tests that settle attempts over the desk's tables.
-#![tactic(auto)]
-
-#[cfg(test)]
-mod tests;

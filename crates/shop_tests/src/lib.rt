@@ -1,0 +1,15 @@
+//! Tests that cross crates: points and reports of connections, ends, limits, and settles over a book.
+#![tactic(auto)]
+
+#[cfg(test)]
+mod ends;
+#[cfg(test)]
+mod limits;
+#[cfg(test)]
+mod points;
+#[cfg(test)]
+mod settles;
+#[cfg(test)]
+mod streams;
+#[cfg(test)]
+mod workers;
