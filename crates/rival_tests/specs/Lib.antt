@@ -1,4 +1,2 @@
-pub mod Guests
-pub mod GuestView
 pub mod Rivals
 pub mod RivalledView

@@ -3,17 +3,17 @@ use Rattle.std.specs.Prelude.{◌≡◌, ◌≢◌, ℕ, length, None, IsSome}
 use Rattle.shop_model.specs.Scales.{ScaleRow}
 use Rattle.shop_history.specs.Logs.{entries_of}
 use Rattle.shop_attempt.specs.Seats.{Seat}
-use Rattle.rival_tests.specs.Guests.{GuestValue}
+use Rattle.shop_book.specs.Solos.{SoloValue}
 
 -- the seat of the caller, and how many changes of the rival are to come
 pub record RivalledValue : Type 0 where
-  pub guest : GuestValue
+  pub solo : SoloValue
   pub changes : ℕ
 
 -- caller 1 has the seat, and the scale is that of the opening tables
-pub record IsFitting (guest : GuestValue) (scale : ScaleRow) : Type 0 where
-  pub caller : guest.visitor.caller ≡ 1
-  pub scaled : scale.items ≡ length guest.book.opening.tables.items
+pub record IsFitting (solo : SoloValue) (scale : ScaleRow) : Type 0 where
+  pub caller : solo.visitor.caller ≡ 1
+  pub scaled : scale.items ≡ length solo.book.opening.tables.items
 
 -- the same seat, of one caller among others
 abbrev pub among : Seat → Seat

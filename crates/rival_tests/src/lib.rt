@@ -2,10 +2,8 @@
 //! and a test of what the first one is then told.
 #![tactic(auto)]
 
-mod guest;
 mod rivalled;
 #[cfg(test)]
 mod tests;
 
-pub use guest::{Guest, Visitor};
 pub use rivalled::Rivalled;

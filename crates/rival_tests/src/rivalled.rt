@@ -1,15 +1,13 @@
 ghost use Rattle.std.specs.Prelude.{◌≡◌, ◌≤◌, length};
 ghost use Rattle.shop_model.specs.Limits.{stamp_limit};
 ghost use Rattle.shop_attempt.specs.Faithful.{Faithful};
-ghost use Rattle.shop_attempt.specs.Marks.{StillMarked};
-ghost use Rattle.shop_attempt.specs.Seats.{Follows, Looked};
-ghost use Rattle.shop_book.specs.Solos.{IsKeptMark};
-ghost use Rattle.rival_tests.specs.Guests.{seat_of};
+ghost use Rattle.shop_attempt.specs.Marks.{AreMarks, KeepsMarks};
+ghost use Rattle.shop_attempt.specs.Seats.{Follows, IsSeat, Looked};
+ghost use Rattle.shop_book.specs.Solos.{seated, seat_of, marks_of};
 ghost use Rattle.rival_tests.specs.Rivals.{IsFitting, LeavesOthers, among};
 
-use crate::{Guest, Visitor};
 use shop_attempt::{Attempt, Settle, Store};
-use shop_book::Book;
+use shop_book::{Book, Solo, Visitor};
 use shop_browse::{Ask, Attempted};
 use shop_history::{Key, Row};
 use shop_model::{CartRequest, IdsAsked, Scale};
@@ -25,7 +23,7 @@ use std::sync::Arc;
 #[derive(Drop)]
 pub struct Rivalled {
     alloc: Global,
-    guest: Guest,
+    solo: Solo,
     index: Arc<Index, Global>,
     scale: Scale,
     changes: u32,
@@ -40,7 +38,7 @@ impl Model for Rivalled {
 
     ghost view = { rivalled_of };
 
-    ghost invariant = { λ i. IsFitting i.guest i.scale };
+    ghost invariant = { λ i. IsFitting i.solo i.scale };
 }
 
 impl Rivalled {
@@ -53,11 +51,13 @@ impl Rivalled {
         changes: u32,
     ) -> Rivalled
         requires { scale.items ≡ length book.opening.tables.items }
-        ensures { result ≡ record { guest = record { book = book; visitor = record { caller = 1; calls = 0; settles = 0; greatest = 0 } }; changes = changes } }
+        ensures value { result ≡ record { solo = seated book 1; changes = changes } }
+        ensures valid { IsSeat (among (seat_of result.solo)) }
+        ensures marked { AreMarks (marks_of result.solo) (seat_of result.solo).seen }
     {
         Rivalled {
             alloc,
-            guest: Guest::new(book, 1),
+            solo: Solo::new(book),
             index,
             scale,
             changes,
@@ -67,8 +67,8 @@ impl Rivalled {
     /// Lets caller 2 make a change, where any are to come.
     fn let_rival(&mut self, moment: u64)
         requires { moment ≤ stamp_limit }
-        ensures looked { Looked (among (seat_of self.old.guest)) (among (seat_of self.new.guest)) }
-        ensures marks { StillMarked (λ front moment. IsKeptMark self.old.guest.book front moment) (λ front moment. IsKeptMark self.new.guest.book front moment) }
+        ensures looked { Looked (among (seat_of self.old.solo)) (among (seat_of self.new.solo)) }
+        ensures marks { KeepsMarks (marks_of self.old.solo) (marks_of self.new.solo) (among (seat_of self.old.solo)) (among (seat_of self.new.solo)) }
     {
         if self.changes > 0 {
             let ask = Ask {
@@ -77,40 +77,39 @@ impl Rivalled {
                 moment,
                 draw: 0,
             };
-            self.changes -= rival(self.alloc, &mut self.guest, &ask);
+            self.changes -= rival(self.alloc, &mut self.solo, &ask);
         }
     }
 }
 
 impl Store for Rivalled {
-    ghost use Rattle.shop_book.specs.Solos.{IsKeptMark};
-    ghost use Rattle.rival_tests.specs.Guests.{seat_of};
+    ghost use Rattle.shop_book.specs.Solos.{seat_of, marks_of};
     ghost use Rattle.rival_tests.specs.Rivals.{among};
 
-    ghost seat = { λ r. among (seat_of r.guest) };
+    ghost seat = { λ r. among (seat_of r.solo) };
 
-    ghost marked = { λ r front moment. IsKeptMark r.guest.book front moment };
+    ghost marked = { λ r. marks_of r.solo };
 
     fn read(&mut self, key: &Key) -> Result<(Row, u64), Memory> {
-        self.guest.read(key)
+        self.solo.read(key)
     }
 
     fn settle(&mut self, attempt: Attempt) -> Settle {
         self.let_rival(attempt.moment);
-        self.guest.settle(attempt)
+        self.solo.settle(attempt)
     }
 }
 
 /// Caller 2's try at its change, at the seat of caller 1; how many changes it made.
-fn rival(alloc: Global, guest: &mut Guest, ask: &Ask) -> u32
-    requires caller { guest.old.visitor.caller ≡ 1 }
-    requires scale { ask.now.scale.now.items ≡ length guest.old.book.opening.tables.items }
+fn rival(alloc: Global, solo: &mut Solo, ask: &Ask) -> u32
+    requires caller { solo.old.visitor.caller ≡ 1 }
+    requires scale { ask.now.scale.now.items ≡ length solo.old.book.opening.tables.items }
     requires moment { ask.now.moment ≤ stamp_limit }
     ensures one { result ≤ 1 }
-    ensures visitor { guest.new.visitor ≡ guest.old.visitor }
-    ensures opening { guest.new.book.opening.tables ≡ guest.old.book.opening.tables }
-    ensures looked { Looked (among (seat_of guest.old)) (among (seat_of guest.new)) }
-    ensures marks { StillMarked (λ front moment. IsKeptMark guest.old.book front moment) (λ front moment. IsKeptMark guest.new.book front moment) }
+    ensures visitor { solo.new.visitor ≡ solo.old.visitor }
+    ensures opening { solo.new.book.opening.tables ≡ solo.old.book.opening.tables }
+    ensures looked { Looked (among (seat_of solo.old)) (among (seat_of solo.new)) }
+    ensures marks { KeepsMarks (marks_of solo.old) (marks_of solo.new) (among (seat_of solo.old)) (among (seat_of solo.new)) }
 {
     let visitor = Visitor {
         caller: 2,
@@ -118,9 +117,9 @@ fn rival(alloc: Global, guest: &mut Guest, ask: &Ask) -> u32
         settles: 0,
         greatest: 0,
     };
-    let was = guest.turn(visitor);
-    let added = add_unit(alloc, guest, ask);
-    guest.turn(was);
+    let was = solo.turn(visitor);
+    let added = add_unit(alloc, solo, ask);
+    solo.turn(was);
     u32::from(added)
 }
 
@@ -130,7 +129,7 @@ fn add_unit<St: Store>(alloc: Global, store: &mut St, ask: &Ask) -> bool
     requires moment { ask.now.moment ≤ stamp_limit }
     ensures follows { Follows (St.seat store.old) (St.seat store.new) }
     ensures others { LeavesOthers (St.seat store.old) (St.seat store.new) }
-    ensures marks { StillMarked (St.marked store.old) (St.marked store.new) }
+    ensures marks { KeepsMarks (St.marked store.old) (St.marked store.new) (St.seat store.old) (St.seat store.new) }
 {
     let ids = IdsAsked {
         c: None,
@@ -157,7 +156,7 @@ fn settles<St: Store>(store: &mut St, attempt: Attempt) -> bool
     requires moment { attempt.moment ≤ stamp_limit }
     ensures follows { Follows (St.seat store.old) (St.seat store.new) }
     ensures others { LeavesOthers (St.seat store.old) (St.seat store.new) }
-    ensures marks { StillMarked (St.marked store.old) (St.marked store.new) }
+    ensures marks { KeepsMarks (St.marked store.old) (St.marked store.new) (St.seat store.old) (St.seat store.new) }
 {
     match store.settle(attempt) {
         Settle::Done(_) => true,

@@ -4,7 +4,6 @@ use Rattle.std.proofs.lemmas.Bool.{cases_eq, eq-eqb, ne_eqb, cond-true, cond-fal
 use Rattle.std.proofs.lemmas.List.Elements.{All-weaker, All-push}
 use Rattle.shop_log.specs.Histories.Legal.{push}
 use Rattle.shop_model.specs.declared.tables.Tables.{Tables}
-use Rattle.shop_model.specs.Limits.{stamp_limit}
 use Rattle.shop_history.specs.declared.acts.Entry.{Entry}
 use Rattle.shop_history.specs.declared.keys.Key.{Key}
 use Rattle.shop_history.specs.Acts.{play, IsInForm}
@@ -16,7 +15,6 @@ use Rattle.shop_history.proofs.MayChange.{frame}
 use Rattle.shop_history.proofs.Raising.{RaisedFor, versions_after}
 use Rattle.shop_history.proofs.Rows.{tables_push}
 use Rattle.shop_attempt.specs.declared.attempts.Write.{Write}
-use Rattle.shop_attempt.specs.Faithful.{Makes}
 use Rattle.shop_attempt.specs.Writes.{written}
 use Rattle.shop_book.specs.declared.counts.Counts.{Counts}
 use Rattle.shop_book.specs.declared.rows.Rows.{Rows}
@@ -26,6 +24,7 @@ use Rattle.shop_book.specs.Counted.{count_in, with_count}
 use Rattle.shop_book.specs.Keeping.{IsKept}
 use Rattle.shop_book.specs.Puts.{IdsFit, AreReady, named, count_after}
 use Rattle.shop_book.specs.RowsNow.{tables_with, HasRoom}
+use Rattle.shop_book.specs.Settles.{IsNext}
 use Rattle.shop_book.specs.Stored.{stored, HasPlaces, MorePlaces}
 use Rattle.shop_book.proofs.Callers.{entries_mine, entries_theirs}
 use Rattle.shop_book.proofs.Puts.{count_fits, are_ready, named_written}
@@ -33,14 +32,6 @@ use Rattle.shop_book.proofs.Puts.{count_fits, are_ready, named_written}
 -- the book after an entry
 abbrev pub with_entry : BookValue → Entry → BookValue
 with_entry b entry = record { opening = b.opening; log = b.log ++ entry ∷ []; latest = entry.stamp }
-
--- an entry that a book with room for it may take: it is late enough, has its caller's next number, and its writes make what its act does
-pub record IsNext (b : BookValue) (entry : Entry) (writes : List Write) : Type 0 where
-  pub left : length b.log < b.opening.limit
-  pub late : b.latest ≤ entry.stamp
-  pub bound : entry.stamp ≤ stamp_limit
-  pub number : entry.number ≡ length (entries_of entry.caller b.log) + 1
-  pub makes : Makes (tables_of b) entry.stamp entry.act writes
 
 module _ (b : BookValue) (is_book : IsBook b) (entry : Entry) (writes : List Write) (next : IsNext b entry writes) where
   good_now : IsGood (tables_of b) (suc (b.opening.limit - length b.log))
@@ -161,14 +152,3 @@ kept_roomy b rows roomy versions wide counts counted kept same same_versions mor
       versions_are = λ key. same_versions key ∙ kept.versions_are key;
       counts_are = λ caller. same_counts caller ∙ kept.counts_are caller;
     }
-
--- an entry that may come next, where the book is seen by its value
-pub next_of : (b now : BookValue) → b ≡ now → (entry : Entry) (writes : List Write) → length b.log < b.opening.limit → now.latest ≤ entry.stamp → entry.stamp ≤ stamp_limit
-    → entry.number ≡ length (entries_of entry.caller now.log) + 1 → Makes (tables_of now) entry.stamp entry.act writes → IsNext b entry writes
-next_of b now is entry writes left late bound number makes = record {
-  left = left;
-  late = subst (λ (v : BookValue). v.latest ≤ entry.stamp) (sym is) late;
-  bound = bound;
-  number = subst (λ (v : BookValue). entry.number ≡ length (entries_of entry.caller v.log) + 1) (sym is) number;
-  makes = subst (λ (v : BookValue). Makes (tables_of v) entry.stamp entry.act writes) (sym is) makes;
-}

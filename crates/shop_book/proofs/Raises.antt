@@ -8,7 +8,12 @@ use Rattle.shop_history.specs.contracts.keys.Key.{the_field}
 use Rattle.shop_history.specs.Keys.{row_of}
 use Rattle.shop_book.specs.declared.watching.Watched.{Watched}
 use Rattle.shop_history.proofs.Raising.{RaisedFor}
-use Rattle.shop_book.specs.Watching.{keys_of}
+use Rattle.shop_history.specs.Same.{same}
+use Rattle.shop_book.specs.declared.rows.Rows.{Rows}
+use Rattle.shop_book.specs.declared.versions.Versions.{Versions}
+use Rattle.shop_book.specs.RowsNow.{tables_with}
+use Rattle.shop_book.specs.Stored.{stored}
+use Rattle.shop_book.specs.Watching.{keys_of, RaisesOne}
 use Rattle.shop_log.proofs.Codes.{decided_by}
 
 key_cases : (one other : Key) → (one ≡ other) ⊎ (one ≢ other)
@@ -25,33 +30,34 @@ raised_from before now number keys old began new same raised = record {
   all = raised.all;
 }
 
-module _ (before now : Tables) (number : ℕ) (keys : List Key) (old new : Key → ℕ) (raised : RaisedFor before now number keys old new) (key : Key) where
-  -- a key that shows what it showed
-  pub raised_same : (next : Key → ℕ) → ((other : Key) → next other ≡ new other) → row_of now key ≡ row_of before key → RaisedFor before now number (keys ++ key ∷ []) old next
-  raised_same next stays same = record {
-    each = λ other.
-        ⊎_elim (λ (was : new other ≡ old other). inl (stays other ∙ was)) (λ (differs : (row_of now other ≢ row_of before other) × (new other ≡ number)). inr (differs.0, stays other ∙ differs.1)) (raised.each other);
-    all = λ other has differs.
-        ⊎_elim (λ (before_it : Contains keys other). stays other ∙ raised.all other before_it differs)
-        (λ (is : key ≡ other). absurd (differs (subst (λ (k : Key). row_of now k ≡ row_of before k) is same))) (Contains-push_cases keys key other has);
-  }
+-- one watched key more
+module _ (before t : Tables) (rows : Rows) (number : ℕ) (keys : List Key) (old : Key → ℕ) (mid next : Versions) (kept : Watched) (was : kept.row ≡ row_of before kept.key)
+    (one : RaisesOne rows number kept mid next) (raised : RaisedFor before (tables_with t rows) number keys old (stored mid)) where
+  abbrev Differs : Key → Type 0
+  Differs key = row_of (tables_with t rows) key ≢ row_of before key
 
-  -- and one that does not, and is raised
-  pub raised_here : (next : Key → ℕ) → row_of now key ≢ row_of before key → next key ≡ number → ((other : Key) → other ≢ key → next other ≡ new other) → RaisedFor before now number (keys ++ key ∷ []) old next
-  raised_here next differs here others =
-      let at_key : (other : Key) → other ≡ key → next other ≡ number = λ other is. ap next is ∙ here in
-      record {
-        each = λ other.
-            ⊎_elim (λ (is : other ≡ key). inr (subst (λ (k : Key). row_of now k ≢ row_of before k) (sym is) differs, at_key other is))
-            (λ (apart : other ≢ key).
-            ⊎_elim (λ (was : new other ≡ old other). inl (others other apart ∙ was)) (λ (was : (row_of now other ≢ row_of before other) × (new other ≡ number)). inr (was.0, others other apart ∙ was.1)) (raised.each other))
-            (key_cases other key);
-        all = λ other has changed.
-            ⊎_elim (λ (is : other ≡ key). at_key other is)
-            (λ (apart : other ≢ key).
-            ⊎_elim (λ (before_it : Contains keys other). others other apart ∙ raised.all other before_it changed) (λ (is : key ≡ other). absurd (apart (sym is))) (Contains-push_cases keys key other has))
-            (key_cases other key);
-      }
+  -- a key whose version stayed
+  carried : (key : Key) → stored next key ≡ stored mid key → (stored next key ≡ old key) ⊎ (Differs key × (stored next key ≡ number))
+  carried key stays =
+      ⊎_elim (λ (same : stored mid key ≡ old key). inl (stays ∙ same)) (λ (rose : Differs key × (stored mid key ≡ number)). inr (rose.0, stays ∙ rose.1)) (raised.each key)
+
+  -- the key itself
+  itself : (key : Key) → key ≡ kept.key → (stored next key ≡ old key) ⊎ (Differs key × (stored next key ≡ number))
+  itself key is =
+      elim (same (row_of (tables_with t rows) kept.key) kept.row) as (λ _. (stored next key ≡ old key) ⊎ (Differs key × (stored next key ≡ number))) [
+        | yes shows ↦ carried key (ap (stored next) is ∙ one.same t shows ∙ sym (ap (stored mid) is))
+        | no differs ↦ inr (subst Differs (sym is) (λ equal. differs (equal ∙ sym was)), ap (stored next) is ∙ one.changed t differs)
+      ]
+
+  pub raised_more : RaisedFor before (tables_with t rows) number (keys ++ kept.key ∷ []) old (stored next)
+  raised_more = record {
+    each = λ key. ⊎_elim (itself key) (λ (apart : key ≢ kept.key). carried key (one.others key apart)) (key_cases key kept.key);
+    all = λ key has differs.
+        ⊎_elim (λ (is : key ≡ kept.key). ap (stored next) is ∙ one.changed t (λ shows. differs (ap (row_of (tables_with t rows)) is ∙ shows ∙ was ∙ sym (ap (row_of before) is))))
+        (λ (apart : key ≢ kept.key).
+        ⊎_elim (λ (seen : Contains keys key). one.others key apart ∙ raised.all key seen differs) (λ (is : kept.key ≡ key). absurd (apart (sym is))) (Contains-push_cases keys kept.key key has))
+        (key_cases key kept.key);
+  }
 
 -- the keys of one more
 pub keys_more : (watched : List Watched) (i : ℕ) (kept : Watched) → i < length watched → kept ≡ get_or watched i kept → keys_of (take (i + 1) watched) ≡ keys_of (take i watched) ++ kept.key ∷ []

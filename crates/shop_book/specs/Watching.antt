@@ -1,13 +1,15 @@
 -- What is kept of the keys that a change may change, so that only those that it does change get its version.
-use Rattle.std.specs.Prelude.{◌≡◌, ◌≢◌, List, map, All}
+use Rattle.std.specs.Prelude.{◌≡◌, ◌≢◌, ℕ, List, map, All}
 use Rattle.shop_model.specs.declared.tables.Tables.{Tables}
 use Rattle.shop_history.specs.declared.keys.Key as key
 use Rattle.shop_history.specs.declared.keys.Key.{Key}
 use Rattle.shop_history.specs.declared.keys.Row.TheVariants.{Absent}
 use Rattle.shop_history.specs.Keys.{row_of}
+use Rattle.shop_book.specs.declared.rows.Rows.{Rows}
 use Rattle.shop_book.specs.declared.versions.Versions.{Versions}
 use Rattle.shop_book.specs.declared.watching.Watched.{Watched}
-use Rattle.shop_book.specs.Stored.{HasPlace}
+use Rattle.shop_book.specs.RowsNow.{tables_with}
+use Rattle.shop_book.specs.Stored.{stored, HasPlace}
 
 -- the kinds of keys whose rows are compared: acts change carts alone; one that changes another table adds its kind
 abbrev pub IsWatchable : Key → Type 0
@@ -25,3 +27,9 @@ AreOf t watched = All (λ w. w.row ≡ row_of t w.key) watched
 
 abbrev pub keys_of : List Watched → List Key
 keys_of watched = map (λ w. w.key) watched
+
+-- the key of a row kept gets this number, unless it still shows that row; other keys keep their versions
+pub record RaisesOne (rows : Rows) (number : ℕ) (kept : Watched) (old new : Versions) : Type 0 where
+  pub same : (t : Tables) → row_of (tables_with t rows) kept.key ≡ kept.row → stored new kept.key ≡ stored old kept.key
+  pub changed : (t : Tables) → row_of (tables_with t rows) kept.key ≢ kept.row → stored new kept.key ≡ number
+  pub others : (other : Key) → other ≢ kept.key → stored new other ≡ stored old other

@@ -2,12 +2,12 @@ ghost use Rattle.std.specs.Prelude.{◌≡◌, ◌+◌, ◌≤◌, [], length, I
 ghost use Rattle.shop_model.specs.Limits.{stamp_limit};
 ghost use Rattle.shop_history.specs.Keys as keys;
 ghost use Rattle.shop_history.specs.Logs.{version_of, entries_of};
-ghost use Rattle.shop_attempt.specs.Faithful.{Faithful, Makes};
+ghost use Rattle.shop_attempt.specs.Faithful.{Faithful};
 ghost use Rattle.shop_attempt.specs.Reads as reading;
 ghost use Rattle.shop_book.specs.Books.{IsBook, tables_of};
 ghost use Rattle.shop_book.specs.Laws.{IsShortest, IsGoodThroughout};
 ghost use Rattle.shop_book.specs.Openings.{IsOpening};
-ghost use Rattle.shop_book.specs.Settles.{SettledAs, TakenAs};
+ghost use Rattle.shop_book.specs.Settles.{IsNext, SettledAs, TakenAs};
 ghost use Rattle.shop_book.specs.Summaries as spec;
 
 use crate::changes::{change_rows, make_room};
@@ -19,7 +19,7 @@ use crate::versions::Versions;
 use crate::watching::watch;
 use crate::{Opening, Summary};
 use shop_attempt::{Attempt, Conflict, ReadOf, Settle, Write};
-use shop_history::{Act, Drawn, Entry, Ids, Key, Row};
+use shop_history::{Drawn, Entry, Ids, Key, Row};
 use shop_model::{AuthId, Tables};
 use shop_text::{Listed, Memory};
 use std::alloc::Global;
@@ -167,7 +167,17 @@ impl Book {
         let stamp = self.latest.max(moment);
         match (writes, act) {
             (Some(writes), Some(act)) => {
-                self.change(caller, number, stamp, act, writes.into_vec())
+                let size = self.log.len() as u64;
+                if size >= self.opening.limit {
+                    return Settle::Full(size);
+                }
+                let entry = Entry {
+                    caller,
+                    number,
+                    stamp,
+                    act,
+                };
+                self.change(entry, writes.into_vec())
             }
             _ => self.pass(stamp),
         }
@@ -193,29 +203,14 @@ impl Book {
         })
     }
 
-    /// Adds an entry at this stamp, and makes its writes.
-    fn change(
-        &mut self,
-        caller: u32,
-        number: u64,
-        stamp: u64,
-        act: Act,
-        writes: Vec<Write>,
-    ) -> Settle
-        requires number { number ≡ length (entries_of caller self.old.log) + 1 }
-        requires stamp { self.old.latest ≤ stamp }
-        requires bound { stamp ≤ stamp_limit }
-        requires makes { Makes (tables_of self.old) stamp act writes.items }
-        ensures taken { TakenAs self.old self.new caller number stamp (Some act) result }
+    /// Takes an entry, and makes its writes. All that takes memory comes before the first change.
+    fn change(&mut self, entry: Entry, writes: Vec<Write>) -> Settle
+        requires { IsNext self.old entry writes.items }
+        ensures taken { TakenAs self.old self.new entry.caller entry.number entry.stamp (Some entry.act) result }
         ensures kept { IsBook self.new }
     {
-        let size = self.log.len() as u64;
-        if size >= self.opening.limit {
-            return Settle::Full(size);
-        }
-        // All that takes memory comes before the first change.
         let alloc = *self.log.allocator();
-        let Ok(watched) = watch(alloc, &self.rows, &act) else {
+        let Ok(watched) = watch(alloc, &self.rows, &entry.act) else {
             return Settle::Memory;
         };
         let more = writes.len();
@@ -231,26 +226,18 @@ impl Book {
         ) {
             return Settle::Memory;
         }
+        let (stamp, front) = (entry.stamp, self.log.len() as u64 + 1);
         let ids = change_rows(
             &mut self.rows,
             &mut self.versions,
             &watched,
             stamp,
-            size + 1,
+            front,
             writes,
         );
-        self.log.push_reserved(Entry {
-            caller,
-            number,
-            stamp,
-            act,
-        });
-        self.counts.set(caller, number);
+        self.counts.set(entry.caller, entry.number);
+        self.log.push_reserved(entry);
         self.latest = stamp;
-        Settle::Done(Drawn {
-            front: size + 1,
-            stamp,
-            ids,
-        })
+        Settle::Done(Drawn { front, stamp, ids })
     }
 }

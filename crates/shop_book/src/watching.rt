@@ -7,7 +7,7 @@ ghost use Rattle.shop_history.specs.Keys.{shown, row_of};
 ghost use Rattle.shop_history.specs.MayChange.{may_change};
 ghost use Rattle.shop_history.proofs.Raising.{RaisedFor};
 ghost use Rattle.shop_book.specs.RowsNow.{tables_with};
-ghost use Rattle.shop_book.specs.Stored.{stored, HasPlaces};
+ghost use Rattle.shop_book.specs.Stored.{stored, HasPlaces, MorePlaces};
 ghost use Rattle.shop_book.specs.Watching as spec;
 
 use crate::rows::Rows;
@@ -86,6 +86,18 @@ fn shows(rows: &Rows, key: &Key, row: &Row) -> bool
     }
 }
 
+/// Gives a watched key this number as its version, if its row is no longer the one kept.
+fn raise_if_changed(versions: &mut Versions, rows: &Rows, kept: &Watched, number: u64)
+    requires watchable { spec.CanWatch versions.old kept.now }
+    requires places { HasPlaces versions.old rows.now }
+    ensures raised { spec.RaisesOne rows.now number kept.now versions.old versions.new }
+    ensures places { MorePlaces versions.old versions.new }
+{
+    if !shows(rows, &kept.key, &kept.row) {
+        versions.raise(&kept.key, number);
+    }
+}
+
 /// Gives each watched key whose row is no longer the one kept this number as its version.
 pub(crate) fn raise_changed(versions: &mut Versions, rows: &Rows, watched: &[Watched], number: u64)
     requires watchable { All (spec.CanWatch versions.old) watched.now }
@@ -94,8 +106,6 @@ pub(crate) fn raise_changed(versions: &mut Versions, rows: &Rows, watched: &[Wat
     ensures places { HasPlaces versions.new rows.now }
 {
     for kept in watched {
-        if !shows(rows, &kept.key, &kept.row) {
-            versions.raise(&kept.key, number);
-        }
+        raise_if_changed(versions, rows, kept, number);
     }
 }

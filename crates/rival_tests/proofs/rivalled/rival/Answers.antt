@@ -1,9 +1,9 @@
 use Rattle.std.proofs.Common.{ap}
-use Rattle.rival_tests.specs.Guests.{GuestValue}
-use Rattle.rival_tests.proofs.Rivals.{still_between}
+use Rattle.shop_book.specs.Solos.{SoloValue}
+use Rattle.rival_tests.proofs.Rivals.{keeps_between}
 use Rattle.rival_tests.proofs.rivalled.rival.Goals as goal
 
 pub returns-clause-marks : goal.returns-clause-marks
 returns-clause-marks c =
-    still_between c.args.guest.now.book c.turn-was.new.self.book c.add_unit-added.new.store.book c.turn.new.self.book (ap (λ (g : GuestValue). g.book) c.turn-was.ensures.is)
-    (ap (λ (g : GuestValue). g.book) c.turn.ensures.is) c.add_unit-added.ensures.marks
+    keeps_between c.args.solo.now c.turn-was.new.self c.add_unit-added.new.store c.turn.new.self (ap (λ (s : SoloValue). s.book) c.turn-was.ensures.is)
+    (ap (λ (s : SoloValue). s.book) c.turn.ensures.is) c.add_unit-added.ensures.marks.still

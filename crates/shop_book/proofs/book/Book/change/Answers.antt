@@ -1,4 +1,4 @@
-use Rattle.std.proofs.Common.{◌≡◌, ℕ, ◌+◌, ◌<◌, ◌==◌, if◌then◌else◌, List, [], ◌∷◌, ◌++◌, length, refl, sym, ◌∙◌, ap, subst, arith, length-append}
+use Rattle.std.proofs.Common.{◌≡◌, ℕ, ◌+◌, ◌==◌, if◌then◌else◌, List, [], ◌∷◌, ◌++◌, length, refl, sym, ◌∙◌, ap, subst, arith, length-append}
 use Rattle.shop_model.specs.declared.tables.Tables.{Tables}
 use Rattle.shop_attempt.specs.Writes.{written}
 use Rattle.shop_history.specs.declared.acts.Entry.{Entry}
@@ -10,28 +10,25 @@ use Rattle.shop_book.specs.BookView.{book_of}
 use Rattle.shop_book.specs.Keeping.{IsKept}
 use Rattle.shop_book.specs.Puts.{AreReady, named}
 use Rattle.shop_book.specs.RowsNow.{tables_with, HasRoom}
+use Rattle.shop_book.specs.Settles.{IsNext}
 use Rattle.shop_book.specs.Stored as versioned
 use Rattle.shop_book.specs.Stored.{stored}
 use Rattle.shop_book.specs.Watching.{AreOf, keys_of}
-use Rattle.shop_book.proofs.Changing.{IsNext, next_of, cart_fits, names_fit, kept_roomy, ready, kept_after}
+use Rattle.shop_book.proofs.Changing.{cart_fits, names_fit, kept_roomy, ready, kept_after}
 use Rattle.shop_book.proofs.Puts.{named_length}
 use Rattle.shop_book.proofs.book.Book.change.Goals as goal
 
 pub watch-requires : goal.watch-requires
 watch-requires c =
     let b : BookValue = book_of c.self.inside in
-    let entry : Entry = record { caller = c.args.caller; number = c.args.number; stamp = c.args.stamp; act = c.args.act } in
-    let left : length c.self.inside.log.items < c.self.inside.opening.limit = omega (arith, c.if-size-self.false, c.len-size.ensures, c.self.inside.log.ok.0) in
-    let next : IsNext b entry c.args.writes.items = next_of b c.args.self.now c.self.view_is entry c.args.writes.items left c.requires.stamp c.requires.bound c.requires.number c.requires.makes in
-    omega (arith, cart_fits b c.self.invariant.is_book entry c.args.writes.items next, ap (λ (t : Tables). length t.carts) c.self.invariant.rows_are)
+    let next : IsNext b c.args.entry c.args.writes.items = subst (λ (v : BookValue). IsNext v c.args.entry c.args.writes.items) (sym c.self.view_is) c.requires in
+    omega (arith, cart_fits b c.self.invariant.is_book c.args.entry c.args.writes.items next, ap (λ (t : Tables). length t.carts) c.self.invariant.rows_are)
 
 pub named-requires : goal.named-requires
 named-requires c =
     let b : BookValue = book_of c.self.inside in
-    let entry : Entry = record { caller = c.args.caller; number = c.args.number; stamp = c.args.stamp; act = c.args.act } in
-    let left : length c.self.inside.log.items < c.self.inside.opening.limit = omega (arith, c.if-size-self.false, c.len-size.ensures, c.self.inside.log.ok.0) in
-    let next : IsNext b entry c.args.writes.items = next_of b c.args.self.now c.self.view_is entry c.args.writes.items left c.requires.stamp c.requires.bound c.requires.number c.requires.makes in
-    names_fit b c.self.invariant.is_book entry c.args.writes.items next c.in-Ok.ensures.form c.self.inside.rows c.self.inside.versions c.self.inside.counts c.self.invariant
+    let next : IsNext b c.args.entry c.args.writes.items = subst (λ (v : BookValue). IsNext v c.args.entry c.args.writes.items) (sym c.self.view_is) c.requires in
+    names_fit b c.self.invariant.is_book c.args.entry c.args.writes.items next c.in-Ok.ensures.form c.self.inside.rows c.self.inside.versions c.self.inside.counts c.self.invariant
 
 pub invariant_of-self : goal.invariant_of-self
 invariant_of-self c =
@@ -42,11 +39,9 @@ invariant_of-self c =
 pub change_rows-ids-requires-clause-ready : goal.change_rows-ids-requires-clause-ready
 change_rows-ids-requires-clause-ready c =
     let b : BookValue = book_of c.self.inside in
-    let entry : Entry = record { caller = c.args.caller; number = c.args.number; stamp = c.args.stamp; act = c.args.act } in
-    let left : length c.self.inside.log.items < c.self.inside.opening.limit = omega (arith, c.if-size-self.false, c.len-size.ensures, c.self.inside.log.ok.0) in
-    let next : IsNext b entry c.args.writes.items = next_of b c.args.self.now c.self.view_is entry c.args.writes.items left c.requires.stamp c.requires.bound c.requires.number c.requires.makes in
-    subst (AreReady c.make_room.new.rows c.args.stamp) (sym c.in-Ok-named.ensures)
-    (ready b c.self.invariant.is_book entry c.args.writes.items next c.in-Ok.ensures.form c.self.inside.rows c.self.inside.versions c.self.inside.counts c.self.invariant
+    let next : IsNext b c.args.entry c.args.writes.items = subst (λ (v : BookValue). IsNext v c.args.entry c.args.writes.items) (sym c.self.view_is) c.requires in
+    subst (AreReady c.make_room.new.rows c.args.entry.stamp) (sym c.in-Ok-named.ensures)
+    (ready b c.self.invariant.is_book c.args.entry c.args.writes.items next c.in-Ok.ensures.form c.self.inside.rows c.self.inside.versions c.self.inside.counts c.self.invariant
     c.make_room.new.rows (c.make_room.ensures.rows c.self.inside.opening.tables)
     (subst (HasRoom c.make_room.new.rows) (omega (arith, c.len-more.ensures, c.args.writes.ok.0)) c.if-not-make_room.ensures.rows_room))
 
@@ -57,9 +52,9 @@ change_rows-ids-requires-clause-places c =
 
 pub change_rows-ids-requires-clause-room : goal.change_rows-ids-requires-clause-room
 change_rows-ids-requires-clause-room c =
-    let many : c.len-more.result ≡ length c.in-Ok-named.writes.items
-    = omega (arith, c.len-more.ensures, c.args.writes.ok.0, ap length c.in-Ok-named.ensures, named_length (length c.self.inside.rows.customers.items) c.args.writes.items) in
-    subst (versioned.HasRoom c.make_room.new.versions) many c.if-not-make_room.ensures.versions_room
+    subst (versioned.HasRoom c.make_room.new.versions)
+    (omega (arith, c.len-more.ensures, c.args.writes.ok.0, ap length c.in-Ok-named.ensures, named_length (length c.self.inside.rows.customers.items) c.args.writes.items))
+    c.if-not-make_room.ensures.versions_room
 
 pub change_rows-ids-requires-clause-rows : goal.change_rows-ids-requires-clause-rows
 change_rows-ids-requires-clause-rows c = λ t.
@@ -69,36 +64,34 @@ change_rows-ids-requires-clause-rows c = λ t.
 pub invariant_of-self-2 : goal.invariant_of-self-2
 invariant_of-self-2 c =
     let b : BookValue = book_of c.self.inside in
-    let entry : Entry = record { caller = c.args.caller; number = c.args.number; stamp = c.args.stamp; act = c.args.act } in
-    let left : length c.self.inside.log.items < c.self.inside.opening.limit = omega (arith, c.if-size-self.false, c.len-size.ensures, c.self.inside.log.ok.0) in
-    let next : IsNext b entry c.args.writes.items = next_of b c.args.self.now c.self.view_is entry c.args.writes.items left c.requires.stamp c.requires.bound c.requires.number c.requires.makes in
-    let log : c.push_reserved.new.self.items ≡ c.self.inside.log.items ++ entry ∷ [] = c.push_reserved.ensures.items ∙ ap (λ (l : List Entry). l ++ entry ∷ []) c.make_room.ensures.log in
+    let next : IsNext b c.args.entry c.args.writes.items = subst (λ (v : BookValue). IsNext v c.args.entry c.args.writes.items) (sym c.self.view_is) c.requires in
     let t : Tables = c.self.inside.opening.tables in
-    let made : tables_with t c.change_rows-ids.new.rows ≡ written (tables_with t c.make_room.new.rows) c.args.stamp (named (length c.self.inside.rows.customers.items) c.args.writes.items)
-    = c.change_rows-ids.ensures.made t ∙ ap (written (tables_with t c.make_room.new.rows) c.args.stamp) c.in-Ok-named.ensures in
-    let size : c.len-size.result + 1 ≡ length c.self.inside.log.items + 1 = omega (arith, c.len-size.ensures, c.self.inside.log.ok.0) in
-    let rises : RaisedFor (tables_with t c.make_room.new.rows) (tables_with t c.change_rows-ids.new.rows) (length c.self.inside.log.items + 1) (keys_of c.in-Ok.watched.items) (stored c.make_room.new.versions) (stored c.change_rows-ids.new.versions)
-    = subst (λ n. RaisedFor (tables_with t c.make_room.new.rows) (tables_with t c.change_rows-ids.new.rows) n (keys_of c.in-Ok.watched.items) (stored c.make_room.new.versions) (stored c.change_rows-ids.new.versions)) size
-    (subst (λ (watched : List Watched). RaisedFor (tables_with t c.make_room.new.rows) (tables_with t c.change_rows-ids.new.rows) (c.len-size.result + 1) (keys_of watched) (stored c.make_room.new.versions) (stored c.change_rows-ids.new.versions)) c.deref.ensures.value (c.change_rows-ids.ensures.raised t)) in
-    subst (λ (l : List Entry). IsKept (record { opening = c.self.inside.opening; log = l; latest = c.args.stamp }) c.change_rows-ids.new.rows c.change_rows-ids.new.versions c.set.new.self) (sym log)
-    (kept_after b c.self.invariant.is_book entry c.args.writes.items next c.in-Ok.ensures.form c.self.inside.rows c.self.inside.versions c.self.inside.counts c.self.invariant
+    let later : Tables = tables_with t c.change_rows-ids.new.rows in
+    let log : c.push_reserved.new.self.items ≡ c.self.inside.log.items ++ c.args.entry ∷ [] = c.push_reserved.ensures.items ∙ ap (λ (l : List Entry). l ++ c.args.entry ∷ []) c.make_room.ensures.log in
+    let made : later ≡ written (tables_with t c.make_room.new.rows) c.args.entry.stamp (named (length c.self.inside.rows.customers.items) c.args.writes.items)
+    = c.change_rows-ids.ensures.made t ∙ ap (written (tables_with t c.make_room.new.rows) c.args.entry.stamp) c.in-Ok-named.ensures in
+    let size : c.len.result + 1 ≡ length c.self.inside.log.items + 1 = omega (arith, c.len.ensures, c.make_room.new.log.ok.0, ap length c.make_room.ensures.log) in
+    let rises : RaisedFor (tables_with t c.make_room.new.rows) later (length c.self.inside.log.items + 1) (keys_of c.in-Ok.watched.items) (stored c.make_room.new.versions) (stored c.change_rows-ids.new.versions)
+    = subst (λ n. RaisedFor (tables_with t c.make_room.new.rows) later n (keys_of c.in-Ok.watched.items) (stored c.make_room.new.versions) (stored c.change_rows-ids.new.versions)) size
+    (subst (λ (watched : List Watched). RaisedFor (tables_with t c.make_room.new.rows) later (c.len.result + 1) (keys_of watched) (stored c.make_room.new.versions) (stored c.change_rows-ids.new.versions)) c.deref.ensures.value (c.change_rows-ids.ensures.raised t)) in
+    subst (λ (l : List Entry). IsKept (record { opening = c.self.inside.opening; log = l; latest = c.args.entry.stamp }) c.change_rows-ids.new.rows c.change_rows-ids.new.versions c.set.new.self) (sym log)
+    (kept_after b c.self.invariant.is_book c.args.entry c.args.writes.items next c.in-Ok.ensures.form c.self.inside.rows c.self.inside.versions c.self.inside.counts c.self.invariant
     c.make_room.new.rows (c.make_room.ensures.rows t) c.change_rows-ids.new.rows c.make_room.new.versions c.change_rows-ids.new.versions c.set.new.self made
     (keys_of c.in-Ok.watched.items) (c.in-Ok.ensures.keys t) c.change_rows-ids.ensures.places c.make_room.ensures.versions rises
-    (λ caller. c.set.ensures caller ∙ ap (λ (count : ℕ). if c.args.caller == caller then c.args.number else count) (c.make_room.ensures.counts caller)))
+    (λ caller. c.set.ensures caller ∙ ap (λ (count : ℕ). if c.args.entry.caller == caller then c.args.entry.number else count) (c.make_room.ensures.counts caller)))
 
 pub returns-clause-taken : goal.returns-clause-taken
 returns-clause-taken c =
     let b : BookValue = book_of c.self.inside in
+    let next : IsNext b c.args.entry c.args.writes.items = subst (λ (v : BookValue). IsNext v c.args.entry c.args.writes.items) (sym c.self.view_is) c.requires in
     let t : Tables = c.self.inside.opening.tables in
-    let entry : Entry = record { caller = c.args.caller; number = c.args.number; stamp = c.args.stamp; act = c.args.act } in
-    let left : length c.self.inside.log.items < c.self.inside.opening.limit = omega (arith, c.if-size-self.false, c.len-size.ensures, c.self.inside.log.ok.0) in
-    let log : c.push_reserved.new.self.items ≡ c.self.inside.log.items ++ entry ∷ [] = c.push_reserved.ensures.items ∙ ap (λ (l : List Entry). l ++ entry ∷ []) c.make_room.ensures.log in
+    let log : c.push_reserved.new.self.items ≡ c.self.inside.log.items ++ c.args.entry ∷ [] = c.push_reserved.ensures.items ∙ ap (λ (l : List Entry). l ++ c.args.entry ∷ []) c.make_room.ensures.log in
     rw (← c.self.view_is)
     (record {
-      room = λ some. left;
+      room = λ some. next.left;
       stamp_is = refl;
-      book = ap (λ (l : List Entry). record { opening = c.self.inside.opening; log = l; latest = c.args.stamp }) log;
-      front = omega (arith, c.len-size.ensures, c.self.inside.log.ok.0, ap length log, length-append c.self.inside.log.items (entry ∷ []));
+      book = ap (λ (l : List Entry). record { opening = c.self.inside.opening; log = l; latest = c.args.entry.stamp }) log;
+      front = omega (arith, c.len.ensures, c.make_room.new.log.ok.0, ap length c.make_room.ensures.log, ap length log, length-append c.self.inside.log.items (c.args.entry ∷ []));
       ids =
           c.change_rows-ids.ensures.ids t
           ∙ ap (λ (u : Tables). new_ids u (tables_with t c.change_rows-ids.new.rows)) (c.make_room.ensures.rows t ∙ c.self.invariant.rows_are)

@@ -1,0 +1,10 @@
+use Rattle.std.proofs.Common.{sym, ◌∙◌}
+use Rattle.std.proofs.lemmas.Bool.{false≢true}
+use Rattle.shop_model.specs.Empty.{no_tables}
+use Rattle.shop_book.proofs.Placed.{place_changed}
+use Rattle.shop_book.proofs.watching.raise_if_changed.Goals as goal
+
+pub raise-requires : goal.raise-requires
+raise-requires c =
+    place_changed c.args.versions.now c.args.rows.now no_tables c.args.kept.now.key c.args.kept.now.row c.requires.watchable c.requires.places
+    (λ e. false≢true (sym c.if-not-shows.true ∙ (c.shows.ensures no_tables).1 e))
