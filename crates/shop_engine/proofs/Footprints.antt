@@ -7,6 +7,7 @@ use Rattle.shop_model.specs.declared.requests.Request.{Request}
 use Rattle.shop_model.specs.declared.requests.Request.TheVariants.{Home, NewProducts, BestSellers, ProductDetail, SearchRequest, SearchResults, CartRequest}
 use Rattle.shop_model.specs.declared.tables.Tables.{Tables}
 use Rattle.shop_model.specs.CartAsked.{CartAsked}
+use Rattle.shop_model.specs.Carts.{lines_named}
 use Rattle.shop_model.specs.Lookups.{row_numbered}
 use Rattle.shop_model.specs.Sound.{Has}
 use Rattle.shop_history.specs.declared.acts.Entry.{Entry}
@@ -14,7 +15,7 @@ use Rattle.shop_history.specs.declared.keys.Key.{Key}
 use Rattle.shop_history.specs.declared.keys.Key.TheVariants as keys
 use Rattle.shop_history.specs.Logs.{tables}
 use Rattle.shop_attempt.specs.Seats.{Seat, Follows}
-use Rattle.shop_browse.specs.Footprints.{IsAmong, WasOnCart, IsCartItem, drawn_item, IsAbout, InFootprint, IsLabel}
+use Rattle.shop_browse.specs.Footprints.{IsAmong, WasOnCart, LeavesNoLine, IsCartItem, drawn_item, IsAbout, InFootprint, IsLabel}
 use Rattle.shop_browse.proofs.Items.{same_size}
 
 drawn_later : (t : Tables) (log longer : List Entry) (draw : ℕ) → drawn_item (tables t log) draw ≡ drawn_item (tables t longer) draw
@@ -38,12 +39,22 @@ on_cart_later t log longer cart item extends was =
       line = was.line;
     }
 
+no_line_later : (t : Tables) (log longer : List Entry) (asked : CartAsked) → Extends log longer → LeavesNoLine t log asked → LeavesNoLine t longer asked
+no_line_later t log longer asked extends leaves =
+    let same = front_later log longer leaves.front extends in
+    record {
+      front = same.0;
+      lines = leaves.lines;
+      there = ap (λ (l : List Entry). lines_named (tables t l).carts asked.ids.cart) same.1 ∙ leaves.there;
+      none_left = leaves.none_left;
+    }
+
 cart_item_later : (t : Tables) (log longer : List Entry) (asked : CartAsked) (draw item : ℕ) → Extends log longer → IsCartItem t log asked draw item → IsCartItem t longer asked draw item
 cart_item_later t log longer asked draw item extends may = ⊎_elim
     (λ (named : (asked.item ≡ Some item) ⊎ IsAmong item asked.sets). inl named)
-    (λ (other : ((cart : ℕ) × (asked.ids.cart ≡ Some cart) × WasOnCart t log cart item) ⊎ (item ≡ drawn_item (tables t log) draw)). ⊎_elim
+    (λ (other : ((cart : ℕ) × (asked.ids.cart ≡ Some cart) × WasOnCart t log cart item) ⊎ (LeavesNoLine t log asked × (item ≡ drawn_item (tables t log) draw))). ⊎_elim
     (λ (on : (cart : ℕ) × (asked.ids.cart ≡ Some cart) × WasOnCart t log cart item). inr (inl (on.0, on.1, on_cart_later t log longer on.0 item extends on.2)))
-    (λ (is : item ≡ drawn_item (tables t log) draw). inr (inr (is ∙ drawn_later t log longer draw)))
+    (λ (added : LeavesNoLine t log asked × (item ≡ drawn_item (tables t log) draw)). inr (inr (no_line_later t log longer asked extends added.0, added.1 ∙ drawn_later t log longer draw)))
     other)
     may
 

@@ -12,7 +12,6 @@ use Rattle.shop_model.specs.declared.tables.Tables.{Tables}
 use Rattle.shop_model.specs.Limits.{stamp_limit}
 use Rattle.shop_model.specs.Lookups.{row_numbered}
 use Rattle.shop_model.specs.Checks.{is_changing, check}
-use Rattle.shop_model.specs.Show.{show}
 use Rattle.shop_history.specs.declared.acts.Act.{Act}
 use Rattle.shop_history.specs.declared.acts.Act.TheVariants.{Cart}
 use Rattle.shop_history.specs.declared.acts.Drawn.{Drawn}
@@ -288,8 +287,7 @@ never_fresh start old new request moment draw attempt follows seat contradicts g
     contradicts.never (tables new.opening new.seen) (agrees_found old new new.seen attempt follows seat grows (extends_self new.seen) contradicts.attempts.faithful fresh)
 
 not_some : (act : Option Act) → act ≡ None → IsSome act → ⊥
-not_some None is some = cc
-not_some (Some act) is some = cc
+not_some act none is = let no : IsSome {T = Act} None = subst IsSome none is in cc
 
 pub never_else : (start old new : Seat) (request : Request) (moment draw : ℕ) (attempt : Attempt) (result : Settle) → Follows old new → IsSeat new → IsContradiction start old request moment draw attempt
     → SettledAs old new attempt result → ((conflict : Conflict) → result ≡ settle.Stale conflict → ⊥) → ⊥

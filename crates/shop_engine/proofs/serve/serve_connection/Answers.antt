@@ -1,4 +1,4 @@
-use Rattle.std.proofs.Common.{◌+◌, sym, subst, arith}
+use Rattle.std.proofs.Common.{◌+◌, subst, arith}
 use Rattle.shop_history.specs.Lawful.{IsLawful}
 use Rattle.shop_history.proofs.Goods.{sound_throughout}
 use Rattle.shop_attempt.specs.Seats.{Seat, IsSeat}
