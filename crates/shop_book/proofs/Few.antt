@@ -21,17 +21,13 @@ put_one_more {Row} rows id make =
     (λ _. omega (arith, length-append rows (make (length rows + 1) ∷ []))) (λ _. omega (arith, length-set rows (id - 1) (make id)))
 
 few_one : (t : Tables) (stamp : ℕ) (write : Write) → FewMore t (written_one t stamp write) 1
-few_one t stamp (PutCart cart) = record { items = omega arith; customers = omega arith; carts = put_one_more t.carts cart.id (λ id. record cart { id = id }) }
-few_one t stamp (Login id) = record { items = omega arith; customers = omega (arith, changed_length t.customers id (logged_in stamp)); carts = omega arith }
-few_one t stamp (AddAddress text) = record { items = omega arith; customers = omega arith; carts = omega arith }
-few_one t stamp (AddCustomer customer) = record { items = omega arith; customers = omega (arith, length-append t.customers (entered t stamp customer ∷ [])); carts = omega arith }
-few_one t stamp (AddOrder order days) = record { items = omega arith; customers = omega arith; carts = omega arith }
-few_one t stamp (SetStock stock) = record {
-  items = omega (arith, changed_length t.items stock.item (λ item. record item { stock = stock.stock; restocks = stock.restocks }));
-  customers = omega arith;
-  carts = omega arith;
-}
-few_one t stamp (PutItem item) = record { items = put_one_more t.items item.id (λ id. record item { id = id; published = day_of stamp }); customers = omega arith; carts = omega arith }
+few_one t stamp (PutCart cart) = grind (arith, put_one_more t.carts cart.id (λ id. record cart { id = id }))
+few_one t stamp (Login id) = grind (arith, changed_length t.customers id (logged_in stamp))
+few_one t stamp (AddCustomer customer) = grind (arith, length-append t.customers (entered t stamp customer ∷ []))
+few_one t stamp (SetStock stock) = grind (arith, changed_length t.items stock.item (λ item. record item { stock = stock.stock; restocks = stock.restocks }))
+few_one t stamp (PutItem item) = grind (arith, put_one_more t.items item.id (λ id. record item { id = id; published = day_of stamp }))
+few_one t stamp (AddAddress text) = grind arith
+few_one t stamp (AddOrder order days) = grind arith
 
 pub few_more : (t : Tables) (stamp : ℕ) (writes : List Write) → FewMore t (written t stamp writes) (length writes)
 few_more t stamp [] = record { items = omega arith; customers = omega arith; carts = omega arith }

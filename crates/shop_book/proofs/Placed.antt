@@ -31,11 +31,9 @@ more_places size more id longer has = record { first = has.first; last = omega (
 -- a key keeps its place
 pub more_place : (old new : Versions) (k : Key) → MorePlaces old new → HasPlace old k → HasPlace new k
 more_place old new (key.TheVariants.Item id) more has = more_places _ _ id more.items has
-more_place old new (key.TheVariants.Label id) more has = has
 more_place old new (key.TheVariants.Customer id) more has = more_places _ _ id more.customers has
 more_place old new (key.TheVariants.Cart id) more has = more_places _ _ id more.carts has
-more_place old new (key.TheVariants.NewIn subject) more has = has
-more_place old new (key.TheVariants.BestIn subject) more has = has
+more_place old new _ more has = absurd has
 
 -- a watched key that shows a row has a place
 pub place_shown : (v : Versions) (rows : Rows) (t : Tables) (k : Key) → IsWatchable k → HasPlaces v rows → row_of (tables_with t rows) k ≢ row.Absent → HasPlace v k

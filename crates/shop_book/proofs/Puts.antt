@@ -2,7 +2,6 @@
 use Rattle.std.proofs.Common.{◌≡◌, ℕ, ◌+◌, ◌<◌, ◌≤◌, List, [], ◌∷◌, ◌++◌, length, get_or, set, take, drop, refl, sym, ◌∙◌, ap, subst, arith, append_assoc, length-append}
 use Rattle.std.proofs.lemmas.List.{take_more_set, drop-set-lt, drop_more}
 use Rattle.shop_model.specs.declared.tables.Tables.{Tables}
-use Rattle.shop_model.specs.Empty.{no_tables}
 use Rattle.shop_model.specs.Limits.{stamp_limit}
 use Rattle.shop_history.proofs.Kept.{Grows}
 use Rattle.shop_attempt.specs.declared.attempts.Write.{Write}
@@ -29,29 +28,6 @@ fits_before t u grows fits = record {
 pub first_fits : (t : Tables) (stamp : ℕ) (write : Write) (writes : List Write) → IdsFit (written t stamp (write ∷ writes)) → IdsFit (written_one t stamp write)
 first_fits t stamp write writes fits =
     fits_before (written_one t stamp write) (written t stamp (write ∷ writes)) (written_grows (written_one t stamp write) stamp writes) fits
-
--- ## The tables that writes do not touch
-
--- tables with the rows of others in the tables that writes change
-abbrev over : Tables → Tables → Tables
-over t u = record t { items = u.items; customers = u.customers; last = u.last; carts = u.carts; addresses = u.addresses; orders = u.orders }
-
-over_one : (t u : Tables) (stamp : ℕ) (write : Write) → written_one (over t u) stamp write ≡ over t (written_one u stamp write)
-over_one t u stamp (AddCustomer customer) = refl
-over_one t u stamp _ = refl
-
-written_over : (t u : Tables) (stamp : ℕ) (writes : List Write) → written (over t u) stamp writes ≡ over t (written u stamp writes)
-written_over t u stamp [] = refl
-written_over t u stamp (write ∷ writes) =
-    ap (λ v. written v stamp writes) (over_one t u stamp write) ∙ written_over t (written_one u stamp write) stamp writes
-
--- whether ids fit does not hang on them
-fits_over : (t u : Tables) → IdsFit (over t u) → IdsFit u
-fits_over t u fits = record { items = fits.items; customers = fits.customers; carts = fits.carts; addresses = fits.addresses; orders = fits.orders }
-
-fits_alone : (t : Tables) (rows : Rows) (stamp : ℕ) (writes : List Write) → IdsFit (written (tables_with t rows) stamp writes) → IdsFit (written (tables_with no_tables rows) stamp writes)
-fits_alone t rows stamp writes fits =
-    fits_over t (written (tables_with no_tables rows) stamp writes) (subst IdsFit (written_over t (tables_with no_tables rows) stamp writes) fits)
 
 -- ## Names come first
 
@@ -110,7 +86,8 @@ pub are_ready : (t : Tables) (rows : Rows) (stamp : ℕ) (writes : List Write) �
     → AreReady rows stamp (named (length rows.customers.items) writes)
 are_ready t rows stamp writes room fits bound = record {
   room = subst (HasRoom rows) (sym (named_length (length rows.customers.items) writes)) room;
-  fits = subst IdsFit (sym (named_written (tables_with no_tables rows) stamp writes)) (fits_alone t rows stamp writes fits);
+  tables = t;
+  fits = subst IdsFit (sym (named_written (tables_with t rows) stamp writes)) fits;
   names = names_again (length rows.customers.items) writes;
   bound = bound;
 }

@@ -3,8 +3,7 @@ use Rattle.std.proofs.Common.{◌≡◌, ℕ, ◌≤◌, max, List, [], ◌∷�
 use Rattle.std.specs.Prelude.{All}
 use Rattle.std.proofs.lemmas.Bool.{eq-eqb}
 use Rattle.std.proofs.lemmas.List.{drop-append-le}
-use Rattle.std.proofs.lemmas.List.Elements.{All-push}
-use Rattle.shop_log.proofs.Extending.{extends_self}
+use Rattle.std.proofs.lemmas.List.Elements.{All-nil, All-cons, All-append}
 use Rattle.shop_history.specs.declared.acts.Act.{Act}
 use Rattle.shop_history.specs.declared.acts.Drawn.{Drawn}
 use Rattle.shop_history.specs.declared.acts.Entry.{Entry}
@@ -41,49 +40,33 @@ module _ (old : BookValue) (caller calls settles more_calls more_settles greates
   abbrev behind : List Entry → SoloValue
   behind entries = solo (taken old entries stamp) caller more_calls more_settles (max greatest attempt.moment)
 
-  -- a reading
-  confirmed : (front : drawn.front ≡ length (old.log ++ [])) → Taken old (taken old [] stamp) caller number stamp None drawn → seat.Confirmed (seat_of before) (seat_of (behind [])) attempt drawn
-  confirmed front is = record {
-    accepted = record {
-      is_found = record { grows = record { rest = []; is = refl }; mine = ap (entries_of caller) (append-nil old.log); alone = λ _. append-nil old.log };
-      fresh = ap (λ (log : List Entry). first_stale old.opening.tables log attempt.reads) (append-nil old.log) ∙ fresh;
-      front = front;
-      moment = omega (arith, is.stamp_is);
-      told = λ _. ap Some (sym is.stamp_is);
-      latest = refl;
-      greatest = refl;
-    };
-    own = ap (entries_of caller) (append-nil old.log);
-    ids = is.ids;
-  }
-
-  -- a change
-  added : (act : Act) → (front : drawn.front ≡ length (old.log ++ made caller number stamp (Some act))) → Taken old (taken old (made caller number stamp (Some act)) stamp) caller number stamp (Some act) drawn
-      → seat.Added (seat_of before) (seat_of (behind (made caller number stamp (Some act)))) attempt act drawn
-  added act front is = record {
-    before = old.log;
-    entry = record { caller = caller; number = number; stamp = stamp; act = act };
-    accepted = record {
-      is_found = record { grows = extends_self old.log; mine = refl; alone = λ _. refl };
-      fresh = fresh;
-      front = front;
-      moment = omega (arith, is.stamp_is);
-      told = λ _. ap Some (sym is.stamp_is);
-      latest = refl;
-      greatest = refl;
-    };
-    seen = refl;
-    own = entries_mine caller old.log (record { caller = caller; number = number; stamp = stamp; act = act }) (eq-eqb caller caller refl);
-    room = is.room refl;
-    caller = refl;
-    does = refl;
-    stamp = sym is.stamp_is;
-    ids = is.ids;
+  accepted : (entries found : List Entry) → found ≡ old.log → drawn.front ≡ length (old.log ++ entries) → drawn.stamp ≡ stamp → seat.Accepted (seat_of before) (seat_of (behind entries)) found attempt drawn
+  accepted entries found same front is = record {
+    is_found = record { grows = record { rest = []; is = same ∙ sym (append-nil old.log) }; mine = ap (entries_of caller) same; alone = λ _. same };
+    fresh = ap (λ (log : List Entry). first_stale old.opening.tables log attempt.reads) same ∙ fresh;
+    front = front;
+    moment = omega (arith, is);
+    told = λ _. ap Some (sym is);
+    latest = refl;
+    greatest = refl;
   }
 
   taken_as : (act : Option Act) → Taken old (taken old (made caller number stamp act) stamp) caller number stamp act drawn → seat.DoneAs (seat_of before) (seat_of (behind (made caller number stamp act))) attempt act drawn
-  taken_as None is = confirmed is.front is
-  taken_as (Some act) is = added act is.front is
+  taken_as None is = record { accepted = accepted [] (old.log ++ []) (append-nil old.log) is.front is.stamp_is; own = ap (entries_of caller) (append-nil old.log); ids = is.ids }
+  taken_as (Some act) is =
+      let entry : Entry = record { caller = caller; number = number; stamp = stamp; act = act } in
+      record {
+        before = old.log;
+        entry = entry;
+        accepted = accepted (entry ∷ []) old.log refl is.front is.stamp_is;
+        seen = refl;
+        own = entries_mine caller old.log entry (eq-eqb caller caller refl);
+        room = is.room refl;
+        caller = refl;
+        does = refl;
+        stamp = sym is.stamp_is;
+        ids = is.ids;
+      }
 
   solo_done : (new : BookValue) → Taken old new caller number stamp attempt.act drawn
       → seat.DoneAs (seat_of before) (seat_of (solo new caller more_calls more_settles (max greatest attempt.moment))) attempt attempt.act drawn
@@ -98,23 +81,21 @@ module _ (old : BookValue) (caller calls settles more_calls more_settles greates
       (subst (λ (s : SoloValue). seat.DoneAs (seat_of s) (seat_of (solo new caller more_calls more_settles raised)) attempt attempt.act drawn) was_is
       (subst (λ n. seat.DoneAs (seat_of before) (seat_of (solo new caller more_calls more_settles n)) attempt attempt.act drawn) (sym raised_is) (solo_done new is)))
 
--- a mark stays one behind later entries
-mark_longer : (log : List Entry) (entry : Entry) (front moment : ℕ) → front ≤ length log → moment ≤ entry.stamp
-    → All (λ (e : Entry). moment ≤ e.stamp) (drop front log) → All (λ (e : Entry). moment ≤ e.stamp) (drop front (log ++ entry ∷ []))
-mark_longer log entry front moment within late behind =
-    subst (All (λ (e : Entry). moment ≤ e.stamp)) (sym (drop-append-le front log (entry ∷ []) within)) (All-push (λ (e : Entry). moment ≤ e.stamp) (drop front log) entry behind late)
+-- a mark stays one behind a later entry
+made_late : (caller number stamp moment : ℕ) (act : Option Act) → moment ≤ stamp → All (λ (e : Entry). moment ≤ e.stamp) (made caller number stamp act)
+made_late _ _ _ moment None late = All-nil (λ (e : Entry). moment ≤ e.stamp)
+made_late _ _ _ moment (Some act) late = All-cons (λ (e : Entry). moment ≤ e.stamp) _ [] late (All-nil (λ (e : Entry). moment ≤ e.stamp))
 
 mark_taken : (old : BookValue) (caller number stamp : ℕ) (act : Option Act) → old.latest ≤ stamp → (front moment : ℕ) → IsKeptMark old front moment → IsKeptMark (taken old (made caller number stamp act) stamp) front moment
-mark_taken old caller number stamp None late front moment mark = record {
-  within = omega (arith, mark.within, ap length (append-nil old.log));
-  moment_is = omega (arith, mark.moment_is, late);
-  behind = subst (λ (log : List Entry). All (λ (e : Entry). moment ≤ e.stamp) (drop front log)) (sym (append-nil old.log)) mark.behind;
-}
-mark_taken old caller number stamp (Some act) late front moment mark = record {
-  within = omega (arith, mark.within, length-append old.log (made caller number stamp (Some act)));
-  moment_is = omega (arith, mark.moment_is, late);
-  behind = mark_longer old.log (record { caller = caller; number = number; stamp = stamp; act = act }) front moment mark.within (omega (arith, mark.moment_is, late)) mark.behind;
-}
+mark_taken old caller number stamp act late front moment mark =
+    let early : moment ≤ stamp = omega (arith, mark.moment_is, late) in
+    record {
+      within = omega (arith, mark.within, length-append old.log (made caller number stamp act));
+      moment_is = early;
+      behind =
+          subst (All (λ (e : Entry). moment ≤ e.stamp)) (sym (drop-append-le front old.log (made caller number stamp act) mark.within))
+          (All-append (λ (e : Entry). moment ≤ e.stamp) (drop front old.log) (made caller number stamp act) mark.behind (made_late caller number stamp moment act early));
+    }
 
 pub marks_stay : (old new : SoloValue) (number stamp : ℕ) (act : Option Act) (drawn : Drawn) → old.book.latest ≤ stamp → Taken old.book new.book old.visitor.caller number stamp act drawn
     → StillMarked (marks_of old) (marks_of new)

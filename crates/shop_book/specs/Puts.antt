@@ -2,7 +2,6 @@
 use Rattle.std.specs.Prelude.{◌≡◌, ℕ, ◌+◌, ◌^◌, ◌<◌, ◌≤◌, List, [], ◌∷◌, length}
 use Rattle.shop_text.specs.Texts.{digsyl, digsyl_lower}
 use Rattle.shop_model.specs.declared.tables.Tables.{Tables}
-use Rattle.shop_model.specs.Empty.{no_tables}
 use Rattle.shop_model.specs.Limits.{stamp_limit}
 use Rattle.shop_attempt.specs.declared.attempts.Write.{Write}
 use Rattle.shop_attempt.specs.declared.attempts.Write.TheVariants.{AddCustomer}
@@ -39,16 +38,18 @@ pub record IdsFit (t : Tables) : Type 0 where
   pub addresses : length t.addresses < 2 ^ 32
   pub orders : length t.orders < 2 ^ 32
 
--- a write that can be made: there is room, its ids fit, a new customer has its names, and so is the stamp
+-- a write that can be made in some tables with these rows: there is room, its ids fit, a new customer has its names, and so is the stamp
 pub record IsReady (rows : Rows) (stamp : ℕ) (write : Write) : Type 0 where
   pub room : HasRoom rows 1
-  pub fits : IdsFit (written_one (tables_with no_tables rows) stamp write)
+  pub tables : Tables
+  pub fits : IdsFit (written_one (tables_with tables rows) stamp write)
   pub names : named_one (length rows.customers.items) write ≡ write
   pub bound : stamp ≤ stamp_limit
 
 -- writes that can be made, one after another
 pub record AreReady (rows : Rows) (stamp : ℕ) (writes : List Write) : Type 0 where
   pub room : HasRoom rows (length writes)
-  pub fits : IdsFit (written (tables_with no_tables rows) stamp writes)
+  pub tables : Tables
+  pub fits : IdsFit (written (tables_with tables rows) stamp writes)
   pub names : named (length rows.customers.items) writes ≡ writes
   pub bound : stamp ≤ stamp_limit

@@ -1,5 +1,5 @@
 ghost use Rattle.std.specs.Prelude.{◌≡◌, ◌^◌, ◌<◌, length};
-ghost use Rattle.shop_model.specs.Empty.{no_tables};
+ghost use Rattle.shop_model.specs.declared.tables.Tables.{Tables};
 ghost use Rattle.shop_book.specs.Puts.{IdsFit};
 ghost use Rattle.shop_book.specs.RowsNow.{tables_with};
 ghost use Rattle.shop_book.specs.Sizes as spec;
@@ -43,7 +43,7 @@ impl Sizes {
 
     /// The ids of the rows that came since.
     pub(crate) fn new_ids(self, rows: &Rows) -> Ids
-        requires { IdsFit (tables_with no_tables rows.now) }
+        requires { (t : Tables) × IdsFit (tables_with t rows.now) }
         ensures { result ≡ spec.ids_behind self rows.now }
     {
         Ids {

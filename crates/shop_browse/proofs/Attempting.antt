@@ -1,11 +1,9 @@
 -- From reads and a page to an attempt.
-use Rattle.std.proofs.Common.{◌≡◌, ℕ, List, [], ◌∷◌, ◌++◌, Option, Some, None, refl, sym, ◌∙◌, ap, subst}
+use Rattle.std.proofs.Common.{◌≡◌, ℕ, List, [], ◌∷◌, ◌++◌, Option, Some, None, refl, sym, ◌∙◌}
 use Rattle.shop_model.specs.declared.page.Page.{Page}
 use Rattle.shop_model.specs.declared.requests.Request.{Request}
 use Rattle.shop_model.specs.declared.tables.Tables.{Tables}
 use Rattle.shop_model.specs.Catalogues.{Catalogue, catalogue}
-use Rattle.shop_history.specs.declared.drafts.Draft.TheVariants.{Fixed}
-use Rattle.shop_history.specs.Acts.{act_of, ChangesNothing}
 use Rattle.shop_attempt.specs.declared.attempts.ReadOf.{ReadOf}
 use Rattle.shop_attempt.specs.Reads.{Agrees, AreTrue}
 use Rattle.shop_attempt.specs.Seats.{Seat}
@@ -35,16 +33,13 @@ for_push start now request draw (first ∷ reads) read are is = (are.0, for_push
 
 -- what an attempt with these reads and this page is
 pub attempted_of : (start now : Seat) (request : Request) (moment draw : ℕ) (c : Catalogue) (reads : List ReadOf) (page : Option Page)
-    → act_of request draw ≡ None → c ≡ catalogue now.opening → AreReadFor start now request draw reads → IsPageOf c request draw reads page
+    → c ≡ catalogue now.opening → AreReadFor start now request draw reads → IsPageOf c request draw reads page
     → AttemptedAs start now request moment draw (attempt_of reads moment draw page)
-attempted_of start now request moment draw c reads (Some page) nothing is are shows = record {
+attempted_of start now request moment draw c reads (Some page) is are shows = record {
   attempts = reads_only start now request moment draw reads are;
-  drafts = λ t agrees. record {
-    alone = subst (ChangesNothing t) (sym nothing) tt;
-    page_is = ap Fixed (shows t (fits c now.opening t reads is agrees));
-  };
+  drafts = λ t agrees. record { page = page; shows = shows t (fits c now.opening t reads is agrees); draft_is = refl };
 }
-attempted_of start now request moment draw c reads None nothing is are never = record {
+attempted_of start now request moment draw c reads None is are never = record {
   attempts = reads_only start now request moment draw reads are;
   reading = refl;
   never = λ t agrees. never t (fits c now.opening t reads is agrees);

@@ -7,10 +7,11 @@ use Rattle.shop_model.specs.declared.requests.Request.{Request}
 use Rattle.shop_model.specs.declared.requests.Request.TheVariants.{Home}
 use Rattle.shop_model.specs.declared.tables.Tables.{Tables}
 use Rattle.shop_model.specs.Catalogues.{Catalogue, catalogue}
+use Rattle.shop_model.specs.Checks.{check_there, check_customer}
 use Rattle.shop_model.specs.Lookups.{row_numbered}
 use Rattle.shop_model.specs.Refusals.{page_of}
 use Rattle.shop_model.specs.Rows.{CustomerRow}
-use Rattle.shop_model.specs.Show.{home, home_page, home_or_refusal}
+use Rattle.shop_model.specs.Show.{show, home_page, customer_asked, refused_or}
 use Rattle.shop_history.specs.declared.keys.Key.TheVariants as key
 use Rattle.shop_history.specs.declared.keys.Row.{Row}
 use Rattle.shop_history.specs.declared.keys.Row.TheVariants as row
@@ -61,19 +62,38 @@ customer_found : (o : Option CustomerRow) (x : CustomerRow) → shown row.Custom
 customer_found None x is = absurd cc
 customer_found (Some y) x is = cc
 
+pub same_customer : (one other : CustomerRow) → row.Customer one ≡ row.Customer other → one ≡ other
+same_customer one other is = cc
+
 customer_gone : (o : Option CustomerRow) → shown row.Customer o ≡ row.Absent → o ≡ None
 customer_gone None is = refl
 customer_gone (Some x) is = absurd cc
 
+-- a row that a customer's key shows is one, unless it is absent
+pub customer_known : (o : Option CustomerRow) (r : Row) → r ≡ shown row.Customer o → (r ≡ row.Absent → ⊥) → (customer : CustomerRow) × (r ≡ row.Customer customer)
+customer_known None r is there = absurd (there is)
+customer_known (Some customer) r is there = (customer, is)
+
 customer_row : (t : Tables) (number : ℕ) (read : ReadOf) (r : Row) → read.key ≡ key.Customer number → row_of t read.key ≡ read.row → read.row ≡ r → row_of t (key.Customer number) ≡ r
 customer_row t number read r key_is shows is = ap (row_of t) (sym key_is) ∙ shows ∙ is
+
+-- what Home shows where a number is given, or none is
+home_shows : (t : Tables) (asked : home_asked.Home) (draw : ℕ) (number : Option ℕ) → asked.ids.c ≡ number
+    → show t (Home asked) draw ≡ refused_or (check_customer t number) (Some (home_page t asked.ids draw (customer_asked t number)))
+home_shows t asked draw number is = ap (λ n. refused_or (check_customer t n) (Some (home_page t asked.ids draw (customer_asked t n)))) is
+
+-- and by the row with that number
+number_shows : (t : Tables) (asked : home_asked.Home) (draw number : ℕ) (row : Option CustomerRow) → asked.ids.c ≡ Some number → row_numbered t.customers number ≡ row
+    → show t (Home asked) draw ≡ refused_or (check_there NoCustomer row) (Some (home_page t asked.ids draw row))
+number_shows t asked draw number row is found =
+    home_shows t asked draw (Some number) is ∙ ap (λ o. refused_or (check_there NoCustomer o) (Some (home_page t asked.ids draw o))) found
 
 pub anyone_shown : (opening : Tables) (c : Catalogue) (items draw : ℕ) (asked : home_asked.Home) (promotion : Promotion) (page : Option Page) → IsPromotionOf (1 + draw % items) promotion
     → items ≡ length opening.items → c ≡ catalogue opening → asked.ids.c ≡ None → IsShownBy promotion draw (λ t. home_page t asked.ids draw None) page
     → IsPageOf c (Home asked) draw (promotion_reads promotion) page
 anyone_shown opening c items draw asked promotion page drawn scale is is_c shows =
     page_shown c (Home asked) draw (promotion_reads promotion) page
-    (λ t fits. shows t (promotes opening t c items draw promotion drawn scale is fits.sound fits.named fits.shows) ∙ ap (λ n. Some (home t asked.ids draw n)) (sym is_c))
+    (λ t fits. (home_page t asked.ids draw None, shows t (promotes opening t c items draw promotion drawn scale is fits.sound fits.named fits.shows), home_shows t asked draw None is_c))
 
 pub customer_shown : (opening : Tables) (c : Catalogue) (items draw number : ℕ) (asked : home_asked.Home) (promotion : Promotion) (read : ReadOf) (customer : CustomerRow) (page : Option Page)
     → IsPromotionOf (1 + draw % items) promotion → items ≡ length opening.items → c ≡ catalogue opening → asked.ids.c ≡ Some number → read.key ≡ key.Customer number → read.row ≡ row.Customer customer
@@ -83,13 +103,15 @@ customer_shown opening c items draw number asked promotion read customer page dr
     (λ t fits.
     let both = shows_push t (promotion_reads promotion) read fits.shows in
     let found : row_numbered t.customers number ≡ Some customer
-    = customer_found (row_numbered t.customers number) customer (customer_row t number read (row.Customer customer) key_is both.1 is_customer) in
-    shows t (promotes opening t c items draw promotion drawn scale is fits.sound fits.named both.0)
-    ∙ ap (λ o. Some (home_or_refusal t asked.ids draw o)) (sym found) ∙ ap (λ n. Some (home t asked.ids draw n)) (sym is_c))
+    = customer_found (row_numbered t.customers number) customer (customer_row t number read (row.Customer customer) key_is both.1 is_customer) in (
+      home_page t asked.ids draw (Some customer),
+      shows t (promotes opening t c items draw promotion drawn scale is fits.sound fits.named both.0),
+      number_shows t asked draw number (Some customer) is_c found,
+    ))
 
 pub refusal_shown : (c : Catalogue) (draw number : ℕ) (asked : home_asked.Home) (read : ReadOf) (page : Page) → asked.ids.c ≡ Some number → read.key ≡ key.Customer number → read.row ≡ row.Absent
     → page ≡ page_of NoCustomer → IsPageOf c (Home asked) draw (read ∷ []) (Some page)
 refusal_shown c draw number asked read page is_c key_is is_absent is_page = λ t fits.
     let gone : row_numbered t.customers number ≡ None
     = customer_gone (row_numbered t.customers number) (customer_row t number read row.Absent key_is fits.shows.0 is_absent) in
-    is_page ∙ ap (home_or_refusal t asked.ids draw) (sym gone) ∙ ap (home t asked.ids draw) (sym is_c)
+    number_shows t asked draw number None is_c gone ∙ ap Some (sym is_page)

@@ -1,5 +1,5 @@
 -- Reads of single rows, and what they say of the tables.
-use Rattle.std.proofs.Common.{◌≡◌, ℕ, ◌-◌, true, List, length, Option, Some, None, refl, sym, ◌∙◌, ap, subst, arith}
+use Rattle.std.proofs.Common.{◌≡◌, ℕ, ◌+◌, ◌-◌, true, List, length, Option, Some, None, refl, sym, ◌∙◌, ap, subst, arith}
 use Rattle.std.proofs.lemmas.Option.{slice_get_within}
 use Rattle.shop_model.specs.declared.page.Page.{Page}
 use Rattle.shop_model.specs.declared.requests.Request.{Request}
@@ -7,27 +7,30 @@ use Rattle.shop_model.specs.declared.tables.Tables.{Tables}
 use Rattle.shop_model.specs.Catalogues.{Catalogue, catalogue}
 use Rattle.shop_model.specs.Lookups.{row_numbered}
 use Rattle.shop_model.specs.Rows.{ItemRow}
-use Rattle.shop_model.specs.Sound.{Has}
+use Rattle.shop_model.specs.Sound.{Sound, Has}
 use Rattle.shop_history.specs.declared.acts.Entry.{Entry}
 use Rattle.shop_history.specs.declared.keys.Key.TheVariants as key
 use Rattle.shop_history.specs.declared.keys.Label.{Label}
 use Rattle.shop_history.specs.declared.keys.Row.{Row}
 use Rattle.shop_history.specs.declared.keys.Row.TheVariants as row
-use Rattle.shop_history.specs.Acts.{act_of}
-use Rattle.shop_history.specs.Keys.{row_of, shown, label_of}
+use Rattle.shop_history.specs.Keys.{row_of, shown, label_of, is_item}
 use Rattle.shop_history.specs.Logs.{tables}
-use Rattle.shop_history.proofs.Carts.{only_carts}
+use Rattle.shop_history.proofs.Goods.{good_log}
+use Rattle.shop_history.proofs.Kept.{kept, same_items}
 use Rattle.shop_history.proofs.Places.{IsThere, is_there}
 use Rattle.shop_attempt.specs.declared.attempts.ReadOf.{ReadOf}
-use Rattle.shop_attempt.specs.Seats.{Seat, Looked}
-use Rattle.shop_attempt.specs.Simple.{is_item}
+use Rattle.shop_attempt.specs.Seats.{Seat, IsSeat, Looked}
 use Rattle.shop_browse.specs.declared.attempted.Attempted.{Attempted}
 use Rattle.shop_browse.specs.Attempts.{AreReadFor, IsPageOf, AttemptedAs, attempt_of}
 use Rattle.shop_browse.proofs.Attempting.{attempted_of}
 
 -- the opening's number of items stays
 pub same_size : (t : Tables) (log : List Entry) → length (tables t log).items ≡ length t.items
-same_size t log = ap (λ (u : Tables). length u.items) (only_carts t log)
+same_size t log = same_items t (tables t log) (kept t log).catalogue
+
+-- the tables after the log seen are sound
+pub seat_sound : (seat : Seat) → IsSeat seat → Sound (tables seat.opening seat.seen)
+seat_sound seat valid = (good_log seat.opening (seat.limit + 1) valid.good seat.seen valid.legal (omega (arith, valid.short))).sound
 
 -- an item that is shown is there
 pub item_found : (o : Option ItemRow) (x : ItemRow) → shown row.Item o ≡ row.Item x → o ≡ Some x
@@ -54,9 +57,9 @@ label_found t o x label found is =
 
 -- an attempt by the reads and the page of one
 pub attempted_from : (start now : Seat) (request : Request) (moment draw : ℕ) (c : Catalogue) (reads list : List ReadOf) (page : Option Page) (result : Attempted)
-    → result ≡ attempt_of list moment draw page → list ≡ reads → act_of request draw ≡ None → c ≡ catalogue start.opening → Looked start now → AreReadFor start now request draw reads → IsPageOf c request draw reads page
+    → result ≡ attempt_of list moment draw page → list ≡ reads → c ≡ catalogue start.opening → Looked start now → AreReadFor start now request draw reads → IsPageOf c request draw reads page
     → AttemptedAs start now request moment draw result
-attempted_from start now request moment draw c reads list page result is same reading index looked are shows =
+attempted_from start now request moment draw c reads list page result is same index looked are shows =
     let all : AttemptedAs start now request moment draw (attempt_of reads moment draw page)
-    = attempted_of start now request moment draw c reads page reading (index ∙ ap catalogue (sym looked.follows.opening)) are shows in
+    = attempted_of start now request moment draw c reads page (index ∙ ap catalogue (sym looked.follows.opening)) are shows in
     subst (λ a. AttemptedAs start now request moment draw a) (ap (λ rs. attempt_of rs moment draw page) (sym same) ∙ sym is) all

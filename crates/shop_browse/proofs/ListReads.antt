@@ -19,13 +19,12 @@ use Rattle.shop_model.specs.Subjects.{subject_name}
 use Rattle.shop_model.specs.Rankings.{newest, best}
 use Rattle.shop_model.specs.SearchAsked.{SearchAsked}
 use Rattle.shop_model.specs.Show.{show}
-use Rattle.shop_model.specs.Sound.{Has, Sound}
+use Rattle.shop_model.specs.Sound.{Has}
 use Rattle.shop_history.specs.declared.keys.Key.{Key}
 use Rattle.shop_history.specs.declared.keys.Key.TheVariants as key
 use Rattle.shop_history.specs.declared.keys.Row.{Row}
 use Rattle.shop_history.specs.Keys.{row_of}
 use Rattle.shop_history.specs.Logs.{tables}
-use Rattle.shop_history.proofs.Goods.{good_log}
 use Rattle.shop_attempt.specs.declared.attempts.ReadOf.{ReadOf}
 use Rattle.shop_attempt.specs.Reads.{IsReadOf, AreReadSince}
 use Rattle.shop_attempt.specs.Seats.{Seat, IsSeat, Looked}
@@ -35,14 +34,9 @@ use Rattle.shop_browse.specs.Attempts.{AddsLabels, AreReadFor, IsPageOf, Attempt
 use Rattle.shop_browse.specs.Footprints.{IsAbout}
 use Rattle.shop_browse.specs.Lists.{listed, AreLabels, IsListPage, ReadsList, AttemptsList}
 use Rattle.shop_browse.proofs.Attempting.{attempted_of, for_push}
-use Rattle.shop_browse.proofs.Items.{same_size}
+use Rattle.shop_browse.proofs.Items.{same_size, seat_sound}
 use Rattle.shop_browse.proofs.Labelling.{read_since, labels_for}
 use Rattle.shop_browse.proofs.Within.{listed_within, found_within}
-
--- a log keeps tables sound
-
-seat_sound : (seat : Seat) → IsSeat seat → Sound (tables seat.opening seat.seen)
-seat_sound seat valid = (good_log seat.opening (seat.limit + 1) valid.good seat.seen valid.legal (omega (arith, valid.short))).sound
 
 -- a list was read, then its labels
 
@@ -85,11 +79,11 @@ list_for start now request draw key list labels read about =
 
 page_listed : (c : Catalogue) (request : Request) (draw : ℕ) (key : Key) (list : ReadOf) (labels : List ReadOf) (ids : IdsAsked) (title : List ℕ) (head : List Block) (page : Option Page)
     → list.key ≡ key → IsListPage ids title head (listed list.row) labels page
-    → ((t : Tables) → show t request draw ≡ list_page t ids title head (listed (row_of t key))) → IsPageOf c request draw (labels ++ list ∷ []) page
+    → ((t : Tables) → show t request draw ≡ Some (list_page t ids title head (listed (row_of t key)))) → IsPageOf c request draw (labels ++ list ∷ []) page
 page_listed c request draw key list labels ids title head (Some page) key_is is shows = λ t fits.
     let shown = shows_push t labels list fits.shows in
     let row_is : list.row ≡ row_of t key = sym shown.1 ∙ ap (row_of t) key_is in
-    is t shown.0 ∙ ap (λ (r : Row). list_page t ids title head (listed r)) row_is ∙ sym (shows t)
+    shows t ∙ ap Some (sym (is t shown.0 ∙ ap (λ (r : Row). list_page t ids title head (listed r)) row_is))
 page_listed c request draw key list labels ids title head None key_is never shows = λ t fits.
     let shown = shows_push t labels list fits.shows in
     let row_is : row_of t key ≡ list.row = ap (row_of t) (sym key_is) ∙ shown.1 in
@@ -99,10 +93,10 @@ pub list_attempted : (start now : Seat) (moment draw : ℕ) (c : Catalogue) (key
     (ids : IdsAsked) (title : List ℕ) (head : List Block) (page : Option Page)
     → c ≡ catalogue start.opening → Looked start now → ReadsList start now key list labels → items ≡ listed list.row → those ≡ labels → reads ≡ labels ++ list ∷ []
     → IsListPage ids title head items those page → AttemptsList start now key ids title head moment draw (attempt_of reads moment draw page)
-list_attempted start now moment draw c key list items labels those reads ids title head page index looked read are same all is = λ request reading about shows.
+list_attempted start now moment draw c key list items labels those reads ids title head page index looked read are same all is = λ request about shows.
     let of_items : IsListPage ids title head (listed list.row) those page = subst (λ (l : List ℕ). IsListPage ids title head l those page) are is in
     let of_labels : IsListPage ids title head (listed list.row) labels page = subst (λ (l : List ReadOf). IsListPage ids title head (listed list.row) l page) same of_items in
-    attempted_of start now request moment draw c reads page reading (index ∙ ap catalogue (sym looked.follows.opening))
+    attempted_of start now request moment draw c reads page (index ∙ ap catalogue (sym looked.follows.opening))
     (subst (AreReadFor start now request draw) (sym all) (list_for start now request draw key list labels read (about now.opening now.seen)))
     (subst (λ (l : List ReadOf). IsPageOf c request draw l page) (sym all) (page_listed c request draw key list labels ids title head page read.key_is of_labels shows))
 
@@ -112,15 +106,15 @@ pub new_attempted : {E : Type 0} (start now : Seat) (asked : NewProducts) (momen
     → IfOk result (AttemptsList start now (key.NewIn asked.subject) asked.ids (codes "New Products") head moment draw) → IfOk result (AttemptedAs start now (request.NewProducts asked) moment draw)
 unfolding new_products
 new_attempted start now asked moment draw head result is =
-    IfOk-weaker result _ _ (λ attempted attempts. attempts (request.NewProducts asked) refl (λ opening log. refl)
-    (λ t. ap (λ (h : List Block). list_page t asked.ids (codes "New Products") h (newest t asked.subject)) (sym is)))
+    IfOk-weaker result _ _ (λ attempted attempts. attempts (request.NewProducts asked) (λ opening log. refl)
+    (λ t. ap (λ (h : List Block). Some (list_page t asked.ids (codes "New Products") h (newest t asked.subject))) (sym is)))
 
 pub best_attempted : {E : Type 0} (start now : Seat) (asked : BestSellers) (moment draw : ℕ) (head : List Block) (result : Result Attempted E) → head ≡ Heading (codes "Best " ++ subject_name asked.subject) ∷ []
     → IfOk result (AttemptsList start now (key.BestIn asked.subject) asked.ids (codes "Best Sellers") head moment draw) → IfOk result (AttemptedAs start now (request.BestSellers asked) moment draw)
 unfolding best_sellers
 best_attempted start now asked moment draw head result is =
-    IfOk-weaker result _ _ (λ attempted attempts. attempts (request.BestSellers asked) refl (λ opening log. refl)
-    (λ t. ap (λ (h : List Block). list_page t asked.ids (codes "Best Sellers") h (best t asked.subject)) (sym is)))
+    IfOk-weaker result _ _ (λ attempted attempts. attempts (request.BestSellers asked) (λ opening log. refl)
+    (λ t. ap (λ (h : List Block). Some (list_page t asked.ids (codes "Best Sellers") h (best t asked.subject))) (sym is)))
 
 -- the attempt of items that a search found
 
@@ -131,17 +125,17 @@ few_within seat kind text (item ∷ items) are valid =
 
 page_found : (c : Catalogue) (request : Request) (draw : ℕ) (kind : SearchKind) (text : List ℕ) (items : List ℕ) (labels : List ReadOf) (ids : IdsAsked) (title : List ℕ) (head : List Block) (page : Option Page)
     → items ≡ found c kind text → IsListPage ids title head items labels page
-    → ((t : Tables) → show t request draw ≡ list_page t ids title head (found (catalogue t) kind text)) → IsPageOf c request draw labels page
+    → ((t : Tables) → show t request draw ≡ Some (list_page t ids title head (found (catalogue t) kind text))) → IsPageOf c request draw labels page
 page_found c request draw kind text items labels ids title head (Some page) are is shows = λ t fits.
-    is t fits.shows ∙ ap (list_page t ids title head) (are ∙ ap (λ (d : Catalogue). found d kind text) (sym fits.named)) ∙ sym (shows t)
+    shows t ∙ ap Some (sym (is t fits.shows ∙ ap (list_page t ids title head) (are ∙ ap (λ (d : Catalogue). found d kind text) (sym fits.named))))
 page_found c request draw kind text items labels ids title head None are never shows = λ t fits.
     never t (subst (All (Has (length t.items))) (ap (λ (d : Catalogue). found d kind text) fits.named ∙ sym are) (found_within t kind text fits.sound)) fits.shows
 
 search_shows : (t : Tables) (asked : SearchAsked) (draw : ℕ) (head : List Block) → head ≡ Heading (codes "Search Results") ∷ Para (kind_name asked.kind ++ codes ": " ++ asked.text) ∷ []
-    → show t (request.SearchResults asked) draw ≡ list_page t asked.ids (codes "Search Results") head (found (catalogue t) asked.kind asked.text)
+    → show t (request.SearchResults asked) draw ≡ Some (list_page t asked.ids (codes "Search Results") head (found (catalogue t) asked.kind asked.text))
 unfolding search_results
 search_shows t asked draw head is =
-    ap (λ (h : List Block). list_page t asked.ids (codes "Search Results") h (found (catalogue t) asked.kind asked.text)) (sym is)
+    ap (λ (h : List Block). Some (list_page t asked.ids (codes "Search Results") h (found (catalogue t) asked.kind asked.text))) (sym is)
 
 pub found_attempted : (start now : Seat) (asked : SearchAsked) (moment draw : ℕ) (c : Catalogue) (items those_items : List ℕ) (before reads those : List ReadOf) (head : List Block) (page : Option Page)
     → c ≡ catalogue start.opening → Looked start now → items ≡ found c asked.kind asked.text → those_items ≡ items → before ≡ [] → AddsLabels start now those_items before reads
@@ -156,6 +150,6 @@ found_attempted start now asked moment draw c items those_items before reads tho
     let within : All (Has (length now.opening.items)) those_items
     = few_within now asked.kind asked.text those_items (are ∙ ap (λ (d : Catalogue). found d asked.kind asked.text) today) valid in
     let of_reads : IsListPage asked.ids title head those_items reads page = subst (λ (l : List ReadOf). IsListPage asked.ids title head those_items l page) same is in
-    attempted_of start now asks moment draw c reads page refl today
+    attempted_of start now asks moment draw c reads page today
     (opening_labels start now asks draw those_items reads (subst (AreLabels those_items) (sym all) adds.keys) (subst (AreReadSince start now) (sym all) adds.since) within)
     (page_found c asks draw asked.kind asked.text those_items reads asked.ids title head page are of_reads (λ t. search_shows t asked draw head head_is))

@@ -1,23 +1,25 @@
 -- The reads of Product Detail, and the page of an item and its author's names.
-use Rattle.std.proofs.Common.{◌≡◌, true, [], ◌∷◌, length, Some, None, refl, sym, ◌∙◌, ap, subst, inl, inr}
+use Rattle.std.proofs.Common.{◌≡◌, true, [], ◌∷◌, length, Option, Some, None, option_map, refl, sym, ◌∙◌, ap, subst, inl, inr}
 use Rattle.shop_model.specs.declared.author.Author.{Author}
 use Rattle.shop_model.specs.declared.page.Page.{Page}
+use Rattle.shop_model.specs.declared.refusal.Refusal.TheVariants.{NoItem}
 use Rattle.shop_model.specs.declared.requests.IdsAsked.{IdsAsked}
 use Rattle.shop_model.specs.declared.requests.ProductDetail as asked_for
 use Rattle.shop_model.specs.declared.tables.Tables.{Tables}
+use Rattle.shop_model.specs.Checks.{check_there}
 use Rattle.shop_model.specs.Lookups.{row_numbered, author_of}
-use Rattle.shop_model.specs.Products.{product_page, product_or_refusal, author_line}
+use Rattle.shop_model.specs.Products.{product_page, author_line}
 use Rattle.shop_model.specs.Rows.{ItemRow}
+use Rattle.shop_model.specs.Show.{refused_or}
 use Rattle.shop_model.specs.Sound.{Has}
 use Rattle.shop_history.specs.declared.keys.Key.TheVariants as key
 use Rattle.shop_history.specs.declared.keys.Label.{Label}
 use Rattle.shop_history.specs.declared.keys.Row.TheVariants as row
-use Rattle.shop_history.specs.Keys.{row_of, label_of}
+use Rattle.shop_history.specs.Keys.{row_of, label_of, is_item}
 use Rattle.shop_history.specs.Logs.{tables}
 use Rattle.shop_attempt.specs.declared.attempts.ReadOf.{ReadOf}
 use Rattle.shop_attempt.specs.Reads.{Shows, IsReadOf}
 use Rattle.shop_attempt.specs.Seats.{Seat, Looked}
-use Rattle.shop_attempt.specs.Simple.{is_item}
 use Rattle.shop_attempt.proofs.Looks.{since_later, looked_trans}
 use Rattle.shop_browse.specs.declared.product_detail.ItemReads.{ItemReads}
 use Rattle.shop_browse.specs.Products.{named, with_label, HasLabel, AreOf, AreProductReads, IsProductPage}
@@ -66,5 +68,5 @@ product_shown asked reads x read label page are is_x is_read is_label is_page c 
     = item_found (row_numbered t.items asked.item) x (ap (row_of t) (sym are.key_is) ∙ shows.0 ∙ is_x) in
     let names : label ≡ label_of t x
     = label_found t (row_numbered t.items asked.item) x label found (ap (row_of t) (sym has) ∙ shows.1.0 ∙ is_label) in
-    is_page ∙ ap (λ (l : Label). product_page x (named l) asked.ids) names ∙ same_page x (author_of t x) asked.ids
-    ∙ ap (product_or_refusal t asked.ids) (sym found)
+    ap (λ (o : Option ItemRow). refused_or (check_there NoItem o) (option_map (λ item. product_page item (author_of t item) asked.ids) o)) found
+    ∙ ap Some (sym (is_page ∙ ap (λ (l : Label). product_page x (named l) asked.ids) names ∙ same_page x (author_of t x) asked.ids))

@@ -16,7 +16,6 @@ use Rattle.shop_history.specs.declared.keys.Row.{Row}
 use Rattle.shop_history.specs.declared.keys.Row.TheVariants as row
 use Rattle.shop_history.specs.Keys.{row_of, shown, label_of}
 use Rattle.shop_history.specs.Logs.{tables}
-use Rattle.shop_history.proofs.Goods.{good_log}
 use Rattle.shop_history.proofs.Places.{some_row, all_numbered}
 use Rattle.shop_attempt.specs.declared.attempts.ReadOf.{ReadOf}
 use Rattle.shop_attempt.specs.Reads.{IsReadOf}
@@ -27,7 +26,7 @@ use Rattle.shop_browse.specs.Attempts.{AddsLabels, AreReadFor}
 use Rattle.shop_browse.specs.Footprints.{drawn_item, IsAbout}
 use Rattle.shop_browse.specs.Promotions.{related_in, ArePromotionReads, ShowsLabels, IsLinkOf, AddsFirst, Added, AddsLinks, AddsPromotion}
 use Rattle.shop_browse.proofs.Attempting.{for_push}
-use Rattle.shop_browse.proofs.Items.{same_size, item_found}
+use Rattle.shop_browse.proofs.Items.{same_size, item_found, seat_sound}
 use Rattle.shop_browse.proofs.Keyed.{as_many, key_at}
 use Rattle.shop_browse.proofs.Labelling.{read_since, labels_for}
 
@@ -58,9 +57,8 @@ promotion_read start middle now draw drawn item ids before labels first seat sec
     let size : length t.items ≡ length start.opening.items = same_size now.opening now.seen ∙ ap (λ (u : Tables). length u.items) looked.follows.opening in
     let same : length then.items ≡ length t.items
     = same_size middle.opening middle.seen ∙ ap (λ (u : Tables). length u.items) (sym second.follows.opening) ∙ sym (same_size now.opening now.seen) in
-    let sound : Sound then = (good_log middle.opening (middle.limit + 1) seat.good middle.seen seat.legal (omega (arith, seat.short))).sound in
     let there : All (Has (length t.items)) ids
-    = subst (λ n. All (Has n) ids) same (subst (All (Has (length then.items))) (sym is_ids) (related_there then drawn item.row sound is.is.row)) in
+    = subst (λ n. All (Has n) ids) same (subst (All (Has (length then.items))) (sym is_ids) (related_there then drawn item.row (seat_sound middle seat) is.is.row)) in
     let labels_are : labels ≡ adds.labels = adds.added ∙ ap (λ (l : List ReadOf). l ++ adds.labels) none in
     let key_is : item.key ≡ key.Item (drawn_item t draw) = is.key_is ∙ ap key.Item (is_drawn ∙ ap (λ n. 1 + draw % n) (sym size)) in
     for_push start now request draw labels item
@@ -101,10 +99,10 @@ link_at t ids items labels i read link lt is shows links =
     let within : i < length items = omega (arith, lt, as_many key.Label items labels shows.keys) in
     links t (get_or items i 0) (shows.there i 0 within) (key_at key.Label items labels shows.keys i 0 read within is) (shows_at t labels i read lt is shows.shows)
 
-pub none_some : {A : Type 0} (o : Option A) (x : A) → o ≡ None → o ≡ Some x → ⊥
+none_some : {A : Type 0} (o : Option A) (x : A) → o ≡ None → o ≡ Some x → ⊥
 none_some o x none some = let apart : None ≡ Some x = sym none ∙ some in absurd cc
 
-pub same_some : {A : Type 0} (x y : A) → Some x ≡ Some y → x ≡ y
+same_some : {A : Type 0} (x y : A) → Some x ≡ Some y → x ≡ y
 same_some x y is = cc
 
 pub no_links : (ids : IdsAsked) (labels : List ReadOf) (i : ℕ) (read : ReadOf) (link : Option Block) (old new : List Block) → i < length labels → read ≡ get_or labels i read

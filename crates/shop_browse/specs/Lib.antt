@@ -3,3 +3,4 @@ pub mod Attempts
 pub mod Lists
 pub mod Products
 pub mod Promotions
+pub mod Homes

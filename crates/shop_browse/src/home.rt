@@ -1,10 +1,14 @@
 ghost use Rattle.std.specs.Prelude.{◌≡◌, ◌++◌, ℕ, Some, None, IfOk, OnOk, length, option_copied, [], ◌∷◌};
+ghost use Rattle.shop_model.specs.declared.refusal.Refusal.TheVariants.{NoCustomer};
 ghost use Rattle.shop_model.specs.Catalogues.{catalogue};
+ghost use Rattle.shop_model.specs.Refusals.{page_of};
 ghost use Rattle.shop_model.specs.Show as spec;
 ghost use Rattle.shop_attempt.specs.Marks.{KeepsMarks};
 ghost use Rattle.shop_attempt.specs.Seats.{Looked};
 ghost use Rattle.shop_browse.specs.Attempts.{AttemptedAs};
-ghost use Rattle.shop_browse.specs.Promotions.{IsShownBy};
+ghost use Rattle.shop_browse.specs.Attempts.{attempt_of as attempt_of_lem};
+ghost use Rattle.shop_browse.specs.Homes.{IsGreeting, Greets};
+ghost use Rattle.shop_browse.specs.Promotions.{IsShownBy, promotion_reads};
 
 use crate::attempted::attempt_of;
 use crate::links::{push_nav, subject_link};
@@ -105,12 +109,60 @@ fn home_page(
 }
 
 /// One read.
-fn alone(alloc: Global, read: ReadOf) -> Result<Listed<ReadOf>, Memory>
+fn one_read(alloc: Global, read: ReadOf) -> Result<Listed<ReadOf>, Memory>
     ensures { IfOk result (λ reads. reads ≡ read ∷ []) }
 {
     let mut reads = Listed::with_capacity(alloc, 1)?;
     reads.push(read)?;
     Ok(reads)
+}
+
+/// No customer has the number.
+fn unknown(alloc: Global, ask: &Ask, known: ReadOf) -> Result<Attempted, Memory>
+    ensures { IfOk result (λ attempted. attempted ≡ attempt_of_lem (known ∷ []) ask.now.moment ask.now.draw (Some (page_of NoCustomer))) }
+{
+    let reads = one_read(alloc, known)?;
+    let page = refusal_page(alloc, Refusal::NoCustomer)?;
+    Ok(attempt_of(reads, ask, Some(page)))
+}
+
+/// The page for the customer in a row; another row has none.
+fn greeting_page(
+    alloc: Global,
+    promotion: &Promotion,
+    ids: IdsAsked,
+    draw: u32,
+    known: &Row,
+) -> Result<Option<Page>, Memory>
+    ensures { IfOk result (IsGreeting ids known.now promotion.now draw) }
+{
+    match known {
+        Row::Customer(customer) => home_page(alloc, promotion, ids, draw, Some(customer)),
+        _ => Ok(None),
+    }
+}
+
+/// What was read of a customer behind what was read of a promotion.
+fn both(known: ReadOf, promotion: Promotion) -> Result<Listed<ReadOf>, Memory>
+    ensures { IfOk result (λ reads. reads ≡ promotion_reads promotion ++ known ∷ []) }
+{
+    let mut reads = promotion.into_reads()?;
+    reads.push(known)?;
+    Ok(reads)
+}
+
+/// By what was read of the customer and of a promotion.
+fn greeted(
+    alloc: Global,
+    ask: &Ask,
+    ids: IdsAsked,
+    known: ReadOf,
+    promotion: Promotion,
+) -> Result<Attempted, Memory>
+    ensures { IfOk result (Greets ids known promotion ask.now.moment ask.now.draw) }
+{
+    let page = greeting_page(alloc, &promotion, ids, ask.draw, &known.row)?;
+    Ok(attempt_of(both(known, promotion)?, ask, page))
 }
 
 /// For anyone.
@@ -149,18 +201,11 @@ fn greet<St: Store>(
 {
     let known = read(store, Key::Customer(number))?;
     match &known.row {
-        Row::Absent => {
-            let page = refusal_page(alloc, Refusal::NoCustomer)?;
-            Ok(attempt_of(alone(alloc, known)?, ask, Some(page)))
-        }
-        Row::Customer(customer) => {
+        Row::Absent => unknown(alloc, ask, known),
+        _ => {
             let promotion = read_promotion(alloc, store, ask)?;
-            let page = home_page(alloc, &promotion, asked.ids, ask.draw, Some(customer))?;
-            let mut reads = promotion.into_reads()?;
-            reads.push(known)?;
-            Ok(attempt_of(reads, ask, page))
+            greeted(alloc, ask, asked.ids, known, promotion)
         }
-        _ => Ok(attempt_of(alone(alloc, known)?, ask, None)),
     }
 }
 

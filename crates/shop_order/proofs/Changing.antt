@@ -1,5 +1,5 @@
 -- From what was read, the lines and the draft to an attempt.
-use Rattle.std.proofs.Common.{◌≡◌, ℕ, List, [], ◌∷◌, ◌++◌, length, Option, Some, None, IsSome, option_map, unwrap_or, refl, sym, ◌∙◌, ap, subst, arith}
+use Rattle.std.proofs.Common.{◌≡◌, ℕ, ◌+◌, List, [], ◌∷◌, ◌++◌, length, Option, Some, None, option_map, unwrap_or, refl, sym, ◌∙◌, ap, subst, arith}
 use Rattle.std.proofs.lemmas.Bool.{cond-false, ne_eqb}
 use Rattle.shop_model.specs.declared.refusal.Refusal.{Refusal}
 use Rattle.shop_model.specs.declared.requests.Request.TheVariants.{CartRequest}
@@ -9,21 +9,24 @@ use Rattle.shop_model.specs.Carts.{cart_lines, check_cart, check_asked, check_li
 use Rattle.shop_model.specs.Lookups.{row_numbered}
 use Rattle.shop_model.specs.Refusals.{page_of}
 use Rattle.shop_model.specs.Rows.{CartRow}
-use Rattle.shop_model.specs.Show.{refused}
+use Rattle.shop_model.specs.Show.{refused_or}
 use Rattle.shop_model.specs.Sound.{Sound}
 use Rattle.shop_history.specs.declared.acts.Act.TheVariants.{Cart}
 use Rattle.shop_history.specs.declared.acts.Ids.{Ids}
 use Rattle.shop_history.specs.declared.drafts.Draft.TheVariants as draft
 use Rattle.shop_history.specs.declared.drafts.Waiting.{Waiting}
-use Rattle.shop_history.specs.Acts.{with_carts, new_cart, play}
+use Rattle.shop_history.specs.Acts.{play}
 use Rattle.shop_history.specs.Drafts.{filled, HasIds}
-use Rattle.shop_history.proofs.Carts.{same_items}
+use Rattle.shop_history.specs.Drawing.{new_id, new_ids}
+use Rattle.shop_history.proofs.Drawing.{id_pushed}
 use Rattle.shop_history.proofs.Goods.{lines_after_fit}
+use Rattle.shop_history.proofs.Kept.{same_items}
 use Rattle.shop_history.proofs.Places.{is_there}
 use Rattle.shop_attempt.specs.declared.attempts.ReadOf.{ReadOf}
-use Rattle.shop_attempt.specs.Faithful.{put_cart, Makes}
+use Rattle.shop_attempt.specs.Faithful.{Makes}
 use Rattle.shop_attempt.specs.Reads.{Shows, Agrees}
 use Rattle.shop_attempt.specs.Seats.{Seat, Looked}
+use Rattle.shop_attempt.specs.Writes.{put_row}
 use Rattle.shop_browse.specs.declared.attempted.Attempted.{Attempted}
 use Rattle.shop_browse.specs.Attempts.{AreReadFor, Becomes, AttemptedAs, attempt_of}
 use Rattle.shop_browse.proofs.Attempting.{true_for, reads_only}
@@ -46,7 +49,7 @@ refused_attempt now asked moment draw items cart refusal result refuses is start
       drafts = λ t agrees.
           let same : check_cart t asked ≡ Some refusal
           = refuses t (same_items now.opening t agrees.catalogue ∙ ap (λ (u : Tables). length u.items) looked.follows.opening ∙ sym size) agrees.shows in
-          record { alone = subst IsSome (sym same) refl; page_is = ap (λ (o : Option Refusal). draft.Fixed (refused o)) (sym same) };
+          record { page = page_of refusal; shows = ap (λ o. refused_or o None) same; draft_is = refl };
     })
 
 pub never_attempt : (now : Seat) (asked : CartAsked) (moment draw items : ℕ) (cart : Option ReadOf) (result : Attempted) → ((t : Tables) → Shows t (cart_reads cart) → ⊥)
@@ -90,7 +93,7 @@ named_row None old is = absurd cc
 named_row (Some cart) old is = (cart, refl)
 
 put_is : (carts : List CartRow) (named : Option ℕ) (old lines : List (ℕ × ℕ)) → lines_named carts named ≡ Some old
-    → put_cart carts (record { id = unwrap_or named 0; lines = lines }) ≡ carts_with carts named lines
+    → put_row carts (unwrap_or named 0) (λ id. record { id = id; lines = lines }) ≡ carts_with carts named lines
 put_is carts None old lines there = refl
 put_is carts (Some id) old lines there =
     let row = named_row (row_numbered carts id) old there in
@@ -101,22 +104,23 @@ makes_lines : (t : Tables) (stamp : ℕ) (asked : CartAsked) (draw : ℕ) (lines
 makes_lines t stamp asked draw lines leaves = record {
   passes = leaves.passes;
   tables_are =
-      ap (with_carts t) (put_is t.carts asked.ids.cart leaves.old lines leaves.named)
-      ∙ ap (λ (l : List (ℕ × ℕ)). with_carts t (carts_with t.carts asked.ids.cart l)) (sym leaves.after);
+      ap (λ (carts : List CartRow). record t { carts = carts })
+      (put_is t.carts asked.ids.cart leaves.old lines leaves.named ∙ ap (carts_with t.carts asked.ids.cart) (sym leaves.after));
 }
 
 -- the draft becomes the page
 
-is_cart_of : (carts : List CartRow) (named : Option ℕ) → IsCartOf named (new_cart carts named) (cart_meant carts named)
-is_cart_of carts None = refl
-is_cart_of carts (Some id) = refl
+is_cart_of : (carts : List CartRow) (named : Option ℕ) (lines : List (ℕ × ℕ)) (drawn : Ids) → drawn.cart ≡ new_id carts (carts_with carts named lines)
+    → IsCartOf named drawn (cart_meant carts named)
+is_cart_of carts None lines drawn is = is ∙ id_pushed carts (record { id = length carts + 1; lines = lines })
+is_cart_of carts (Some id) lines drawn is = refl
 
 becomes : (t : Tables) (stamp : ℕ) (asked : CartAsked) (draw : ℕ) (lines : List (ℕ × ℕ)) (page : Waiting) → Leaves t asked draw lines → page ≡ cart_draft t asked.ids lines
-    → Becomes (play t stamp (Cart asked draw)) stamp (draft.Waiting page)
+    → Becomes t stamp (Cart asked draw) (draft.Waiting page)
 becomes t stamp asked draw lines page leaves is =
-    let drawn : Ids = new_cart t.carts asked.ids.cart in
+    let drawn : Ids = new_ids t (play t stamp (Cart asked draw)).tables in
     let cart : ℕ = cart_meant t.carts asked.ids.cart in
-    let of : IsCartOf asked.ids.cart drawn cart = is_cart_of t.carts asked.ids.cart in
+    let of : IsCartOf asked.ids.cart drawn cart = is_cart_of t.carts asked.ids.cart (lines_after t asked draw) drawn refl in
     record {
       asks = subst (λ (w : Waiting). HasIds drawn (draft.Waiting w)) (sym is) (asks_cart_alone stamp drawn t asked.ids lines cart of);
       page_is =
@@ -160,7 +164,7 @@ module _ (start middle now : Seat) (asked : CartAsked) (moment draw items : ℕ)
       };
     };
     drafts = (
-      refl,
+      record { does = refl; drew = refl },
       λ t stamp agrees bound.
           becomes t stamp asked draw lines page (leaves_there t agrees) (drafts t (shows_append t rows (cart_reads cart) agrees.shows).0),
     );

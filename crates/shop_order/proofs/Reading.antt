@@ -1,5 +1,5 @@
 -- Reads of a cart, and of the items of its lines one after another.
-use Rattle.std.proofs.Common.{◌≡◌, ℕ, ◌+◌, ◌-◌, ◌<◌, List, [], ◌∷◌, ◌++◌, length, map, take, Option, Some, None, refl, sym, ◌∙◌, ap, subst, arith}
+use Rattle.std.proofs.Common.{◌≡◌, ℕ, ◌+◌, ◌<◌, List, [], ◌∷◌, ◌++◌, length, map, take, Option, Some, None, refl, sym, ◌∙◌, ap, subst}
 use Rattle.std.proofs.lemmas.List.{map-append, map_more}
 use Rattle.shop_model.specs.declared.tables.Tables.{Tables}
 use Rattle.shop_model.specs.Lookups.{row_numbered}
@@ -9,13 +9,13 @@ use Rattle.shop_history.specs.declared.keys.Key.{Key}
 use Rattle.shop_history.specs.declared.keys.Key.TheVariants as key
 use Rattle.shop_history.specs.declared.keys.Row.TheVariants as row
 use Rattle.shop_history.specs.Keys.{shown}
-use Rattle.shop_history.specs.Logs.{tables, IsGood}
-use Rattle.shop_history.proofs.Goods.{good_log}
+use Rattle.shop_history.specs.Logs.{tables}
 use Rattle.shop_history.proofs.Places.{all_numbered}
 use Rattle.shop_attempt.specs.declared.attempts.ReadOf.{ReadOf}
 use Rattle.shop_attempt.specs.Reads.{IsReadOf, AreReadSince}
 use Rattle.shop_attempt.specs.Seats.{Seat, IsSeat, Looked}
 use Rattle.shop_attempt.proofs.Looks.{looked_trans, since_push, all_since_later}
+use Rattle.shop_browse.proofs.Items.{seat_sound}
 use Rattle.shop_browse.proofs.Labelling.{read_since}
 use Rattle.shop_order.specs.Begun.{IsFitRow, ReadsCart}
 use Rattle.shop_order.specs.Lines.{ReadsItems}
@@ -27,18 +27,12 @@ fit_shown : (t : Tables) (id : ℕ) (o : Option CartRow) → row_numbered t.cart
 fit_shown t id None is sound = tt
 fit_shown t id (Some cart) is sound = all_numbered IsFit t.carts id cart is sound.carts
 
-sound_now : (seat : Seat) → IsSeat seat → Sound (tables seat.opening seat.seen)
-sound_now seat valid =
-    let good : IsGood (tables seat.opening seat.seen) (seat.limit + 1 - length seat.seen)
-    = good_log seat.opening (seat.limit + 1) valid.good seat.seen valid.legal (omega (arith, valid.short)) in
-    good.sound
-
 pub cart_read : (start now : Seat) (id : ℕ) (read : ReadOf) → Looked start now → IsSeat now → IsReadOf now (key.Cart id) read → ReadsCart start now (Some id) (Some read)
 cart_read start now id read looked valid is =
     let t : Tables = tables now.opening now.seen in
     record {
       is_named = is.key_is;
-      fit = subst IsFitRow (sym is.is.row) (fit_shown t id (row_numbered t.carts id) refl (sound_now now valid));
+      fit = subst IsFitRow (sym is.is.row) (fit_shown t id (row_numbered t.carts id) refl (seat_sound now valid));
       since = (read_since start now (key.Cart id) read looked is, tt);
     }
 

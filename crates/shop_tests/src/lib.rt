@@ -2,6 +2,12 @@
 #![tactic(auto)]
 
 #[cfg(test)]
+mod books;
+#[cfg(test)]
+mod cancelling;
+#[cfg(test)]
+mod desk;
+#[cfg(test)]
 mod ends;
 #[cfg(test)]
 mod limits;

@@ -31,7 +31,7 @@ raise_changed-requires-clause-watchable c = λ k d within.
     }
 
 pub new_ids-requires : goal.new_ids-requires
-new_ids-requires c = subst IdsFit (sym (c.put_writes.ensures no_tables)) c.requires.ready.fits
+new_ids-requires c = (c.requires.ready.tables, subst IdsFit (sym (c.put_writes.ensures c.requires.ready.tables)) c.requires.ready.fits)
 
 pub returns-clause-raised : goal.returns-clause-raised
 returns-clause-raised c = λ t.

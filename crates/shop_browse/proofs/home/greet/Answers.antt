@@ -1,28 +1,59 @@
-use Rattle.std.proofs.Common.{[], ◌∷◌, ◌++◌, Some, ◌∙◌, ap, refl, List}
+use Rattle.std.proofs.Common.{◌≡◌, [], ◌∷◌, ◌++◌, Some, refl}
+use Rattle.std.proofs.lemmas.Result.{IfOk-weaker}
+use Rattle.shop_model.specs.declared.refusal.Refusal.TheVariants.{NoCustomer}
 use Rattle.shop_model.specs.declared.requests.Request.TheVariants.{Home}
-use Rattle.shop_attempt.specs.declared.attempts.ReadOf.{ReadOf}
+use Rattle.shop_model.specs.Lookups.{row_numbered}
+use Rattle.shop_model.specs.Refusals.{page_of}
+use Rattle.shop_history.specs.Logs.{tables}
 use Rattle.shop_attempt.proofs.Looks.{looked_trans}
+use Rattle.shop_attempt.proofs.Marks.{keeps_then, keeps_call}
+use Rattle.shop_browse.specs.declared.attempted.Attempted.{Attempted}
+use Rattle.shop_browse.specs.Attempts.{AttemptedAs, attempt_of}
+use Rattle.shop_browse.specs.Homes.{Greets}
 use Rattle.shop_browse.specs.Promotions.{promotion_reads}
-use Rattle.shop_browse.proofs.Homes.{customer_alone, promotion_and_customer, refusal_shown, customer_shown}
+use Rattle.shop_browse.proofs.Homes.{customer_alone, promotion_and_customer, refusal_shown, customer_shown, customer_known}
 use Rattle.shop_browse.proofs.Items.{attempted_from}
 use Rattle.shop_browse.proofs.home.greet.Goals as goal
 
-pub returns-in_ok-alone-in-Absent-clause-attempted : goal.returns-in_ok-alone-in-Absent-clause-attempted
-returns-in_ok-alone-in-Absent-clause-attempted g c =
-    attempted_from _ _ (Home c.args.asked.now) _ _ c.args.ask.now.index.now (c.in_ok-known.known ∷ []) c.in_ok-alone-in-Absent.field-0 (Some c.in_ok-page-in-Absent.page) c.attempt_of.result
-    c.attempt_of.ensures c.in_ok-alone-in-Absent.ensures refl c.requires.index c.in_ok-known.ensures.looked
-    (customer_alone _ _ c.args.asked.now c.args.ask.now.draw c.args.number c.in_ok-known.known c.in_ok-known.ensures.looked c.requires.number c.in_ok-known.ensures.read)
-    (refusal_shown c.args.ask.now.index.now c.args.ask.now.draw c.args.number c.args.asked.now c.in_ok-known.known c.in_ok-page-in-Absent.page
-    c.requires.number c.in_ok-known.ensures.read.key_is c.in-Absent.is c.in_ok-page-in-Absent.ensures)
+pub returns-in-Absent-clause-attempted : goal.returns-in-Absent-clause-attempted
+returns-in-Absent-clause-attempted g c =
+    let start = g.St.Store.seat c.args.store.now in
+    let now = g.St.Store.seat c.read.new.store in
+    let ask = c.args.ask.now in
+    let asked = c.args.asked.now in
+    let known = c.in_ok-known.known in
+    IfOk-weaker c.unknown.result (λ (a : Attempted). a ≡ attempt_of (known ∷ []) ask.moment ask.draw (Some (page_of NoCustomer))) (AttemptedAs start now (Home asked) ask.moment ask.draw)
+    (λ attempted is. attempted_from start now (Home asked) ask.moment ask.draw ask.index.now (known ∷ []) (known ∷ []) (Some (page_of NoCustomer)) attempted is refl c.requires.index c.read.ensures.looked
+    (customer_alone start now asked ask.draw c.args.number known c.read.ensures.looked c.requires.number c.in_ok-known.ensures.read)
+    (refusal_shown ask.index.now ask.draw c.args.number asked known (page_of NoCustomer) c.requires.number c.in_ok-known.ensures.read.key_is c.in-Absent.is refl)) c.unknown.ensures
 
-pub returns-in_ok-push-in-Customer-clause-attempted : goal.returns-in_ok-push-in-Customer-clause-attempted
-returns-in_ok-push-in-Customer-clause-attempted g c =
-    attempted_from _ _ (Home c.args.asked.now) _ _ c.args.ask.now.index.now (promotion_reads c.in_ok-promotion-in-Customer.promotion ++ c.in_ok-known.known ∷ []) c.push.new.self
-    c.in_ok-page-in-Customer.page c.attempt_of-in-Customer.result
-    c.attempt_of-in-Customer.ensures (c.in_ok-push-in-Customer.ensures.ok ∙ ap (λ (l : List ReadOf). l ++ c.in_ok-known.known ∷ []) c.in_ok-reads-in-Customer.ensures) refl c.requires.index
-    (looked_trans _ _ _ c.in_ok-known.ensures.looked c.in_ok-promotion-in-Customer.ensures.looked)
-    (promotion_and_customer _ _ _ c.args.asked.now c.args.ask.now.draw c.args.number c.in_ok-promotion-in-Customer.promotion c.in_ok-known.known
-    c.in_ok-known.ensures.looked c.in_ok-promotion-in-Customer.ensures.looked c.requires.number c.in_ok-known.ensures.read c.in_ok-promotion-in-Customer.ensures.reads)
-    (customer_shown (g.St.Store.seat c.args.store.now).opening c.args.ask.now.index.now c.args.ask.now.scale.now.items c.args.ask.now.draw c.args.number c.args.asked.now
-    c.in_ok-promotion-in-Customer.promotion c.in_ok-known.known c.in-Customer.customer c.in_ok-page-in-Customer.page
-    c.in_ok-promotion-in-Customer.ensures.drawn c.requires.scale c.requires.index c.requires.number c.in_ok-known.ensures.read.key_is c.in-Customer.is c.in_ok-page-in-Customer.ensures)
+pub returns-in_err-promotion-in_default-clause-looked : goal.returns-in_err-promotion-in_default-clause-looked
+returns-in_err-promotion-in_default-clause-looked g c = looked_trans _ _ _ c.read.ensures.looked c.read_promotion.ensures.looked
+
+pub returns-in_err-promotion-in_default-clause-marks : goal.returns-in_err-promotion-in_default-clause-marks
+returns-in_err-promotion-in_default-clause-marks g c = keeps_then _ _ _ _ _ _ (keeps_call _ _ _ _ c.read.ensures.marks c.read.ensures.marked) c.read_promotion.ensures.marks
+
+pub returns-in_ok-promotion-in_default-clause-looked : goal.returns-in_ok-promotion-in_default-clause-looked
+returns-in_ok-promotion-in_default-clause-looked g c = looked_trans _ _ _ c.read.ensures.looked c.read_promotion.ensures.looked
+
+pub returns-in_ok-promotion-in_default-clause-marks : goal.returns-in_ok-promotion-in_default-clause-marks
+returns-in_ok-promotion-in_default-clause-marks g c = keeps_then _ _ _ _ _ _ (keeps_call _ _ _ _ c.read.ensures.marks c.read.ensures.marked) c.read_promotion.ensures.marks
+
+pub returns-in_ok-promotion-in_default-clause-attempted : goal.returns-in_ok-promotion-in_default-clause-attempted
+returns-in_ok-promotion-in_default-clause-attempted g c =
+    let start = g.St.Store.seat c.args.store.now in
+    let middle = g.St.Store.seat c.read.new.store in
+    let now = g.St.Store.seat c.read_promotion.new.store in
+    let ask = c.args.ask.now in
+    let asked = c.args.asked.now in
+    let known = c.in_ok-known.known in
+    let promotion = c.in_ok-promotion-in_default.promotion in
+    let reads = promotion_reads promotion ++ known ∷ [] in
+    let customer = customer_known (row_numbered (tables middle.opening middle.seen).customers c.args.number) known.row c.in_ok-known.ensures.read.is.row c.in_default.not-Absent in
+    IfOk-weaker c.greeted.result (Greets asked.ids known promotion ask.moment ask.draw) (AttemptedAs start now (Home asked) ask.moment ask.draw)
+    (λ attempted greets. attempted_from start now (Home asked) ask.moment ask.draw ask.index.now reads reads greets.page attempted greets.is refl c.requires.index
+    (looked_trans start middle now c.read.ensures.looked c.read_promotion.ensures.looked)
+    (promotion_and_customer start middle now asked ask.draw c.args.number promotion known
+    c.read.ensures.looked c.read_promotion.ensures.looked c.requires.number c.in_ok-known.ensures.read c.in_ok-promotion-in_default.ensures.reads)
+    (customer_shown start.opening ask.index.now ask.scale.now.items ask.draw c.args.number asked promotion known customer.0 greets.page
+    c.in_ok-promotion-in_default.ensures.drawn c.requires.scale c.requires.index c.requires.number c.in_ok-known.ensures.read.key_is customer.1 (greets.greets customer.0 customer.1))) c.greeted.ensures

@@ -1,5 +1,5 @@
 use Rattle.std.proofs.Common.{◌<◌, take}
-use Rattle.shop_attempt.specs.Marks.{StillMarked}
+use Rattle.shop_attempt.specs.Marks.{KeepsMarks}
 use Rattle.shop_attempt.specs.Seats.{IsSeat, Looked}
 use Rattle.shop_browse.specs.Attempts.{AddsLabels}
 use Rattle.shop_browse.proofs.labels.read_labels.Given as goal
@@ -8,7 +8,7 @@ use Rattle.shop_browse.proofs.labels.read_labels.Given as goal
 abbrev pub invariant-loop-id : goal.invariant-loop-id
 invariant-loop-id g l = record {
   looked : Looked (g.St.Store.seat l.fn.store) (g.St.Store.seat l.store);
-  marks : StillMarked (g.St.Store.marked l.fn.store) (g.St.Store.marked l.store);
+  marks : KeepsMarks (g.St.Store.marked l.fn.store) (g.St.Store.marked l.store) (g.St.Store.seat l.fn.store) (g.St.Store.seat l.store);
   valid : 0 < l.id-index → IsSeat (g.St.Store.seat l.store);
   labels : AddsLabels (g.St.Store.seat l.fn.store) (g.St.Store.seat l.store) (take l.id-index l.ids) l.fn.reads l.reads;
 }

@@ -3,6 +3,7 @@ use Rattle.std.proofs.lemmas.Result.{IfOk-weaker}
 use Rattle.shop_model.specs.declared.requests.Request.TheVariants.{CartRequest}
 use Rattle.shop_model.specs.CartAsked.{CartAsked}
 use Rattle.shop_attempt.proofs.Looks.{looked_trans}
+use Rattle.shop_attempt.proofs.Marks.{keeps_then}
 use Rattle.shop_browse.specs.Attempts.{AttemptedAs}
 use Rattle.shop_order.specs.Begun.{IsNamed, ReadsCart}
 use Rattle.shop_order.specs.Changes.{AttemptsChange}
@@ -27,7 +28,7 @@ pub returns-clause-looked : goal.returns-clause-looked
 returns-clause-looked g c = looked_trans _ _ _ c.read_cart.ensures.looked c.attempt_by.ensures.looked
 
 pub returns-clause-marks : goal.returns-clause-marks
-returns-clause-marks g c = record { kept = λ front moment held. c.attempt_by.ensures.marks.kept front moment (c.read_cart.ensures.marks.kept front moment held) }
+returns-clause-marks g c = keeps_then _ _ _ _ _ _ c.read_cart.ensures.marks c.attempt_by.ensures.marks
 
 pub returns-clause-attempted : goal.returns-clause-attempted
 returns-clause-attempted g c =

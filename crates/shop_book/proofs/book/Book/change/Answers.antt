@@ -1,4 +1,4 @@
-use Rattle.std.proofs.Common.{◌≡◌, ℕ, ◌+◌, ◌==◌, if◌then◌else◌, List, [], ◌∷◌, ◌++◌, length, refl, sym, ◌∙◌, ap, subst, arith, length-append}
+use Rattle.std.proofs.Common.{◌≡◌, ℕ, ◌+◌, ◌==◌, if◌then◌else◌, List, [], ◌∷◌, ◌++◌, length, All, refl, sym, ◌∙◌, ap, subst, arith, length-append}
 use Rattle.shop_model.specs.declared.tables.Tables.{Tables}
 use Rattle.shop_attempt.specs.Writes.{written}
 use Rattle.shop_history.specs.declared.acts.Entry.{Entry}
@@ -13,7 +13,7 @@ use Rattle.shop_book.specs.RowsNow.{tables_with, HasRoom}
 use Rattle.shop_book.specs.Settles.{IsNext}
 use Rattle.shop_book.specs.Stored as versioned
 use Rattle.shop_book.specs.Stored.{stored}
-use Rattle.shop_book.specs.Watching.{AreOf, keys_of}
+use Rattle.shop_book.specs.Watching.{AreOf, IsWatchable, keys_of}
 use Rattle.shop_book.proofs.Changing.{cart_fits, names_fit, kept_roomy, ready, kept_after}
 use Rattle.shop_book.proofs.Puts.{named_length}
 use Rattle.shop_book.proofs.book.Book.change.Goals as goal
@@ -36,30 +36,28 @@ invariant_of-self c =
     (kept_roomy (book_of c.self.inside) c.self.inside.rows c.make_room.new.rows c.self.inside.versions c.make_room.new.versions c.self.inside.counts c.make_room.new.counts
     c.self.invariant c.make_room.ensures.rows c.make_room.ensures.versions c.make_room.ensures.places c.make_room.ensures.counts)
 
-pub change_rows-ids-requires-clause-ready : goal.change_rows-ids-requires-clause-ready
-change_rows-ids-requires-clause-ready c =
+pub change_rows-ids-requires : goal.change_rows-ids-requires
+change_rows-ids-requires c =
     let b : BookValue = book_of c.self.inside in
     let next : IsNext b c.args.entry c.args.writes.items = subst (λ (v : BookValue). IsNext v c.args.entry c.args.writes.items) (sym c.self.view_is) c.requires in
-    subst (AreReady c.make_room.new.rows c.args.entry.stamp) (sym c.in-Ok-named.ensures)
-    (ready b c.self.invariant.is_book c.args.entry c.args.writes.items next c.in-Ok.ensures.form c.self.inside.rows c.self.inside.versions c.self.inside.counts c.self.invariant
-    c.make_room.new.rows (c.make_room.ensures.rows c.self.inside.opening.tables)
-    (subst (HasRoom c.make_room.new.rows) (omega (arith, c.len-more.ensures, c.args.writes.ok.0)) c.if-not-make_room.ensures.rows_room))
-
-pub change_rows-ids-requires-clause-places : goal.change_rows-ids-requires-clause-places
-change_rows-ids-requires-clause-places c =
-    (kept_roomy (book_of c.self.inside) c.self.inside.rows c.make_room.new.rows c.self.inside.versions c.make_room.new.versions c.self.inside.counts c.make_room.new.counts
-    c.self.invariant c.make_room.ensures.rows c.make_room.ensures.versions c.make_room.ensures.places c.make_room.ensures.counts).places
-
-pub change_rows-ids-requires-clause-room : goal.change_rows-ids-requires-clause-room
-change_rows-ids-requires-clause-room c =
-    subst (versioned.HasRoom c.make_room.new.versions)
-    (omega (arith, c.len-more.ensures, c.args.writes.ok.0, ap length c.in-Ok-named.ensures, named_length (length c.self.inside.rows.customers.items) c.args.writes.items))
-    c.if-not-make_room.ensures.versions_room
-
-pub change_rows-ids-requires-clause-rows : goal.change_rows-ids-requires-clause-rows
-change_rows-ids-requires-clause-rows c = λ t.
-    subst (λ (watched : List Watched). AreOf (tables_with t c.make_room.new.rows) watched) (sym c.deref.ensures.value)
-    (subst (λ (u : Tables). AreOf u c.in-Ok.watched.items) (sym (c.make_room.ensures.rows t)) (c.in-Ok.ensures.rows t))
+    let count : ℕ = length c.self.inside.rows.customers.items in
+    let many : c.len-more.result ≡ length c.args.writes.items = omega (arith, c.len-more.ensures, c.args.writes.ok.0) in
+    let named_many : length c.in-Ok-named.writes.items ≡ length c.args.writes.items = ap length c.in-Ok-named.ensures ∙ named_length count c.args.writes.items in
+    record {
+      ready =
+          subst (AreReady c.make_room.new.rows c.args.entry.stamp) (sym c.in-Ok-named.ensures)
+          (ready b c.self.invariant.is_book c.args.entry c.args.writes.items next c.in-Ok.ensures.form c.self.inside.rows c.self.inside.versions c.self.inside.counts c.self.invariant
+          c.make_room.new.rows (c.make_room.ensures.rows c.self.inside.opening.tables)
+          (subst (HasRoom c.make_room.new.rows) many c.if-not-make_room.ensures.rows_room));
+      places =
+          (kept_roomy b c.self.inside.rows c.make_room.new.rows c.self.inside.versions c.make_room.new.versions c.self.inside.counts c.make_room.new.counts
+          c.self.invariant c.make_room.ensures.rows c.make_room.ensures.versions c.make_room.ensures.places c.make_room.ensures.counts).places;
+      room = subst (versioned.HasRoom c.make_room.new.versions) (many ∙ sym named_many) c.if-not-make_room.ensures.versions_room;
+      rows = λ t.
+          subst (λ (watched : List Watched). AreOf (tables_with t c.make_room.new.rows) watched) (sym c.deref.ensures.value)
+          (subst (λ (u : Tables). AreOf u c.in-Ok.watched.items) (sym (c.make_room.ensures.rows t)) (c.in-Ok.ensures.rows t));
+      kinds = subst (λ (watched : List Watched). All (λ w. IsWatchable w.key) watched) (sym c.deref.ensures.value) c.in-Ok.ensures.kinds;
+    }
 
 pub invariant_of-self-2 : goal.invariant_of-self-2
 invariant_of-self-2 c =

@@ -1,6 +1,4 @@
-use Rattle.std.proofs.Common.{subst}
 use Rattle.shop_book.specs.BookView.{book_of}
-use Rattle.shop_book.specs.Books.{IsBook}
 use Rattle.shop_book.proofs.Kept.{auth_is}
 use Rattle.shop_book.proofs.book.Book.has_auth.Goals as goal
 
@@ -8,6 +6,3 @@ pub returns-clause-value : goal.returns-clause-value
 returns-clause-value c =
     rw (← c.self.view_is)
     (auth_is (book_of c.self.inside) c.self.inside.rows c.self.invariant.is_book c.self.invariant.rows_are c.args.auth.now c.deref.result.now c.some_auth.result c.deref.ensures.value c.some_auth.ensures)
-
-pub returns-clause-kept : goal.returns-clause-kept
-returns-clause-kept c = subst IsBook c.self.view_is c.self.invariant.is_book

@@ -1,8 +1,8 @@
 use Rattle.std.proofs.Common.{◌∙◌, ap, subst}
 use Rattle.shop_model.specs.declared.tables.Tables.{Tables}
 use Rattle.shop_history.specs.Keys.{row_of}
-use Rattle.shop_book.specs.Books.{IsBook}
 use Rattle.shop_book.specs.BookView.{book_of}
+use Rattle.shop_book.specs.Laws.{IsGoodThroughout}
 use Rattle.shop_book.proofs.Kept.{sound_now, lists_now}
 use Rattle.shop_book.proofs.Laws.{version_shortest, good_throughout}
 use Rattle.shop_book.proofs.book.Book.read.Goals as goal
@@ -13,11 +13,8 @@ shown-requires-clause-sound c = sound_now (book_of c.self.inside) c.self.inside.
 pub shown-requires-clause-lists : goal.shown-requires-clause-lists
 shown-requires-clause-lists c = lists_now (book_of c.self.inside) c.self.inside.rows c.self.invariant.is_book c.self.invariant.rows_are
 
-pub returns-in_err-row-clause-kept : goal.returns-in_err-row-clause-kept
-returns-in_err-row-clause-kept c = subst IsBook c.self.view_is c.self.invariant.is_book
-
 pub returns-in_err-row-clause-sound : goal.returns-in_err-row-clause-sound
-returns-in_err-row-clause-sound c = good_throughout c.args.self.now (returns-in_err-row-clause-kept c)
+returns-in_err-row-clause-sound c = subst IsGoodThroughout c.self.view_is (good_throughout (book_of c.self.inside) c.self.invariant.is_book)
 
 pub returns-clause-row : goal.returns-clause-row
 returns-clause-row c =
@@ -26,11 +23,8 @@ returns-clause-row c =
 pub returns-clause-version : goal.returns-clause-version
 returns-clause-version c = rw (← c.self.view_is) (c.of.ensures ∙ c.self.invariant.versions_are c.args.key.now)
 
-pub returns-clause-kept : goal.returns-clause-kept
-returns-clause-kept c = subst IsBook c.self.view_is c.self.invariant.is_book
-
 pub returns-clause-shortest : goal.returns-clause-shortest
 returns-clause-shortest c = version_shortest c.args.self.now.opening.tables c.args.self.now.log c.args.key.now c.of.result (returns-clause-version c)
 
 pub returns-clause-sound : goal.returns-clause-sound
-returns-clause-sound c = good_throughout c.args.self.now (returns-clause-kept c)
+returns-clause-sound c = subst IsGoodThroughout c.self.view_is (good_throughout (book_of c.self.inside) c.self.invariant.is_book)

@@ -1,6 +1,5 @@
 use Rattle.std.proofs.Common.{◌≡◌, ◌∷◌, length, ap, ◌∙◌, subst, sym, add-one}
 use Rattle.std.specs.Vec.Iter.{into_iter_items}
-use Rattle.shop_model.specs.Empty.{no_tables}
 use Rattle.shop_attempt.specs.Writes.{written}
 use Rattle.shop_book.specs.RowsNow.{tables_with}
 use Rattle.shop_book.specs.Puts.{IdsFit}
@@ -13,10 +12,11 @@ put_write-requires c =
     let rest = into_iter_items c.next.new.self in
     let write = c.in-Some.write in
     let is = c.in-Some.ensures.steps.0 in
-    let made : written (tables_with no_tables rows) c.args.stamp (write ∷ rest) ≡ written (tables_with no_tables c.args.self.now) c.args.stamp c.args.writes.items = ap (written (tables_with no_tables rows) c.args.stamp) (sym is) ∙ c.loop-write.invariant.made no_tables in
+    let made : written (tables_with c.requires.tables rows) c.args.stamp (write ∷ rest) ≡ written (tables_with c.requires.tables c.args.self.now) c.args.stamp c.args.writes.items = ap (written (tables_with c.requires.tables rows) c.args.stamp) (sym is) ∙ c.loop-write.invariant.made c.requires.tables in
     record {
       room = room_one rows rest write (rw is at c.loop-write.invariant.room);
-      fits = first_fits (tables_with no_tables rows) c.args.stamp write rest (subst IdsFit (sym made) c.requires.fits);
+      tables = c.requires.tables;
+      fits = first_fits (tables_with c.requires.tables rows) c.args.stamp write rest (subst IdsFit (sym made) c.requires.fits);
       names = first_named (length rows.customers.items) write rest (rw is at c.loop-write.invariant.names);
       bound = c.requires.bound;
     }
@@ -30,5 +30,5 @@ loop-write-preserved c =
     record {
       made = λ t. ap (λ u. written u c.args.stamp rest) (c.put_write.ensures.made t) ∙ ap (written (tables_with t rows) c.args.stamp) (sym is) ∙ c.loop-write.invariant.made t;
       room = c.put_write.ensures.room (length rest) (rw (is, ← add-one) at c.loop-write.invariant.room);
-      names = rw (ap (λ u. length u.customers) (c.put_write.ensures.made no_tables)) (rest_named (tables_with no_tables rows) c.args.stamp write rest (rw is at c.loop-write.invariant.names));
+      names = rw (ap (λ u. length u.customers) (c.put_write.ensures.made c.requires.tables)) (rest_named (tables_with c.requires.tables rows) c.args.stamp write rest (rw is at c.loop-write.invariant.names));
     }
