@@ -22,11 +22,9 @@ use Rattle.shop_app.specs.Session.{IsAtOnce, IsSettled, moment_as, moments_of}
 
 -- a round is settled at once
 once : (place : Place) (told : IsSome place.latest) (log : List Entry) (round : Round) (kind : PointKind) → round.point.kind ≡ kind → PointAs place log round kind → IsAtOnce round.point
-once place told log round At is point = record { settled = subst IsSettled (sym is) tt; tries = point.tries.alone told }
-once place told log round Change is point = record { settled = subst IsSettled (sym is) tt; tries = point.tries.alone told }
 once place told log round (Busy conflicts) is point = absurd (point.others told)
-once place told log round Full is point = record { settled = subst IsSettled (sym is) tt; tries = point.tries.alone told }
 once place told log round Plain is point = absurd point
+once place told log round _ is point = record { settled = subst IsSettled (sym is) tt; tries = point.tries.alone told }
 
 rounds_once : (place : Place) (told : IsSome place.latest) (rounds : List Round) (before after : Progress) (log last : List Entry)
     → AreRounds place before log rounds after last → All (λ (r : Round). IsAtOnce r.point) rounds
@@ -38,9 +36,8 @@ rounds_once place told (round ∷ rounds) before after log last are =
 
 -- a refusal's point is plain
 refusal_plain : (stop : Stop) → All (λ p. (p ≡ plain_point) ⊎ IsAtOnce p) (last_points stop)
-refusal_plain Between = All-nil (λ (p : Point). (p ≡ plain_point) ⊎ IsAtOnce p)
-refusal_plain Inside = All-nil (λ (p : Point). (p ≡ plain_point) ⊎ IsAtOnce p)
 refusal_plain (Refusing status) = All-cons (λ (p : Point). (p ≡ plain_point) ⊎ IsAtOnce p) plain_point [] (inl refl) (All-nil (λ (p : Point). (p ≡ plain_point) ⊎ IsAtOnce p))
+refusal_plain _ = All-nil (λ (p : Point). (p ≡ plain_point) ⊎ IsAtOnce p)
 
 -- the points of a connection of the only caller
 pub all_at_once : (caller : Caller) (before after : Progress) (seat seat' : Seat) (old new : Streams) (stop : Stop) (points : List Point)
@@ -58,7 +55,6 @@ all_at_once caller before after seat seat' old new stop points served told =
 -- the stamp of a round's entry in a log that it begins
 stamp_made : (place : Place) (log final : List Entry) (round : Round) (kind : PointKind) → place.latest ≡ Some 0 → PointAs place log round kind → take (length round.seen) final ≡ round.seen
     → map (λ e. e.stamp) (made_as final round.point.front kind) ≡ moment_as round.point.moment kind
-stamp_made place log final round At first point begins = refl
 stamp_made place log final round Change first point begins =
     let extends : Extends round.seen final = subst (λ (l : List Entry). Extends l final) begins (take_extends final (length round.seen)) in
     let long : length round.seen ≡ length point.before + 1 = ap length point.seen ∙ length-append point.before (point.entry ∷ []) in
@@ -67,9 +63,7 @@ stamp_made place log final round Change first point begins =
     ∙ last_entry round.seen point.before point.entry round.point.front point.seen point.front in
     let stamp : point.entry.stamp ≡ round.point.moment = omega (arith, point.stamp.exact 0 first) in
     ap (map (λ (e : Entry). e.stamp)) made ∙ ap (λ n. n ∷ []) stamp
-stamp_made place log final round (Busy conflicts) first point begins = refl
-stamp_made place log final round Full first point begins = refl
-stamp_made place log final round Plain first point begins = absurd point
+stamp_made place log final round _ first point begins = refl
 
 stamps_made : (place : Place) (rounds : List Round) (before after : Progress) (log last final : List Entry) → place.latest ≡ Some 0 → AreRounds place before log rounds after last
     → All (λ r. take (length r.seen) final ≡ r.seen) rounds → map (λ e. e.stamp) (changes_of final (map (λ r. r.point) rounds)) ≡ moments_of (map (λ r. r.point) rounds)
@@ -84,13 +78,11 @@ stamps_made place (round ∷ rounds) before after log last final first are front
 -- a refusal changes nothing
 changes_last : (log : List Entry) (stop : Stop) → changes_of log (last_points stop) ≡ []
 changes_last log Between = refl
-changes_last log Inside = refl
-changes_last log (Refusing status) = refl
+changes_last log _ = refl
 
 moments_last : (stop : Stop) → moments_of (last_points stop) ≡ []
 moments_last Between = refl
-moments_last Inside = refl
-moments_last (Refusing status) = refl
+moments_last _ = refl
 
 pub stamps_are : (caller : Caller) (before after : Progress) (seat seat' : Seat) (old new : Streams) (stop : Stop) (points : List Point)
     → Served caller before after seat seat' old new stop points → seat.latest ≡ Some 0 → map (λ e. e.stamp) (changes_of seat'.seen points) ≡ moments_of points

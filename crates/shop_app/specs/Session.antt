@@ -65,10 +65,7 @@ pub record IsAtOnce (point : Point) : Type 0 where
 -- the moment of a change
 abbrev pub moment_as : ℕ → PointKind → List ℕ
 moment_as moment Change = moment ∷ []
-moment_as moment At = []
-moment_as moment Full = []
-moment_as moment (Busy conflicts) = []
-moment_as moment Plain = []
+moment_as moment _ = []
 
 -- the moments of the changes among these points, in order
 abbrev pub moments_of : List Point → List ℕ

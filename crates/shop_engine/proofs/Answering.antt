@@ -1,37 +1,26 @@
 -- How the point of a request makes a round.
-use Rattle.std.proofs.Common.{◌≡◌, ℕ, List, [], ◌∷◌, ◌++◌, Option, IsSome, refl, sym, ◌∙◌, ap, subst}
+use Rattle.std.proofs.Common.{◌≡◌, ℕ, List, [], ◌∷◌, ◌++◌, length, Option, IsSome, refl, sym, ◌∙◌, ap, subst}
 use Rattle.std.specs.Io.KnownBytes.{Appends}
-use Rattle.std.proofs.lemmas.List.Elements.{All-weaker}
 use Rattle.shop_edges.specs.Causes.{count_up}
 use Rattle.shop_edges.specs.Clocks.{Tells}
 use Rattle.shop_model.specs.declared.requests.Request.{Request}
 use Rattle.shop_model.specs.declared.tables.Tables.{Tables}
+use Rattle.shop_model.specs.Catalogues.{Catalogue, catalogue}
 use Rattle.shop_model.specs.Checks.{check}
 use Rattle.shop_model.specs.Show.{show}
 use Rattle.shop_history.specs.Logs.{tables, page_at}
-use Rattle.shop_attempt.specs.declared.attempts.Conflict.{Conflict}
-use Rattle.shop_attempt.specs.Reads.{IsConflict}
 use Rattle.shop_attempt.specs.Seats.{Seat}
-use Rattle.shop_pages.specs.Replies.{reply}
-use Rattle.shop_browse.specs.Footprints.{InFootprint}
 use Rattle.shop_engine.specs.declared.report.Point.{Point}
 use Rattle.shop_engine.specs.declared.report.PointKind.{PointKind}
 use Rattle.shop_engine.specs.declared.report.PointKind.TheVariants.{Plain, At, Change, Busy, Full}
 use Rattle.shop_engine.specs.Points.{MetAs, IsPointOf}
-use Rattle.shop_engine.specs.Rounds.{Round, Place, PointAs, IsMetAt, moment_of, after_one, draw_of, going_on, reply_as, reply_of, made_as}
+use Rattle.shop_engine.specs.Rounds.{Round, PointAs, moment_of, after_one, draw_of, going_on, reply_as, reply_of, made_as}
 use Rattle.shop_engine.specs.Served.{place_of}
 use Rattle.shop_engine.specs.Steps.{Answered}
-use Rattle.shop_engine.specs.Tries.{Stays, IsMet, reply_of_page}
-use Rattle.shop_engine.specs.Workers.{Caller, Progress, WorkerState}
+use Rattle.shop_engine.specs.Tries.{Stays, reply_of_page}
+use Rattle.shop_engine.specs.Workers.{Caller, Progress, WorkerState, IsPosted}
 use Rattle.shop_engine.proofs.Lasts.{last_entry}
-
--- a conflict of a seat is one of its place
-met_at : (place : Place) (seat : Seat) (request : Request) (draw : ℕ) → seat.opening ≡ place.opening → seat.caller ≡ place.caller.number
-    → (conflict : Conflict) → IsMet seat request draw conflict → IsMetAt place seat.seen request draw conflict
-met_at place seat request draw opening number conflict met = record {
-  conflicts = subst (λ t. IsConflict t seat.seen place.caller.number conflict) opening (subst (λ n. IsConflict seat.opening seat.seen n conflict) number met.conflicts);
-  footprint = subst (λ t. InFootprint t seat.seen request draw conflict.key) opening met.footprint;
-}
+use Rattle.shop_engine.proofs.Retrying.{same_met}
 
 module _ (caller : Caller) (old new : Seat) (request : Request) (reading : ℕ) (point : Point) (bytes : List ℕ) (number : old.caller ≡ caller.number) where
   -- the round of the point
@@ -47,13 +36,20 @@ module _ (caller : Caller) (old new : Seat) (request : Request) (reading : ℕ) 
   stays_as Full met = met.full.stays
   stays_as Plain met = absurd met
 
-  -- what the place's opening tables are, and its caller
-  shown_there : (t : Tables) → new.opening ≡ t → IsSome (show (tables new.opening new.seen) request point.draw) → IsSome (show (tables t new.seen) request point.draw)
-  shown_there t opening alone = subst (λ u. IsSome (show (tables u new.seen) request point.draw)) opening alone
+  -- the caller is still posted at the seat
+  pub still_posted : (index : Catalogue) (kind : PointKind) → IsPosted old index caller → MetAs old new request point bytes kind → IsPosted new index caller
+  still_posted index kind was met =
+      let follows = (stays_as kind met).follows in
+      record {
+        valid = follows.valid was.valid;
+        number = follows.caller ∙ was.number;
+        named = was.named ∙ ap catalogue (sym follows.opening);
+        scaled = was.scaled ∙ ap (λ (t : Tables). length t.items) (sym follows.opening);
+      }
 
   point_as : (kind : PointKind) → new.opening ≡ old.opening → new.limit ≡ old.limit → new.caller ≡ old.caller → MetAs old new request point bytes kind
       → PointAs (place_of caller old) old.seen round_of kind
-  point_as At opening limit same met = record { front = met.1.shown.front_is; alone = shown_there old.opening opening met.1.shown.alone; tries = met.0 }
+  point_as At opening limit same met = record { front = met.1.shown.front_is; alone = subst (λ (t : Tables). IsSome (show (tables t new.seen) request point.draw)) opening met.1.shown.alone; tries = met.0 }
   point_as Change opening limit same met = record {
     before = met.1.changed.before;
     entry = met.1.entry;
@@ -69,7 +65,7 @@ module _ (caller : Caller) (old new : Seat) (request : Request) (reading : ℕ) 
     front = met.front_is;
     tries = met.tries_are;
     eight = met.busy.eight;
-    each = All-weaker _ _ (met_at (place_of caller old) new request point.draw opening (same ∙ number)) conflicts met.busy.met.each;
+    each = same_met new.opening old.opening new.seen new.caller caller.number request point.draw conflicts opening (same ∙ number) met.busy.met.each;
     rise = met.busy.met.rise;
     on = met.busy.met.on;
     others = met.busy.others;

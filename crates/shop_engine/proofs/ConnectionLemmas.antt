@@ -15,12 +15,9 @@ use Rattle.shop_model.specs.Checks.{check}
 use Rattle.shop_model.specs.Show.{show}
 use Rattle.shop_history.specs.declared.acts.Entry.{Entry}
 use Rattle.shop_history.specs.Logs.{tables}
-use Rattle.shop_attempt.specs.declared.attempts.Conflict.{Conflict}
-use Rattle.shop_attempt.specs.Reads.{IsConflict}
 use Rattle.shop_attempt.specs.Seats.{Seat}
-use Rattle.shop_browse.specs.Footprints.{InFootprint}
 use Rattle.shop_http.specs.declared.messages.Stop.{Stop}
-use Rattle.shop_http.specs.declared.messages.Stop.TheVariants.{Between, Inside, Refusing}
+use Rattle.shop_http.specs.declared.messages.Stop.TheVariants.{Refusing}
 use Rattle.shop_http.specs.Messages.{AreMessages}
 use Rattle.shop_http.specs.Nexts.{GivesRequest, Stops}
 use Rattle.shop_engine.specs.declared.report.Ended.{Ended}
@@ -28,12 +25,13 @@ use Rattle.shop_engine.specs.declared.report.Ended.TheVariants as ended
 use Rattle.shop_engine.specs.declared.report.Point.{Point}
 use Rattle.shop_engine.specs.declared.report.PointKind.{PointKind}
 use Rattle.shop_engine.specs.declared.report.PointKind.TheVariants.{Plain, At, Change, Busy, Full}
-use Rattle.shop_engine.specs.Rounds.{Round, Place, IsMetAt, PointAs, IsRound, AreRounds, after_one, reply_of, settles_of, made_as, changes_of}
+use Rattle.shop_engine.specs.Rounds.{Round, Place, PointAs, IsRound, AreRounds, after_one, reply_of, settles_of, made_as, changes_of}
 use Rattle.shop_engine.specs.Served.{Streams, Served, Ran, place_of, last_points, tries_of, plain_point}
 use Rattle.shop_engine.specs.Steps.{Answered, Finished, SoFar, Serves}
 use Rattle.shop_engine.specs.Tries.{Stays, StaysWithin, StampRose, IsTry}
 use Rattle.shop_engine.specs.Workers.{Caller, Progress}
 use Rattle.shop_engine.proofs.Lasts.{entry_longer}
+use Rattle.shop_engine.proofs.Retrying.{same_met}
 use Rattle.shop_engine.proofs.Staying.{stays_same, stays_later, stays_trans, within_trans, within_of, still_told, stamp_from}
 
 -- one more message behind the others
@@ -61,13 +59,6 @@ fronts_more log rounds round grows fronts =
 
 -- a place whose latest stamp was told stays one
 
-met_from : (place now : Place) (seen : List Entry) (request : Request) (draw : ℕ) → now.opening ≡ place.opening → now.caller ≡ place.caller
-    → (conflict : Conflict) → IsMetAt now seen request draw conflict → IsMetAt place seen request draw conflict
-met_from place now seen request draw opening caller conflict met = record {
-  conflicts = subst (λ t. IsConflict t seen place.caller.number conflict) opening (subst (λ (c : Caller). IsConflict now.opening seen c.number conflict) caller met.conflicts);
-  footprint = subst (λ t. InFootprint t seen request draw conflict.key) opening met.footprint;
-}
-
 try_from : (first later : Option ℕ) (last tries : ℕ) → StampRose first later last → IsTry later tries → IsTry first tries
 try_from first later last tries rose is = record { some = is.some; few = is.few; alone = λ told. is.alone (still_told first later last rose told) }
 
@@ -93,7 +84,7 @@ point_from place now last log round (Busy conflicts) opening limit caller rose l
   front = point.front;
   tries = point.tries;
   eight = point.eight;
-  each = All-weaker _ _ (met_from place now round.seen round.request round.point.draw opening caller) conflicts point.each;
+  each = same_met now.opening place.opening round.seen now.caller.number place.caller.number round.request round.point.draw conflicts opening (ap (λ (c : Caller). c.number) caller) point.each;
   rise = point.rise;
   on = point.on;
   others = λ told. point.others (still_told place.latest now.latest last rose told);
@@ -120,35 +111,12 @@ round_from caller start seat before log round opening limit rose is = record {
 
 -- the entries of the changes among points that a log has are the same in a longer one
 
--- a change whose entry the log has
-HasIts : List Entry → ℕ → PointKind → Type 0
-HasIts log front At = Unit {0}
-HasIts log front Change = (0 < front) × (front ≤ length log)
-HasIts log front (Busy conflicts) = Unit {0}
-HasIts log front Full = Unit {0}
-HasIts log front Plain = Unit {0}
-
-made_longer : (log longer : List Entry) (front : ℕ) (kind : PointKind) → Extends log longer → HasIts log front kind → made_as longer front kind ≡ made_as log front kind
-unfolding HasIts
-made_longer log longer front At extends has = refl
-made_longer log longer front Change extends has = entry_longer log longer front extends has.0 (omega (arith, has.0, has.1))
-made_longer log longer front (Busy conflicts) extends has = refl
-made_longer log longer front Full extends has = refl
-made_longer log longer front Plain extends has = refl
-
-has_its : (place : Place) (before log : List Entry) (round : Round) (kind : PointKind) → PointAs place before round kind → take (length round.seen) log ≡ round.seen → HasIts log round.point.front kind
-unfolding HasIts
-has_its place before log round At point begins = tt
-has_its place before log round Change point begins = (
-  omega (arith, point.front, ap length point.seen, length-append point.before (point.entry ∷ [])),
-  omega (arith, point.front, ap length begins, length-take (length round.seen) log),
-)
-has_its place before log round (Busy conflicts) point begins = tt
-has_its place before log round Full point begins = tt
-has_its place before log round Plain point begins = absurd point
-
-changes_cons : (log : List Entry) (point : Point) (points : List Point) → changes_of log (point ∷ points) ≡ made_as log point.front point.kind ++ changes_of log points
-changes_cons log point points = refl
+made_longer : (place : Place) (before log longer : List Entry) (round : Round) (kind : PointKind) → Extends log longer → PointAs place before round kind → take (length round.seen) log ≡ round.seen
+    → made_as longer round.point.front kind ≡ made_as log round.point.front kind
+made_longer place before log longer round Change extends point begins =
+    let some : 0 < round.point.front = omega (arith, point.front, ap length point.seen, length-append point.before (point.entry ∷ [])) in
+    entry_longer log longer round.point.front extends some (omega (arith, some, point.front, ap length begins, length-take (length round.seen) log))
+made_longer place before log longer round _ extends point begins = refl
 
 changes_longer : (place : Place) (before after : Progress) (first log longer seen : List Entry) (rounds : List Round) → Extends log longer → AreRounds place before first rounds after seen
     → All (λ r. take (length r.seen) log ≡ r.seen) rounds → changes_of longer (map (λ r. r.point) rounds) ≡ changes_of log (map (λ r. r.point) rounds)
@@ -156,7 +124,7 @@ changes_longer place before after first log longer seen [] extends are fronts = 
 changes_longer place before after first log longer seen (round ∷ rounds) extends are fronts =
     let begins = All-head (λ (r : Round). take (length r.seen) log ≡ r.seen) round rounds fronts in
     let head : made_as longer round.point.front round.point.kind ≡ made_as log round.point.front round.point.kind
-    = made_longer log longer round.point.front round.point.kind extends (has_its place first log round round.point.kind are.0.kind begins) in
+    = made_longer place first log longer round round.point.kind extends are.0.kind begins in
     let behind : changes_of longer (map (λ (r : Round). r.point) rounds) ≡ changes_of log (map (λ (r : Round). r.point) rounds)
     = changes_longer place (after_one before round.reading) after round.seen log longer seen rounds extends are.1 (All-tail (λ (r : Round). take (length r.seen) log ≡ r.seen) round rounds fronts) in
     ap (λ (l : List Entry). l ++ changes_of longer (map (λ (r : Round). r.point) rounds)) head
@@ -255,7 +223,6 @@ nothing_met caller before start old r w held points empty first = rw (empty, fir
   write_faults = omega arith;
 })
 
-
 -- where the messages stop
 
 -- the point of a refusal made no change
@@ -264,9 +231,8 @@ changes_plain log points =
     flat_map-append (λ (p : Point). made_as log p.front p.kind) points (plain_point ∷ []) ∙ append-nil (changes_of log points)
 
 changes_stopped : (log : List Entry) (points points' : List Point) (stop : Stop) → points' ≡ points ++ last_points stop → changes_of log points' ≡ changes_of log points
-changes_stopped log points points' Between is = ap (changes_of log) (is ∙ append-nil points)
-changes_stopped log points points' Inside is = ap (changes_of log) (is ∙ append-nil points)
 changes_stopped log points points' (Refusing status) is = ap (changes_of log) is ∙ changes_plain log points
+changes_stopped log points points' _ is = ap (changes_of log) (is ∙ append-nil points)
 
 Served-finished : (caller : Caller) (before after : Progress) (start seat : Seat) (old now : Streams) (held : List ℕ) (points points' : List Point) (left' held' : Option (List ℕ)) (stop : Stop)
     → SoFar caller before after start seat old now held points → Stops now.left left' held stop → Finished now.held held' points points' stop
@@ -354,9 +320,5 @@ SoFar-broken end caller c before mid after start seat seat' old now held points 
     by_end end answered (λ is. broken_memory caller before mid after start seat seat' old now held points points' so_far later (memory is).0 (memory is).1)
   where
     by_end : {A : Type 0} (e : Ended) → ((Some e ≡ Some ended.Memory → ⊥) → A) → (Some e ≡ Some ended.Memory → A) → A
-    by_end ended.Closed other is = other (λ same. absurd cc)
-    by_end ended.Cut other is = other (λ same. absurd cc)
-    by_end (ended.Refused status) other is = other (λ same. absurd cc)
-    by_end ended.ReadFault other is = other (λ same. absurd cc)
-    by_end ended.WriteFault other is = other (λ same. absurd cc)
     by_end ended.Memory other is = is refl
+    by_end _ other is = other (λ same. absurd cc)

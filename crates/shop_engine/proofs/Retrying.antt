@@ -35,7 +35,17 @@ conflict_later old new conflict follows was =
           was.other entry (sym (same_place old.seen follows.grows.rest (conflict.found - 1) (omega (arith, changed.some, changed.within))) ∙ here) (same ∙ follows.caller);
     }
 
-met_later : (old new : Seat) (request : Request) (draw : ℕ) → Follows old new → (conflict : Conflict) → IsMet old request draw conflict → IsMet new request draw conflict
+-- an equal shop's, and an equal caller's
+pub same_met : (t u : Tables) (seen : List Entry) (caller other : ℕ) (request : Request) (draw : ℕ) (conflicts : List Conflict) → t ≡ u → caller ≡ other
+    → All (IsMet t seen caller request draw) conflicts → All (IsMet u seen other request draw) conflicts
+same_met t u seen caller other request draw conflicts opening number are =
+    subst (λ (v : Tables). All (IsMet v seen other request draw) conflicts) opening (subst (λ n. All (IsMet t seen n request draw) conflicts) number are)
+
+-- in the log that a seat has seen
+abbrev IsMetIn : Seat → Request → ℕ → Conflict → Type 0
+IsMetIn seat request draw conflict = IsMet seat.opening seat.seen seat.caller request draw conflict
+
+met_later : (old new : Seat) (request : Request) (draw : ℕ) → Follows old new → (conflict : Conflict) → IsMetIn old request draw conflict → IsMetIn new request draw conflict
 met_later old new request draw follows conflict was = record {
   conflicts = conflict_later old new conflict follows was.conflicts;
   footprint = footprint_later old new request draw conflict.key follows was.footprint;
@@ -48,7 +58,7 @@ rise_more start top above [] conflict rise more within = (omega (arith, rise, mo
 rise_more start top above (first ∷ conflicts) conflict rise more within = (rise.0, rise_more first.found top above conflicts conflict rise.1 more within)
 
 -- what was found before the try began is read by it, or something later
-reads_later : (old new : Seat) (request : Request) (draw : ℕ) (first conflict : Conflict) → Follows old new → IsMet old request draw first → IsConflictOf new request draw old.seen conflict
+reads_later : (old new : Seat) (request : Request) (draw : ℕ) (first conflict : Conflict) → Follows old new → IsMetIn old request draw first → IsConflictOf new request draw old.seen conflict
     → conflict.key ≡ first.key → first.found ≤ conflict.read
 reads_later old new request draw first conflict follows was is same = ⊎_elim
     (λ (after : length old.seen < conflict.read). omega (arith, after, was.conflicts.overtaken.changed.within))
@@ -58,20 +68,20 @@ reads_later old new request draw first conflict follows was is same = ⊎_elim
     omega (arith, at, changed_by history old.opening old.seen first.key first.found was.conflicts.overtaken.changed))
     (cases_lt (length old.seen) conflict.read)
 
-on_more : (old new : Seat) (request : Request) (draw : ℕ) (conflicts : List Conflict) (conflict : Conflict) → Follows old new → All (IsMet old request draw) conflicts → IsConflictOf new request draw old.seen conflict
+on_more : (old new : Seat) (request : Request) (draw : ℕ) (conflicts : List Conflict) (conflict : Conflict) → Follows old new → All (IsMetIn old request draw) conflicts → IsConflictOf new request draw old.seen conflict
     → ReadsOn conflicts → ReadsOn (conflicts ++ conflict ∷ [])
 on_more old new request draw [] conflict follows were is on = (All-nil _, tt)
 on_more old new request draw (first ∷ conflicts) conflict follows were is on = (
   All-push (λ later. later.key ≡ first.key → first.found ≤ later.read) conflicts conflict on.0
-      (reads_later old new request draw first conflict follows (All-head (IsMet old request draw) first conflicts were) is),
-  on_more old new request draw conflicts conflict follows (All-tail (IsMet old request draw) first conflicts were) is on.1,
+      (reads_later old new request draw first conflict follows (All-head (IsMetIn old request draw) first conflicts were) is),
+  on_more old new request draw conflicts conflict follows (All-tail (IsMetIn old request draw) first conflicts were) is on.1,
 )
 
 are_met_more : (start old new : Seat) (request : Request) (draw : ℕ) (conflicts : List Conflict) (conflict : Conflict) → Follows old new → AreMet start old request draw conflicts → IsConflictOf new request draw old.seen conflict
     → AreMet start new request draw (conflicts ++ conflict ∷ [])
 are_met_more start old new request draw conflicts conflict follows were is = record {
-  each = All-push (IsMet new request draw) conflicts conflict
-      (All-weaker (IsMet old request draw) (IsMet new request draw) (met_later old new request draw follows) conflicts were.each)
+  each = All-push (IsMetIn new request draw) conflicts conflict
+      (All-weaker (IsMetIn old request draw) (IsMetIn new request draw) (met_later old new request draw follows) conflicts were.each)
       (record { conflicts = is.conflicts; footprint = is.footprint });
   rise = rise_more (length start.seen) (length old.seen) (length new.seen) conflicts conflict were.rise is.above is.conflicts.overtaken.changed.within;
   on = on_more old new request draw conflicts conflict follows were.each is were.on;

@@ -1,12 +1,11 @@
 -- What settles leave of a caller's entries, its counts and its latest stamp, one after another.
 use Rattle.std.proofs.Common.{◌≡◌, ℕ, ◌+◌, ◌≤◌, min, max, List, [], ◌++◌, Some, None, IsSome, refl, sym, ◌∙◌, ap, subst, arith, append_assoc, append-nil}
 use Rattle.std.specs.declared.option.Option.{Option}
-use Rattle.shop_log.proofs.Extending.{extends_self}
 use Rattle.shop_history.specs.declared.acts.Entry.{Entry}
 use Rattle.shop_history.specs.Logs.{entries_of}
 use Rattle.shop_attempt.specs.Seats.{Seat, Looked, last_count}
 use Rattle.shop_attempt.specs.Settles.{raised}
-use Rattle.shop_attempt.proofs.Looks.{follows_trans}
+use Rattle.shop_attempt.proofs.Looks.{follows_trans, looked_self}
 use Rattle.shop_engine.specs.Tries.{RoseBy, StampRose, IsStampOf, Stays, StaysWithin}
 
 -- latest stamps
@@ -52,18 +51,6 @@ stamp_from (Some before) later last moment stamp rose le is = record {
     same_stamp : (one other : ℕ) → Some one ≡ Some other → one ≡ other
     same_stamp one other is = cc
 
--- no settle at all
-pub stays_same : (seat : Seat) (moment : ℕ) → Stays seat seat [] 0 moment
-stays_same seat moment = record {
-  follows = record { shop = refl; opening = refl; limit = refl; caller = refl; grows = extends_self seat.seen; calls = omega arith; valid = λ is. is };
-  mine = sym (append-nil (entries_of seat.caller seat.seen));
-  own = sym (append-nil seat.own);
-  settled = record { rose = omega arith; kept = omega arith; most = omega arith };
-  greatest = omega arith;
-  stamp = stamp_same seat.latest moment;
-  alone = λ _. sym (append-nil seat.seen);
-}
-
 -- reads alone
 pub stays_looked : (old new : Seat) (moment : ℕ) → Looked old new → Stays old new [] 0 moment
 stays_looked old new moment looked = record {
@@ -75,6 +62,10 @@ stays_looked old new moment looked = record {
   stamp = stamp_kept old.latest new.latest moment looked.latest;
   alone = λ told. looked.alone told ∙ sym (append-nil old.seen);
 }
+
+-- no settle at all
+pub stays_same : (seat : Seat) (moment : ℕ) → Stays seat seat [] 0 moment
+stays_same seat moment = stays_looked seat seat moment (looked_self seat)
 
 -- at moments up to a later one
 pub stays_later : (old new : Seat) (entries : List Entry) (settles moment later : ℕ) → Stays old new entries settles moment → moment ≤ later → Stays old new entries settles later
@@ -125,10 +116,3 @@ within_trans a b c entries others one more most moment p q few = record {
 
 pub within_of : (old new : Seat) (entries : List Entry) (settles most moment : ℕ) → Stays old new entries settles moment → settles ≤ most → StaysWithin old new entries most moment
 within_of old new entries settles most moment stays few = record { made = settles; few = few; stays = stays }
-
-pub within_later : (old new : Seat) (entries : List Entry) (most moment later : ℕ) → StaysWithin old new entries most moment → moment ≤ later → StaysWithin old new entries most later
-within_later old new entries most moment later within more = record {
-  made = within.made;
-  few = within.few;
-  stays = stays_later old new entries within.made moment later within.stays more;
-}

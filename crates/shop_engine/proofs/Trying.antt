@@ -1,17 +1,17 @@
 -- One try: what its settle shows.
-use Rattle.std.proofs.Common.{◌≡◌, ◌≢◌, ℕ, ◌-◌, ◌≤◌, max, true, false, eqb, List, [], ◌∷◌, ◌++◌, length, Option, Some, None, IsSome, is_some, refl, sym, ◌∙◌, ap, subst, arith, append-nil, length-append}
+use Rattle.std.proofs.Common.{◌≡◌, ◌≢◌, ℕ, ◌+◌, ◌-◌, ◌≤◌, max, true, false, eqb, List, [], ◌∷◌, ◌++◌, length, Option, Some, None, IsSome, is_some, slice_get, refl, sym, ◌∙◌, ap, subst, arith, append-nil, length-append}
 use Rattle.std.proofs.lemmas.Bool.{eq-eqb, cond-true}
 use Rattle.std.proofs.lemmas.List.{take-append-le, take_all}
 use Rattle.std.proofs.lemmas.List.Elements.{filter-append}
 use Rattle.shop_log.specs.Histories.{Extends}
-use Rattle.shop_log.proofs.Extending.{extends_trans}
+use Rattle.shop_log.proofs.Extending.{extends_self, extends_trans}
 use Rattle.shop_log.proofs.Legality.{legal_shorter, legal_last}
 use Rattle.shop_model.specs.declared.page.Page.{Page}
 use Rattle.shop_model.specs.declared.requests.Request.{Request}
 use Rattle.shop_model.specs.declared.tables.Tables.{Tables}
 use Rattle.shop_model.specs.Limits.{stamp_limit}
+use Rattle.shop_model.specs.Lookups.{row_numbered}
 use Rattle.shop_model.specs.Checks.{is_changing, check}
-use Rattle.shop_model.specs.Show.{show}
 use Rattle.shop_history.specs.declared.acts.Act.{Act}
 use Rattle.shop_history.specs.declared.acts.Act.TheVariants.{Cart}
 use Rattle.shop_history.specs.declared.acts.Drawn.{Drawn}
@@ -23,7 +23,7 @@ use Rattle.shop_history.specs.Acts.{play, request_of, IsActOf}
 use Rattle.shop_history.specs.Drafts.{filled}
 use Rattle.shop_history.specs.Drawing.{new_ids}
 use Rattle.shop_history.specs.Logs.{tables, version_of, entries_of, page_at, Legal, MayFollow}
-use Rattle.shop_history.proofs.Places.{push_here}
+use Rattle.shop_history.proofs.Places.{push_here, row_there}
 use Rattle.shop_history.proofs.Rows.{tables_push}
 use Rattle.shop_attempt.specs.declared.attempts.Attempt.{Attempt}
 use Rattle.shop_attempt.specs.declared.attempts.Conflict.{Conflict}
@@ -94,9 +94,6 @@ agrees_found old new found attempt follows seat grows begins faithful fresh =
     (agrees_now new.opening new.limit found attempt.reads seat.good legal short
     (true_longer_all new.opening old.seen found attempt.reads grows were) fresh)
 
-whole : (log : List Entry) → Extends log log
-whole log = record { rest = []; is = sym (append-nil log) }
-
 -- what an act decides
 
 no_act : (act : Option Act) → is_some act ≡ false → act ≡ None
@@ -106,10 +103,6 @@ no_act (Some act) is = absurd cc
 some_act : (act : Option Act) → is_some act ≡ true → (does : Act) × (act ≡ Some does)
 some_act None is = absurd cc
 some_act (Some act) is = (act, refl)
-
-IsSome-act : (act : Option Act) → IsSome act → (does : Act) × (act ≡ Some does)
-IsSome-act None is = absurd cc
-IsSome-act (Some act) is = (act, refl)
 
 fixed_is : (stamp : ℕ) (ids : Ids) (draft : Draft) (page : Page) → draft ≡ Fixed page → filled stamp ids draft ≡ page
 unfolding filled
@@ -125,7 +118,7 @@ shown_is start old new request moment draw attempt draft drawn form bytes looked
     let was : Confirmed old new attempt drawn = subst (λ o. DoneAs old new attempt o drawn) none done in
     let t : Tables = tables new.opening new.seen in
     let drafts : IsDraftOf old.opening request draw attempt.reads draft None = subst (IsDraftOf old.opening request draw attempt.reads draft) none ready.drafts in
-    let shown = drafts t (agrees_found old new new.seen attempt follows seat was.accepted.is_found.grows (whole new.seen) ready.attempts.faithful was.accepted.fresh) in
+    let shown = drafts t (agrees_found old new new.seen attempt follows seat was.accepted.is_found.grows (extends_self new.seen) ready.attempts.faithful was.accepted.fresh) in
     record {
       stays =
           stays_found start old new new.seen [] moment looked follows rose was.accepted.is_found (sym (append-nil new.seen)) (entries_none old.caller) (was.own ∙ sym (append-nil old.own))
@@ -145,8 +138,11 @@ shown_is start old new request moment draw attempt draft drawn form bytes looked
 -- the page of the last entry
 last_page : (t : Tables) (log : List Entry) (entry : Entry) (number : ℕ) → number ≡ length (log ++ entry ∷ []) → page_at t (log ++ entry ∷ []) number ≡ Some (play (tables t log) entry.stamp entry.act).page
 last_page t log entry number is =
-    let at : number - 1 ≡ length log = omega (arith, is, length-append log (entry ∷ [])) in
-    rw (at, push_here log entry, take-append-le (length log) log (entry ∷ []) (omega arith), take_all (length log) log (omega arith))
+    let long : length (log ++ entry ∷ []) ≡ length log + 1 = length-append log (entry ∷ []) in
+    let at : number - 1 ≡ length log = omega (arith, is, long) in
+    let there : row_numbered (log ++ entry ∷ []) number ≡ Some entry
+    = row_there (log ++ entry ∷ []) number entry (record { above = omega (arith, is, long); at = ap (slice_get (log ++ entry ∷ [])) at ∙ push_here log entry }) in
+    rw (there, at, take-append-le (length log) log (entry ∷ []) (omega arith), take_all (length log) log (omega arith))
 
 exact_stamp : (latest now : Option ℕ) (moment stamp : ℕ) → (IsSome latest → now ≡ Some stamp) → now ≡ raised latest moment → (told : ℕ) → latest ≡ Some told → stamp ≡ max told moment
 exact_stamp latest now moment stamp is rose told same =
@@ -215,10 +211,10 @@ passes_there opening reads act (Some writes) t stamp makes agrees bound = (makes
 pub full_is : (start old new : Seat) (request : Request) (moment draw : ℕ) (attempt : Attempt) (draft : Draft) (size : ℕ) → Looked start old → Follows old new → IsSeat new → RoseOnce old.settles new.settles
     → IsReady start old request moment draw attempt draft → SettledAs old new attempt (settle.Full size) → FullBy 1 start new request moment draw size
 full_is start old new request moment draw attempt draft size looked follows seat rose ready settled =
-    let some = IsSome-act attempt.act settled.0.changes in
+    let some = some_act attempt.act settled.0.changes in
     let t : Tables = tables new.opening new.seen in
     let agrees : Agrees old.opening t attempt.reads
-    = agrees_found old new new.seen attempt follows seat settled.0.refused.found.grows (whole new.seen) ready.attempts.faithful settled.0.fresh in
+    = agrees_found old new new.seen attempt follows seat settled.0.refused.found.grows (extends_self new.seen) ready.attempts.faithful settled.0.fresh in
     let makes : MakesAct old.opening attempt.reads (Some some.0) attempt.writes = subst (λ o. MakesAct old.opening attempt.reads o attempt.writes) some.1 ready.attempts.faithful.makes in
     let drafts : IsDraftOf old.opening request draw attempt.reads draft (Some some.0) = subst (IsDraftOf old.opening request draw attempt.reads draft) some.1 ready.drafts in
     record {
@@ -288,11 +284,10 @@ again_is start old new request moment draw attempt conflict looked follows rose 
 never_fresh : (start old new : Seat) (request : Request) (moment draw : ℕ) (attempt : Attempt) → Follows old new → IsSeat new → IsContradiction start old request moment draw attempt → Extends old.seen new.seen
     → first_stale new.opening new.seen attempt.reads ≡ None → ⊥
 never_fresh start old new request moment draw attempt follows seat contradicts grows fresh =
-    contradicts.never (tables new.opening new.seen) (agrees_found old new new.seen attempt follows seat grows (whole new.seen) contradicts.attempts.faithful fresh)
+    contradicts.never (tables new.opening new.seen) (agrees_found old new new.seen attempt follows seat grows (extends_self new.seen) contradicts.attempts.faithful fresh)
 
 not_some : (act : Option Act) → act ≡ None → IsSome act → ⊥
-not_some None is some = cc
-not_some (Some act) is some = cc
+not_some act none is = let no : IsSome {T = Act} None = subst IsSome none is in cc
 
 pub never_else : (start old new : Seat) (request : Request) (moment draw : ℕ) (attempt : Attempt) (result : Settle) → Follows old new → IsSeat new → IsContradiction start old request moment draw attempt
     → SettledAs old new attempt result → ((conflict : Conflict) → result ≡ settle.Stale conflict → ⊥) → ⊥

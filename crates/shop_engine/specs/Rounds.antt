@@ -15,14 +15,12 @@ use Rattle.shop_history.specs.declared.acts.Entry.{Entry}
 use Rattle.shop_history.specs.Acts.{IsActOf}
 use Rattle.shop_history.specs.Logs.{tables, page_at}
 use Rattle.shop_attempt.specs.declared.attempts.Conflict.{Conflict}
-use Rattle.shop_attempt.specs.Reads.{IsConflict}
 use Rattle.shop_pages.specs.declared.reply.Form.{Form}
 use Rattle.shop_pages.specs.Replies.{reply}
-use Rattle.shop_browse.specs.Footprints.{InFootprint}
 use Rattle.shop_engine.specs.declared.report.Point.{Point}
 use Rattle.shop_engine.specs.declared.report.PointKind.{PointKind}
 use Rattle.shop_engine.specs.declared.report.PointKind.TheVariants.{Plain, At, Change, Busy, Full}
-use Rattle.shop_engine.specs.Tries.{Rise, ReadsOn, IsTry, IsStampOf, reply_of_page}
+use Rattle.shop_engine.specs.Tries.{Rise, ReadsOn, IsMet, IsTry, IsStampOf, reply_of_page}
 use Rattle.shop_engine.specs.Workers.{Caller, Progress}
 
 -- a request, the reading of the clock for it, its point, and the log seen when it was answered
@@ -56,11 +54,6 @@ pub record Place : Type 0 where
   pub caller : Caller
   pub latest : Option ℕ
 
--- a conflict of another caller, in a row that the request may read
-pub record IsMetAt (place : Place) (seen : List Entry) (request : Request) (draw : ℕ) (conflict : Conflict) : Type 0 where
-  pub conflicts : IsConflict place.opening seen place.caller.number conflict
-  pub footprint : InFootprint place.opening seen request draw conflict.key
-
 -- the tables decided: the page is shown after the log seen, whose length is the front
 pub record PointAt (place : Place) (round : Round) : Type 0 where
   pub front : round.point.front ≡ length round.seen
@@ -84,7 +77,7 @@ pub record PointBusy (place : Place) (log : List Entry) (round : Round) (conflic
   pub front : round.point.front ≡ 0
   pub tries : round.point.tries ≡ 8
   pub eight : length conflicts ≡ 8
-  pub each : All (IsMetAt place round.seen round.request round.point.draw) conflicts
+  pub each : All (IsMet place.opening round.seen place.caller.number round.request round.point.draw) conflicts
   pub rise : Rise (length log) conflicts (length round.seen)
   pub on : ReadsOn conflicts
   pub others : IsSome place.latest → ⊥
@@ -148,11 +141,8 @@ entry_numbered log number = option_items (slice_get log (number - 1))
 
 -- the entry that a point of a kind with a front tells of
 abbrev pub made_as : List Entry → ℕ → PointKind → List Entry
-made_as log front At = []
 made_as log front Change = entry_numbered log front
-made_as log front (Busy conflicts) = []
-made_as log front Full = []
-made_as log front Plain = []
+made_as log front _ = []
 
 -- the entries of a log that the changes among these points made, in order
 abbrev pub changes_of : List Entry → List Point → List Entry

@@ -3,6 +3,7 @@ use Rattle.std.specs.Prelude.{◌≡◌, ℕ, ◌+◌, ◌<◌, ◌≤◌, min, 
 use Rattle.shop_log.specs.Histories.{Extends}
 use Rattle.shop_model.specs.declared.page.Page.{Page}
 use Rattle.shop_model.specs.declared.requests.Request.{Request}
+use Rattle.shop_model.specs.declared.tables.Tables.{Tables}
 use Rattle.shop_model.specs.Checks.{is_changing, check}
 use Rattle.shop_model.specs.Show.{show}
 use Rattle.shop_history.specs.declared.acts.Entry.{Entry}
@@ -130,13 +131,13 @@ ReadsOn (conflict ∷ conflicts) =
     All (λ later. later.key ≡ conflict.key → conflict.found ≤ later.read) conflicts × ReadsOn conflicts
 
 -- a conflict in a row that the request may read, whose change is another caller's
-pub record IsMet (seat : Seat) (request : Request) (draw : ℕ) (conflict : Conflict) : Type 0 where
-  pub conflicts : IsConflict seat.opening seat.seen seat.caller conflict
-  pub footprint : InFootprint seat.opening seat.seen request draw conflict.key
+pub record IsMet (opening : Tables) (seen : List Entry) (caller : ℕ) (request : Request) (draw : ℕ) (conflict : Conflict) : Type 0 where
+  pub conflicts : IsConflict opening seen caller conflict
+  pub footprint : InFootprint opening seen request draw conflict.key
 
 -- so many tries met conflicts, one after another
 pub record AreMet (old new : Seat) (request : Request) (draw : ℕ) (conflicts : List Conflict) : Type 0 where
-  pub each : All (IsMet new request draw) conflicts
+  pub each : All (IsMet new.opening new.seen new.caller request draw) conflicts
   pub rise : Rise (length old.seen) conflicts (length new.seen)
   pub on : ReadsOn conflicts
 

@@ -59,6 +59,8 @@ pub fn serve_connection<St: Store, S: Source, K: Sink, C: Clock>(
 {
     let mut points = Vec::new(alloc);
     let end = serve_all(alloc, worker, source, sink, clock, &mut points);
+    // Wherever it ended, the seat of the worker is one.
+    let _ = &worker.store;
     Report {
         end,
         points: Listed::from_vec(points),

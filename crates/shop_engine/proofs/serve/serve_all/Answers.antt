@@ -3,7 +3,7 @@ use Rattle.shop_engine.specs.Rounds.{changes_of}
 use Rattle.shop_engine.specs.Served.{tries_of}
 use Rattle.shop_engine.specs.Tries.{StaysWithin}
 use Rattle.shop_engine.specs.Workers.{WorkerState}
-use Rattle.shop_attempt.proofs.Looks.{keeps_self, keeps_then}
+use Rattle.shop_attempt.proofs.Marks.{keeps_self, keeps_then}
 use Rattle.shop_engine.proofs.ConnectionLemmas.{Serves-request, Served-stopped, SoFar-ends, SoFar-broken, nothing_met, whole_answer}
 use Rattle.shop_engine.proofs.serve.serve_all.Goals as goal
 

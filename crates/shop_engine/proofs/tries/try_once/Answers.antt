@@ -39,3 +39,6 @@ pub returns-in-Stale-settle-clause-tried : goal.returns-in-Stale-settle-clause-t
 returns-in-Stale-settle-clause-tried g c =
     let settled = c.settle-in-Contradiction.ensures in
     again_is _ _ _ _ _ _ _ _ c.attempt.ensures.looked settled.follows settled.settles c.in-Contradiction.ensures.attempted.attempts c.in-Stale-settle.ensures.settled
+
+pub returns-clause-tried : goal.returns-clause-tried
+returns-clause-tried g c = no_room _ _ _ c.attempt.ensures.looked
