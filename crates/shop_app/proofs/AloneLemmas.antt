@@ -1,7 +1,7 @@
 -- Over a store that one caller has, each answer is settled at once, and the log is what the changes made.
-use Rattle.std.proofs.Common.{◌≡◌, ℕ, List, [], ◌∷◌, ◌++◌, length, map, take, max, Option, Some, IsSome, ◌⊎◌, inl, inr, refl, sym, ◌∙◌, ap, subst, ◌+◌, ◌-◌, ◌<◌, ◌≤◌, arith, length-append, append-nil}
+use Rattle.std.proofs.Common.{◌≡◌, ℕ, List, [], ◌∷◌, ◌++◌, length, map, take, Some, IsSome, ◌⊎◌, inl, inr, refl, sym, ◌∙◌, ap, subst, ◌+◌, arith, length-append, append-nil}
 use Rattle.std.specs.Prelude.{All}
-use Rattle.std.proofs.lemmas.List.{length-take, map-append}
+use Rattle.std.proofs.lemmas.List.{map-append}
 use Rattle.std.proofs.lemmas.List.Concat.{flat_map-append}
 use Rattle.std.proofs.lemmas.List.Elements.{All-cons, All-nil, All-map, All-weaker, All-append}
 use Rattle.shop_log.specs.Histories.{Extends}
@@ -10,10 +10,10 @@ use Rattle.shop_model.proofs.Lists.{all_head, all_tail}
 use Rattle.shop_history.specs.declared.acts.Entry.{Entry}
 use Rattle.shop_attempt.specs.Seats.{Seat}
 use Rattle.shop_http.specs.declared.messages.Stop.{Stop}
-use Rattle.shop_http.specs.declared.messages.Stop.TheVariants.{Between, Inside, Refusing}
+use Rattle.shop_http.specs.declared.messages.Stop.TheVariants.{Between, Refusing}
 use Rattle.shop_engine.specs.declared.report.Point.{Point}
 use Rattle.shop_engine.specs.declared.report.PointKind.{PointKind}
-use Rattle.shop_engine.specs.declared.report.PointKind.TheVariants.{Plain, At, Change, Busy, Full}
+use Rattle.shop_engine.specs.declared.report.PointKind.TheVariants.{Plain, Change, Busy}
 use Rattle.shop_engine.specs.Rounds.{Round, Place, PointAs, AreRounds, after_one, made_as, changes_of, entry_numbered}
 use Rattle.shop_engine.specs.Served.{Served, Streams, last_points, plain_point}
 use Rattle.shop_engine.specs.Workers.{Caller, Progress}
