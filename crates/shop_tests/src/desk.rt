@@ -7,7 +7,7 @@ ghost use Rattle.shop_attempt.specs.Seats.{Follows, Looked};
 ghost use Rattle.shop_book.specs.Openings.{most_entries};
 ghost use Rattle.shop_book.specs.Solos.{seat_of};
 
-use crate::cancelling::cancelling;
+use crate::cancelling::empty_before;
 use shop_attempt::{Attempt, Settle, Store};
 use shop_book::{Book, Solo, Visitor};
 use shop_browse::{Ask, Attempted};
@@ -124,18 +124,17 @@ impl Desk {
         Ok(self.settle(attempt))
     }
 
-    /// Settles what a request comes to, whose cart is first given this line alone.
-    pub(crate) fn serve_twice(
+    /// Settles what a request comes to, with its cart emptied by a write before.
+    pub(crate) fn serve_by_two_writes(
         &mut self,
         alloc: Global,
         asked: &CartRequest,
-        line: (u32, u32),
         moment: u64,
     ) -> Result<Settle, Fail>
         requires { moment ≤ stamp_limit }
     {
-        let attempt = self.attempt(alloc, asked, moment)?;
-        let attempt = cancelling(alloc, attempt, line)?;
+        let mut attempt = self.attempt(alloc, asked, moment)?;
+        empty_before(alloc, &mut attempt)?;
         Ok(self.settle(attempt))
     }
 

@@ -56,7 +56,7 @@ fn writes_that_cancel_raise_no_version(rt: HostRuntime) -> Result<(), Fail> {
     let new = setting(alloc, None, &[(46, 1)])?;
     assert_eq!(rt; done(desk.serve(alloc, &new, 1_000)?), Some((1, 1_000)));
     let same = setting(alloc, Some(1), &[(46, 1)])?;
-    let settled = desk.serve_twice(alloc, &same, (7, 3), 2_000)?;
+    let settled = desk.serve_by_two_writes(alloc, &same, 2_000)?;
     assert_eq!(rt; done(settled), Some((2, 2_000)));
     let (row, version) = desk.into_book().read(&Key::Cart(1))?;
     let cart = cart(row).ok_or("no cart")?;

@@ -1,8 +1,9 @@
-use Rattle.std.proofs.Common.{◌∙◌}
+use Rattle.std.proofs.Common.{◌∙◌, ap}
+use Rattle.shop_book.specs.Books.{BookValue}
 use Rattle.shop_tests.proofs.Posting.{posted}
 use Rattle.shop_tests.proofs.workers.worker_over.Goals as goal
 
 pub new-requires-3 : goal.new-requires-3
 new-requires-3 c =
-    posted c.args.scale c.args.limit c.in_ok-tables.tables _ c.in_ok-book.book c.new-2.result c.in_ok-tables.ensures.value
-    (c.in_ok-index-2.ensures.ok ∙ c.in_ok-index.ensures) c.in_ok-book.ensures.value c.new-2.ensures
+    posted c.args.scale c.in_ok-tables.tables _ c.in_ok-book.book c.new-2.result c.in_ok-tables.ensures.value (c.in_ok-index-2.ensures.ok ∙ c.in_ok-index.ensures)
+    (ap (λ (b : BookValue). b.opening.tables) c.in_ok-book.ensures.value) c.new-2.ensures.value c.new-2.ensures.valid
