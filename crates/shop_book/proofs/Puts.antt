@@ -107,16 +107,16 @@ pub named_step : (writes : List Write) (i count : ℕ) (write new : Write) → i
     → take (i + 1) (set writes i new) ++ named (count_after_one count (get_or writes i write)) (drop (i + 1) (set writes i new)) ≡ take i writes ++ named count (drop i writes)
 named_step writes i count write new within is =
     let done : take (i + 1) (set writes i new) ≡ take i writes ++ new ∷ [] = take_more_set writes i new within in
-    let todo : drop (i + 1) (set writes i new) ≡ drop (i + 1) writes = drop-set-lt (i + 1) writes i new (omega arith) in
+    let rest_stays : drop (i + 1) (set writes i new) ≡ drop (i + 1) writes = drop-set-lt (i + 1) writes i new (omega arith) in
     let here : drop i writes ≡ get_or writes i write ∷ drop (i + 1) writes = drop_more writes i write within in
-    rw (done, todo, here, append_assoc, is) refl
+    rw (done, rest_stays, here, append_assoc, is) refl
 
 pub count_step : (writes : List Write) (i count : ℕ) (write new : Write) → i < length writes
     → count_after (count_after_one count (get_or writes i write)) (drop (i + 1) (set writes i new)) ≡ count_after count (drop i writes)
 count_step writes i count write new within =
-    let todo : drop (i + 1) (set writes i new) ≡ drop (i + 1) writes = drop-set-lt (i + 1) writes i new (omega arith) in
+    let rest_stays : drop (i + 1) (set writes i new) ≡ drop (i + 1) writes = drop-set-lt (i + 1) writes i new (omega arith) in
     let here : drop i writes ≡ get_or writes i write ∷ drop (i + 1) writes = drop_more writes i write within in
-    rw (todo, here) refl
+    rw (rest_stays, here) refl
 
 -- a write that is left and those after it fit together
 pub count_longer : (count : ℕ) (writes : List Write) → count ≤ count_after count writes
