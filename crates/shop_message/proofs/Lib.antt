@@ -1,0 +1,10 @@
+pub mod LineEnds
+pub mod HeadLemmas
+pub mod LineFeeds
+pub mod SearchLemmas
+pub mod BufferLemmas
+pub mod Told
+pub mod LookLemmas
+pub mod NextLemmas
+pub mod BeginLemmas
+pub mod MessagesUnique
