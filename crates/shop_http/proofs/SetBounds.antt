@@ -1,14 +1,15 @@
 -- The bounds of the sets that a request may ask for.
 use Rattle.std.proofs.Common.{◌≡◌, ℕ, ◌≤◌, Bool, true, false, List, [], ◌∷◌, length, take, drop, Option, Some, None, refl, ap, subst, arith}
-use Rattle.std.specs.Prelude.{nat_le, if◌then◌else◌, codes}
+use Rattle.std.specs.Prelude.{nat_le, if◌then◌else◌, codes, Ok}
 use Rattle.std.specs.List.{All, cons_option, filter_map}
-use Rattle.std.specs.Option.{option_map, option_and_then}
+use Rattle.std.specs.Option.{option_map, option_and_then, ok_or}
 use Rattle.std.specs.Str.{bytes_eq}
 use Rattle.std.proofs.lemmas.Bool.Decides.{leb_tells}
 use Rattle.std.proofs.lemmas.List.Elements.{All-nil, All-cons}
+use Rattle.shop_model.specs.declared.parameter.Parameter.TheVariants.{Qty}
 use Rattle.shop_model.specs.Limits.{quantity_limit, sets_limit}
 use Rattle.shop_http.specs.Numbers.{number_of}
-use Rattle.shop_http.specs.Requests.{Pair}
+use Rattle.shop_http.specs.Forms.{Pair}
 use Rattle.shop_http.specs.Sets.{quantity_of, set_of, set_asked, all_of, few, sets_asked}
 
 few_is : (found sets : List (ℕ × ℕ)) → few found ≡ Some sets → (length sets ≤ sets_limit) × (found ≡ sets)
@@ -70,10 +71,14 @@ all_bounds ((name, value) ∷ pairs) sets is =
     (λ set one. set_bound (drop 4 name) value set (asked_bound (bytes_eq (take 4 name) (codes "qty_")) _ set one))
     (λ more all. all_bounds pairs more all) is
 
+found_is : (asked : Option (List (ℕ × ℕ))) (sets : List (ℕ × ℕ)) → ok_or asked Qty ≡ Ok sets → asked ≡ Some sets
+found_is None sets is = cc
+found_is (Some found) sets is = cc
+
 -- the bounds of what is asked
-pub sets_bounds : (pairs : List Pair) (sets : List (ℕ × ℕ)) → sets_asked pairs ≡ Some sets
+pub sets_bounds : (pairs : List Pair) (sets : List (ℕ × ℕ)) → ok_or (sets_asked pairs) Qty ≡ Ok sets
     → (length sets ≤ sets_limit) × All (λ set. set.1 ≤ quantity_limit) sets
 unfolding sets_asked
 sets_bounds pairs sets is =
-    let few = few_of (all_of (filter_map set_asked pairs)) sets is in
+    let few = few_of (all_of (filter_map set_asked pairs)) sets (found_is _ sets is) in
     (few.0, all_bounds pairs sets few.1)

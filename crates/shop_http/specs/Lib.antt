@@ -1,10 +1,8 @@
 pub mod Numbers
 pub mod Sets
+pub mod Forms
+pub mod Decoded
+pub mod PairsView
+pub mod Routes
 pub mod Requests
-pub mod Heads
-pub mod Messages
-pub mod Buffers
-pub mod Pieces
-pub mod Asked
-pub mod Looks
-pub mod Nexts
+pub mod Answers

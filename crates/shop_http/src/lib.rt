@@ -1,12 +1,10 @@
-//! What a connection's bytes ask for: messages, read in pieces, and the requests that they make.
+//! What the messages of a connection ask for.
 #![tactic(auto)]
 
-mod buffer;
-mod heads;
-mod messages;
 mod numbers;
 mod requests;
+mod router;
 
-pub use buffer::Buffer;
-pub use messages::{Next, Stop, next_request};
-pub use requests::request_of;
+pub use requests::{Asked, Refusal, request};
+pub use router::Routes;
+pub use shop_message::{Buffer, Message, Next, next_message};

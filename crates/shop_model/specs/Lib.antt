@@ -21,6 +21,8 @@ pub mod Sound
 pub mod Population
 pub mod PageText
 pub mod Targets
+pub mod Interactions
+pub mod Parameters
 pub mod Refusals
 pub mod Lookups
 pub mod Empty

@@ -1,11 +1,12 @@
--- The refusals that need no text of their own: what HTTP says, and what the page says. The phrases
+-- The refusals that are fixed but for the name of a parameter: what HTTP says, and what the page says. The phrases
 -- are those of RFC 9110, section 15, but that 413 keeps the one of RFC 7231, section 6.5.11; 431 is of
 -- RFC 6585, section 5, and 507 of RFC 4918, section 11.5. The texts are this project's own.
 use Rattle.std.specs.Prelude.{ℕ, List, [], ◌∷◌, codes}
 use Rattle.shop_model.specs.declared.page.Block.TheVariants.{Para}
 use Rattle.shop_model.specs.declared.page.Page.{Page}
 use Rattle.shop_model.specs.declared.refusal.Refusal.{Refusal}
-use Rattle.shop_model.specs.declared.refusal.Refusal.TheVariants.{BadRequest, EmptyCart, FullCart, FullLine, CardReused, CardStolen, CardOverLimit, WrongPassword, NoPage, NoItem, NoCart, NoCustomer, NoUserName, NotGetOrPost, LargeBody, LargeHead, TransferEncoding, NotServedYet, GatewayFailed, RowsKeptChanging, FullLog}
+use Rattle.shop_model.specs.declared.refusal.Refusal.TheVariants.{BadRequest, BadParameter, EmptyCart, FullCart, FullLine, CardReused, CardStolen, CardOverLimit, WrongPassword, NoPage, NoItem, NoCart, NoCustomer, NoUserName, NotGetOrPost, LargeBody, LargeHead, TransferEncoding, GatewayFailed, RowsKeptChanging, FullLog}
+use Rattle.shop_model.specs.Parameters.{bad_parameter}
 
 -- a status, its reason phrase, and why
 pub record Answer : Type 0 where
@@ -25,13 +26,10 @@ payment_required text = record { status = 402; phrase = codes "Payment Required"
 abbrev pub not_found : List ℕ → Answer
 not_found text = record { status = 404; phrase = codes "Not Found"; text = text }
 
--- the server doesn't know how
-abbrev pub not_implemented : List ℕ → Answer
-not_implemented text = record { status = 501; phrase = codes "Not Implemented"; text = text }
-
 -- the table of refusals
 abbrev pub answer_of : Refusal → Answer
 answer_of BadRequest = bad_request (codes "Bad request.")
+answer_of (BadParameter parameter) = bad_request (bad_parameter parameter)
 answer_of EmptyCart = bad_request (codes "The cart is empty.")
 answer_of FullCart = bad_request (codes "A cart holds at most 100 lines.")
 answer_of FullLine = bad_request (codes "A line holds at most 999.")
@@ -54,8 +52,8 @@ answer_of LargeHead = record {
   phrase = codes "Request Header Fields Too Large";
   text = codes "The head is too large.";
 }
-answer_of TransferEncoding = not_implemented (codes "Transfer-Encoding is not served.")
-answer_of NotServedYet = not_implemented (codes "Not served yet.")
+answer_of TransferEncoding =
+    record { status = 501; phrase = codes "Not Implemented"; text = codes "Transfer-Encoding is not served." }
 answer_of GatewayFailed =
     record { status = 502; phrase = codes "Bad Gateway"; text = codes "The payment gateway failed." }
 answer_of RowsKeptChanging = record {

@@ -11,6 +11,7 @@ mod cart;
 mod country;
 mod customer;
 mod drawing;
+mod interaction;
 mod item;
 mod limits;
 mod line;
@@ -18,6 +19,7 @@ mod lookups;
 mod order;
 mod order_state;
 mod page;
+mod parameter;
 mod refusal;
 mod requests;
 mod scale;
@@ -36,6 +38,7 @@ pub use cart::Cart;
 pub use country::Country;
 pub use customer::Customer;
 pub use drawing::{Words, drawn, word};
+pub use interaction::Interaction;
 pub use item::Item;
 pub use limits::{
     DAY_LIMIT, DISCOUNT_LIMIT, LINES_LIMIT, PRICE_LIMIT, QUANTITY_LIMIT, SESSION_TIME, SETS_LIMIT,
@@ -46,6 +49,7 @@ pub use lookups::row_numbered;
 pub use order::Order;
 pub use order_state::OrderState;
 pub use page::{Block, Field, Page};
+pub use parameter::Parameter;
 pub use refusal::{Refusal, refusal_page};
 pub use requests::{
     BestSellers, CartRequest, Home, IdsAsked, NewProducts, ProductDetail, Request, SearchKind,

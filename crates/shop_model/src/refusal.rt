@@ -1,15 +1,17 @@
 ghost use Rattle.std.specs.Prelude.{◌≡◌, IfOk};
 ghost use Rattle.shop_model.specs.Refusals as spec;
 
-use crate::{Block, Page};
+use crate::{Block, Page, Parameter};
 use shop_text::{Listed, Memory, Text};
 use std::alloc::Global;
 
-/// A refusal whose page has no text of its own.
+/// A refusal whose page is fixed but for the name of a parameter.
 #[derive(Clone, Copy, Debug, PartialEq, Eq)]
 pub enum Refusal {
     /// The message is not in the grammar of HTTP.
     BadRequest,
+    /// The parameter is missing, or not in its form.
+    BadParameter(Parameter),
     EmptyCart,
     FullCart,
     /// One more unit was asked for than a line may have.
@@ -29,7 +31,6 @@ pub enum Refusal {
     LargeBody,
     LargeHead,
     TransferEncoding,
-    NotServedYet,
     GatewayFailed,
     RowsKeptChanging,
     FullLog,
@@ -41,7 +42,11 @@ impl Refusal {
         ensures { result ≡ spec.status_of self.now }
     {
         match self {
-            Refusal::BadRequest | Refusal::EmptyCart | Refusal::FullCart | Refusal::FullLine => 400,
+            Refusal::BadRequest
+            | Refusal::BadParameter(_)
+            | Refusal::EmptyCart
+            | Refusal::FullCart
+            | Refusal::FullLine => 400,
             Refusal::CardReused | Refusal::CardStolen | Refusal::CardOverLimit => 402,
             Refusal::WrongPassword => 403,
             Refusal::NoPage
@@ -52,7 +57,7 @@ impl Refusal {
             Refusal::NotGetOrPost => 405,
             Refusal::LargeBody => 413,
             Refusal::LargeHead => 431,
-            Refusal::TransferEncoding | Refusal::NotServedYet => 501,
+            Refusal::TransferEncoding => 501,
             Refusal::GatewayFailed => 502,
             Refusal::RowsKeptChanging => 503,
             Refusal::FullLog => 507,
@@ -64,9 +69,11 @@ impl Refusal {
         ensures { result.now ≡ spec.phrase_of self.now }
     {
         match self {
-            Refusal::BadRequest | Refusal::EmptyCart | Refusal::FullCart | Refusal::FullLine => {
-                b"Bad Request"
-            }
+            Refusal::BadRequest
+            | Refusal::BadParameter(_)
+            | Refusal::EmptyCart
+            | Refusal::FullCart
+            | Refusal::FullLine => b"Bad Request",
             Refusal::CardReused | Refusal::CardStolen | Refusal::CardOverLimit => {
                 b"Payment Required"
             }
@@ -79,7 +86,7 @@ impl Refusal {
             Refusal::NotGetOrPost => b"Method Not Allowed",
             Refusal::LargeBody => b"Payload Too Large",
             Refusal::LargeHead => b"Request Header Fields Too Large",
-            Refusal::TransferEncoding | Refusal::NotServedYet => b"Not Implemented",
+            Refusal::TransferEncoding => b"Not Implemented",
             Refusal::GatewayFailed => b"Bad Gateway",
             Refusal::RowsKeptChanging => b"Service Unavailable",
             Refusal::FullLog => b"Insufficient Storage",
@@ -92,6 +99,7 @@ impl Refusal {
     {
         match self {
             Refusal::BadRequest => b"Bad request.",
+            Refusal::BadParameter(parameter) => parameter.refusal(),
             Refusal::EmptyCart => b"The cart is empty.",
             Refusal::FullCart => b"A cart holds at most 100 lines.",
             Refusal::FullLine => b"A line holds at most 999.",
@@ -108,7 +116,6 @@ impl Refusal {
             Refusal::LargeBody => b"The body is too large.",
             Refusal::LargeHead => b"The head is too large.",
             Refusal::TransferEncoding => b"Transfer-Encoding is not served.",
-            Refusal::NotServedYet => b"Not served yet.",
             Refusal::GatewayFailed => b"The payment gateway failed.",
             Refusal::RowsKeptChanging => b"The rows kept changing.",
             Refusal::FullLog => b"The log is full.",

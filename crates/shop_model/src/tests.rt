@@ -131,6 +131,18 @@ fn refusals_say_why(rt: HostRuntime) -> Result<(), Fail> {
     use Refusal::*;
     let cases = [
         (BadRequest, 400, "Bad Request", "Bad request."),
+        (
+            BadParameter(Parameter::C),
+            400,
+            "Bad Request",
+            "Bad parameter c.",
+        ),
+        (
+            BadParameter(Parameter::Subject),
+            400,
+            "Bad Request",
+            "Bad parameter subject.",
+        ),
         (EmptyCart, 400, "Bad Request", "The cart is empty."),
         (
             FullCart,
@@ -182,7 +194,6 @@ fn refusals_say_why(rt: HostRuntime) -> Result<(), Fail> {
             "Not Implemented",
             "Transfer-Encoding is not served.",
         ),
-        (NotServedYet, 501, "Not Implemented", "Not served yet."),
         (
             GatewayFailed,
             502,

@@ -1,60 +1,55 @@
-ghost use Rattle.std.specs.Prelude.{◌≡◌, IfOk};
+ghost use Rattle.std.specs.Prelude.{◌≡◌, map};
+ghost use Rattle.std.specs.Option.{ok_or};
+ghost use Rattle.shop_model.specs.declared.parameter.Parameter.{Parameter};
+ghost use Rattle.shop_http.specs.Answers.{Reads};
+ghost use Rattle.shop_http.specs.Decoded.{pair_of};
 ghost use Rattle.shop_http.specs.Requests as spec;
 ghost use Rattle.shop_http.specs.Sets as sets;
 
-use super::{ids_asked, optional_number};
+use super::fault::Fault;
+use super::forms::{ids_asked, optional_number};
+use super::pairs::{Pair, Pairs};
 use crate::numbers::number_of;
-use form_urlencoded::{decode, raw_pairs};
-use shop_model::{CartRequest, QUANTITY_LIMIT, Request, SETS_LIMIT};
-use shop_text::{Listed, Memory};
+use shop_model::{CartRequest, Parameter, QUANTITY_LIMIT, Request, SETS_LIMIT};
+use shop_text::Listed;
 use std::alloc::Global;
 
-pub(crate) fn cart_request(alloc: Global, query: &[u8]) -> Result<Option<Request>, Memory>
-    ensures { IfOk result (λ asked. asked ≡ spec.cart_request (spec.pairs query.now)) }
+pub(crate) fn shopping_cart(alloc: Global, pairs: &Pairs) -> Result<Request, Fault>
+    ensures { Reads (spec.shopping_cart pairs.now) result }
 {
-    let Some(item) = optional_number(alloc, query, b"item")? else {
-        return Ok(None);
-    };
-    let Some(sets) = sets_asked(alloc, query)? else {
-        return Ok(None);
-    };
-    let Some(ids) = ids_asked(alloc, query)? else {
-        return Ok(None);
-    };
-    Ok(Some(Request::CartRequest(CartRequest { item, sets, ids })))
+    let item = optional_number(pairs, Parameter::Item)?;
+    let sets = sets_asked(alloc, pairs.as_slice())?;
+    let ids = ids_asked(pairs)?;
+    Ok(Request::CartRequest(CartRequest { item, sets, ids }))
 }
 
 /// The quantities that are set, where each is in its form and there are few enough.
-fn sets_asked(alloc: Global, query: &[u8]) -> Result<Option<Listed<(u32, u32)>>, Memory>
-    ensures { IfOk result (λ asked. asked ≡ sets.sets_asked (spec.pairs query.now)) }
+fn sets_asked(alloc: Global, pairs: &[Pair<'_>]) -> Result<Listed<(u32, u32)>, Fault>
+    ensures { Reads (ok_or (sets.sets_asked (map pair_of pairs.now)) Parameter.Qty) result }
 {
     let mut sets = Listed::new(alloc);
-    for (name, value) in raw_pairs(query) {
-        let Some(asked) = set_asked(alloc, name, value)? else {
+    for pair in pairs {
+        let Some(asked) = set_asked(pair) else {
             continue;
         };
         let Some(set) = asked else {
-            return Ok(None);
+            return Err(Fault::Parameter(Parameter::Qty));
         };
         if sets.as_slice().len() == SETS_LIMIT {
-            return Ok(None);
+            return Err(Fault::Parameter(Parameter::Qty));
         }
         sets.push(set)?;
     }
-    Ok(Some(sets))
+    Ok(sets)
 }
 
-/// What an encoded pair sets, if it sets anything; the inner `None` where it isn't in its form.
+/// What a pair sets, if it sets anything; the inner `None` where it isn't in its form.
 #[tactic(auto, unfolding(crate::specs::Sets::set_asked))]
-fn set_asked(alloc: Global, name: &[u8], value: &[u8]) -> Result<Option<Option<(u32, u32)>>, Memory>
-    ensures { IfOk result (λ set. set ≡ sets.set_asked (spec.decoded (name.now, value.now))) }
+fn set_asked(pair: &Pair<'_>) -> Option<Option<(u32, u32)>>
+    ensures { result ≡ sets.set_asked (pair_of pair.now) }
 {
-    let name = decode(alloc, name)?;
-    let Some(item) = name.as_str().as_bytes().strip_prefix(b"qty_") else {
-        return Ok(None);
-    };
-    let value = decode(alloc, value)?;
-    Ok(Some(set_of(item, value.as_str().as_bytes())))
+    let item = pair.name.as_str().as_bytes().strip_prefix(b"qty_")?;
+    Some(set_of(item, pair.value.as_str().as_bytes()))
 }
 
 /// An item's id and a quantity, from the digits of each.

@@ -1,4 +1,9 @@
 use super::*;
+use http::Method;
+use shop_model::{
+    BestSellers, Home, IdsAsked, NewProducts, ProductDetail, SearchKind, SearchRequest, Subject,
+};
+use shop_text::Text;
 use std::test::Fail;
 
 fn ids(c: Option<u32>, cart: Option<u32>) -> IdsAsked {
@@ -32,6 +37,39 @@ fn best_with(subject: Subject) -> Option<Request> {
 
 fn search_with(c: Option<u32>, cart: Option<u32>) -> Option<Request> {
     Some(Request::SearchRequest(SearchRequest { ids: ids(c, cart) }))
+}
+
+/// What a GET of the target asks for, where it is not refused.
+fn got(alloc: Global, routes: &Routes, target: &[u8]) -> Option<Request> {
+    sent(alloc, routes, b"GET", target, b"")
+}
+
+fn sent(
+    alloc: Global,
+    routes: &Routes,
+    method: &[u8],
+    target: &[u8],
+    body: &[u8],
+) -> Option<Request> {
+    match asked_of(alloc, routes, method, target, body) {
+        Asked::Request(request) => Some(request),
+        Asked::Refuse(_) | Asked::Memory => None,
+    }
+}
+
+fn is_refused(asked: &Asked, refusal: Refusal) -> bool {
+    match asked {
+        Asked::Refuse(why) => *why == refusal,
+        Asked::Request(_) | Asked::Memory => false,
+    }
+}
+
+/// Whether a parameter with this name is refused.
+fn names(asked: &Asked, name: &str) -> bool {
+    match asked {
+        Asked::Refuse(Refusal::Parameter(parameter)) => parameter.name() == name.as_bytes(),
+        _ => false,
+    }
 }
 
 /// Whether this asks for what a search finds, by this text and for no ids.
@@ -71,9 +109,11 @@ fn same(a: &Option<Request>, b: &Option<Request>) -> bool {
 
 #[test]
 fn served_targets(rt: HostRuntime) -> Result<(), Fail> {
+    let routes = Routes::new(rt.alloc())?;
     let cases = [
         ("/", home_with(None, None)),
         ("/home?", home_with(None, None)),
+        ("/?", home_with(None, None)),
         ("/home?c=010", home_with(Some(10), None)),
         ("/home?c=0000000001", home_with(Some(1), None)),
         ("/home?c=1&c=x", home_with(Some(1), None)),
@@ -103,7 +143,7 @@ fn served_targets(rt: HostRuntime) -> Result<(), Fail> {
         ("/search_request?cart=%31%32", search_with(None, Some(12))),
     ];
     for (target, want) in cases {
-        let asked = request_of(rt.alloc(), target.as_bytes()).map_err(|_| "memory")?;
+        let asked = got(rt.alloc(), &routes, target.as_bytes());
         assert!(rt; same(&asked, &want), "at {target}");
     }
     Ok(())
@@ -111,6 +151,7 @@ fn served_targets(rt: HostRuntime) -> Result<(), Fail> {
 
 #[test]
 fn texts_that_are_searched_for(rt: HostRuntime) -> Result<(), Fail> {
+    let routes = Routes::new(rt.alloc())?;
     let cases = [
         (
             "/search_results?kind=title&text=a%26b+%3C%22%C3%BC",
@@ -129,7 +170,7 @@ fn texts_that_are_searched_for(rt: HostRuntime) -> Result<(), Fail> {
         ),
     ];
     for (target, kind, text) in cases {
-        let asked = request_of(rt.alloc(), target.as_bytes()).map_err(|_| "memory")?;
+        let asked = got(rt.alloc(), &routes, target.as_bytes());
         assert!(rt; is_search(&asked, kind, text), "at {target}");
     }
     Ok(())
@@ -137,6 +178,7 @@ fn texts_that_are_searched_for(rt: HostRuntime) -> Result<(), Fail> {
 
 #[test]
 fn carts(rt: HostRuntime) -> Result<(), Fail> {
+    let routes = Routes::new(rt.alloc())?;
     let none = ids(None, None);
     let repeated = [(1, 1), (2, 2), (1, 3)];
     let cases = [
@@ -172,8 +214,44 @@ fn carts(rt: HostRuntime) -> Result<(), Fail> {
         ),
     ];
     for (target, item, sets, ids) in cases {
-        let asked = request_of(rt.alloc(), target.as_bytes()).map_err(|_| "memory")?;
+        let asked = got(rt.alloc(), &routes, target.as_bytes());
         assert!(rt; is_cart(&asked, item, sets, ids), "at {target}");
+    }
+    Ok(())
+}
+
+/// The pairs of a body come behind those of the query, and only for POST.
+#[test]
+fn bodies(rt: HostRuntime) -> Result<(), Fail> {
+    let routes = Routes::new(rt.alloc())?;
+    let searches = [
+        (
+            "/search_results?kind=title",
+            "kind=author&text=harbour",
+            SearchKind::Title,
+        ),
+        (
+            "/search_results?kind=author",
+            "kind=title&text=harbour",
+            SearchKind::Author,
+        ),
+    ];
+    for (target, body, kind) in searches {
+        let asked = sent(
+            rt.alloc(),
+            &routes,
+            b"POST",
+            target.as_bytes(),
+            body.as_bytes(),
+        );
+        assert!(rt; is_search(&asked, kind, "harbour"), "at {target}");
+    }
+    let cart = b"/shopping_cart?qty_1=1".as_slice();
+    let asked = sent(rt.alloc(), &routes, b"POST", cart, b"qty_2=2&c=3");
+    assert!(rt; is_cart(&asked, None, &[(1, 1), (2, 2)], ids(Some(3), None)));
+    for (method, c) in [("POST", Some(10)), ("GET", None)] {
+        let asked = sent(rt.alloc(), &routes, method.as_bytes(), b"/home", b"c=10");
+        assert!(rt; same(&asked, &home_with(c, None)), "at {method}");
     }
     Ok(())
 }
@@ -181,6 +259,7 @@ fn carts(rt: HostRuntime) -> Result<(), Fail> {
 /// Of 100 sets, and then of one more parameter.
 #[test]
 fn many_sets(rt: HostRuntime) -> Result<(), Fail> {
+    let routes = Routes::new(rt.alloc())?;
     let ends = [
         ("", true),
         ("item=100&qty=1&c=2", true),
@@ -188,85 +267,148 @@ fn many_sets(rt: HostRuntime) -> Result<(), Fail> {
         ("qty_5=1", false),
     ];
     for (end, served) in ends {
-        let mut target = Text::copy(rt.alloc(), b"/shopping_cart?").map_err(|_| "memory")?;
+        let mut target = Text::copy(rt.alloc(), b"/shopping_cart?")?;
         for place in 0..100 {
             let digits = [b'0' + place / 10, b'0' + place % 10];
-            target.push(b"qty_").map_err(|_| "memory")?;
-            target.push(&digits).map_err(|_| "memory")?;
-            target.push(b"=1&").map_err(|_| "memory")?;
+            target.push(b"qty_")?;
+            target.push(&digits)?;
+            target.push(b"=1&")?;
         }
-        target.push(end.as_bytes()).map_err(|_| "memory")?;
-        let asked = request_of(rt.alloc(), target.bytes()).map_err(|_| "memory")?;
-        assert_eq!(rt; asked.is_some(), served);
+        target.push(end.as_bytes())?;
+        let got = asked_of(rt.alloc(), &routes, b"GET", target.bytes(), b"");
+        let refused = is_refused(&got, Refusal::Parameter(Parameter::Qty));
+        assert_eq!(rt; refused, !served);
     }
     Ok(())
 }
 
-/// Of 33 bytes that aren't UTF-8, each replaced by three, and then of some letters.
+/// Of 33 bytes that aren't UTF-8, each replaced by three, and of what follows.
 #[test]
 fn long_texts(rt: HostRuntime) -> Result<(), Fail> {
-    let front = b"/search_results?kind=title&text=".as_slice();
-    let mut target = Text::copy(rt.alloc(), front).map_err(|_| "memory")?;
-    for _ in 0..33 {
-        target.push(b"%FF").map_err(|_| "memory")?;
-    }
-    for served in [true, true, false] {
-        let asked = request_of(rt.alloc(), target.bytes()).map_err(|_| "memory")?;
-        assert_eq!(rt; asked.is_some(), served);
-        target.push(b"%41").map_err(|_| "memory")?;
+    let routes = Routes::new(rt.alloc())?;
+    let ends = [("", true), ("A", true), ("AA", false), ("%FF", false)];
+    for (end, served) in ends {
+        let mut target = Text::copy(rt.alloc(), b"/search_results?kind=title&text=")?;
+        for _ in 0..33 {
+            target.push(b"%FF")?;
+        }
+        target.push(end.as_bytes())?;
+        let got = asked_of(rt.alloc(), &routes, b"GET", target.bytes(), b"");
+        let refused = is_refused(&got, Refusal::Parameter(Parameter::Text));
+        assert_eq!(rt; refused, !served);
     }
     Ok(())
 }
 
+/// A path is looked at before a method, and a method before a parameter.
 #[test]
-fn targets_that_are_not_served(rt: HostRuntime) -> Result<(), Fail> {
-    let targets = [
-        "",
-        "?c=1",
-        "/home/",
-        "/Home",
-        "/hom%65",
-        "/home?c=",
-        "/home?c",
-        "/home?c=x&c=1",
-        "/home?c=00000000001",
-        "/home?c=+1",
-        "/home?c=1%FF",
-        "/home?cart=-1",
-        "/new_products",
-        "/new_products?subject=non-fiction",
-        "/best_sellers?subject=",
-        "/best_sellers?subject=ARTS&c=x",
-        "/product_detail",
-        "/product_detail?c=1",
-        "/product_detail?item=4294967296",
-        "/product_detail?item=1?c=2",
-        "/product_detail?item=1&c=y",
-        "/search_request?cart=1%202",
-        "/search_results?kind=title",
-        "/search_results?kind=title&text=",
-        "/search_results?kind=Title&text=a",
-        "/search_results?text=a",
-        "/search_results?kind=title&text=a&cart=x",
-        "/shopping_cart/",
-        "/shopping_cart?item=",
-        "/shopping_cart?item=x",
-        "/shopping_cart?item=4294967296",
-        "/shopping_cart?c=",
-        "/shopping_cart?cart=x",
-        "/shopping_cart?qty_46=1000",
-        "/shopping_cart?qty_46=00000000001",
-        "/shopping_cart?qty_46=x",
-        "/shopping_cart?qty_46=1&qty_46=x",
-        "/shopping_cart?qty_1=",
-        "/shopping_cart?qty_1",
-        "/shopping_cart?qty_=1",
-        "/shopping_cart?qty_x=1",
-        "/shopping_cart?qty_4294967296=1",
-    ];
-    for target in targets {
-        let asked = request_of(rt.alloc(), target.as_bytes()).map_err(|_| "memory")?;
-        assert!(rt; asked.is_none(), "at {target}");
+fn paths_and_methods(rt: HostRuntime) -> Result<(), Fail> {
+    let routes = Routes::new(rt.alloc())?;
+    let no_pages = "GET ?c=1
+GET /home/
+GET /shopping_cart/
+GET /Home
+GET /HOME
+GET /hom%65
+GET /%68ome
+GET /\u{FC}
+GET /{page}
+GET http://shop/home
+OPTIONS *
+HEAD /nothing";
+    let methods = "HEAD /home?c=x
+get /home
+GETS /home
+ /home";
+    for (cases, refusal) in [(no_pages, Refusal::NoPage), (methods, Refusal::Method)] {
+        for case in cases.lines() {
+            let Some((method, target)) = case.split_once(' ') else {
+                return Err(Fail::from("no target"));
+            };
+            let asked = asked_of(
+                rt.alloc(),
+                &routes,
+                method.as_bytes(),
+                target.as_bytes(),
+                b"",
+            );
+            assert!(rt; is_refused(&asked, refusal), "at {case}");
+        }
     }
+    for target in [b"".as_slice(), b"/home\xFF"] {
+        let asked = asked_of(rt.alloc(), &routes, b"GET", target, b"");
+        assert!(rt; is_refused(&asked, Refusal::NoPage));
+    }
+    Ok(())
+}
+
+/// The first parameter, in the order of its interaction, that is missing or not in its form.
+#[test]
+fn bad_parameters(rt: HostRuntime) -> Result<(), Fail> {
+    let routes = Routes::new(rt.alloc())?;
+    let cases = "/home?c= c
+/home?c c
+/home?c=x&c=1 c
+/home?c=x&cart=y c
+/home?cart=y&c=x c
+/home?c=00000000001 c
+/home?c=+1 c
+/home?c=1%FF c
+/home?cart=-1 cart
+/new_products subject
+/new_products?subject=non-fiction subject
+/best_sellers?subject=&c=x subject
+/best_sellers?subject=ARTS&c=x c
+/product_detail item
+/product_detail?c=x item
+/product_detail?item=4294967296 item
+/product_detail?item=1?c=2 item
+/product_detail?item=1&c=y c
+/search_request?cart=1%202 cart
+/search_results?text=&c=x kind
+/search_results?kind=title text
+/search_results?kind=title&text=&c=x text
+/search_results?kind=Title&text=a kind
+/search_results?kind=title&text=a&cart=x cart
+/shopping_cart?item=x&qty_5=1000 item
+/shopping_cart?qty_5=1000&item= item
+/shopping_cart?item=4294967296 item
+/shopping_cart?c=x&qty_5=1000 qty
+/shopping_cart?qty_46=00000000001 qty
+/shopping_cart?qty_46=1&qty_46=x qty
+/shopping_cart?qty_1= qty
+/shopping_cart?qty_1 qty
+/shopping_cart?qty_=1 qty
+/shopping_cart?qty_x=1 qty
+/shopping_cart?qty_4294967296=1 qty
+/shopping_cart?cart=x&c= c
+/shopping_cart?cart=x cart";
+    for case in cases.lines() {
+        let Some((target, name)) = case.split_once(' ') else {
+            return Err(Fail::from("no name"));
+        };
+        let asked = asked_of(rt.alloc(), &routes, b"GET", target.as_bytes(), b"");
+        assert!(rt; names(&asked, name), "at {target}");
+    }
+    Ok(())
+}
+
+/// Of messages, as they are read.
+#[test]
+fn messages(rt: HostRuntime) -> Result<(), Fail> {
+    let alloc = rt.alloc();
+    let routes = Routes::new(alloc)?;
+    let message = Message {
+        method: Method::POST,
+        target: Text::copy(alloc, b"/home")?,
+        body: Text::copy(alloc, b"c=10")?,
+        close: false,
+    };
+    let got = request(alloc, &routes, &message);
+    assert!(rt; matches!(got, Asked::Request(Request::Home(home)) if home.ids.c == Some(10)));
+    let refusal = Refusal::Parameter(Parameter::Qty).told();
+    assert_eq!(rt; refusal.text(), b"Bad parameter qty.".as_slice());
+    assert_eq!(rt; Refusal::NoPage.told().status(), 404);
+    assert_eq!(rt; Refusal::Method.told().status(), 405);
     Ok(())
 }

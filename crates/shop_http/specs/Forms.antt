@@ -1,0 +1,52 @@
+-- The parameters of a message, and the forms that they are to have. The syntax of pairs is that of the URL
+-- Standard, section 5; the forms are this project's own.
+use Rattle.std.specs.Prelude.{ℕ, ◌&&◌, nat_le, List, length, map, Option, Some, None, Result, Ok, if◌then◌else◌}
+use Rattle.std.specs.List.{find}
+use Rattle.std.specs.Option.{option_map, option_and_then, ok_or}
+use Rattle.std.specs.Str.{bytes_eq}
+use Rattle.std.specs.Str.Lossy.{utf8_lossy}
+use Rattle.form_urlencoded.specs.Form.{decode, parse}
+use Rattle.shop_model.specs.declared.parameter.Parameter.{Parameter}
+use Rattle.shop_model.specs.Limits.{text_limit}
+use Rattle.shop_model.specs.Parameters.{parameter_name}
+
+-- a name and a value
+abbrev pub Pair : Type 0
+Pair = List ℕ × List ℕ
+
+-- the decoded pairs of an encoded text, as texts: what isn't UTF-8 in them is replaced
+abbrev pub pairs : List ℕ → List Pair
+pairs encoded = map (λ pair. (utf8_lossy pair.0, utf8_lossy pair.1)) (parse encoded)
+
+-- an encoded pair as it is read
+abbrev pub decoded : Pair → Pair
+decoded (name, value) = (utf8_lossy (decode name), utf8_lossy (decode value))
+
+-- the value of the first pair that has the name
+abbrev pub value_named : List Pair → List ℕ → Option (List ℕ)
+value_named pairs name = option_map (λ pair. pair.1) (find (λ pair. bytes_eq pair.0 name) pairs)
+
+-- the value of a parameter
+abbrev pub value_of : List Pair → Parameter → Option (List ℕ)
+value_of pairs parameter = value_named pairs (parameter_name parameter)
+
+-- what a form reads a value as, where the value is in it
+abbrev pub Form : Type 0 → Type 0
+Form A = List ℕ → Option A
+
+-- a parameter that has to be there, in its form; else it is named
+abbrev pub required : {A : Type 0} → Form A → List Pair → Parameter → Result A Parameter
+required form pairs parameter = ok_or (option_and_then form (value_of pairs parameter)) parameter
+
+-- a value that may be absent; where it is there and not in its form its parameter is named
+abbrev pub optional_by : {A : Type 0} → Form A → Option (List ℕ) → Parameter → Result (Option A) Parameter
+optional_by form None parameter = Ok None
+optional_by form (Some value) parameter = ok_or (option_map (λ x. Some x) (form value)) parameter
+
+-- a parameter that may be absent
+abbrev pub optional : {A : Type 0} → Form A → List Pair → Parameter → Result (Option A) Parameter
+optional form pairs parameter = optional_by form (value_of pairs parameter) parameter
+
+-- a text that isn't empty, within the limit
+unfoldable pub text_of : Form (List ℕ)
+text_of text = if nat_le 1 (length text) && nat_le (length text) text_limit then Some text else None

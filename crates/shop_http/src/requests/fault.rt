@@ -1,0 +1,32 @@
+use shop_model::Parameter;
+use shop_text::Memory;
+
+/// Why pairs are no request.
+#[derive(Clone, Copy, Debug, PartialEq, Eq)]
+pub(crate) enum Fault {
+    /// This parameter is missing, or not in its form.
+    Parameter(Parameter),
+    Memory,
+}
+
+impl From<Memory> for Fault {
+    ghost use Rattle.std.specs.Prelude.{◌≡◌};
+    ghost use Rattle.shop_http.specs.declared.requests.fault.Fault.{Fault};
+
+    ghost from_gives = { λ _ fault. fault ≡ Fault.Memory };
+
+    fn from(_: Memory) -> Self {
+        Fault::Memory
+    }
+}
+
+impl From<Parameter> for Fault {
+    ghost use Rattle.std.specs.Prelude.{◌≡◌};
+    ghost use Rattle.shop_http.specs.declared.requests.fault.Fault.{Fault};
+
+    ghost from_gives = { λ parameter fault. fault ≡ Fault.Parameter parameter };
+
+    fn from(parameter: Parameter) -> Self {
+        Fault::Parameter(parameter)
+    }
+}

@@ -1,0 +1,85 @@
+ghost use Rattle.std.specs.Prelude.{◌≡◌, None, Ok, [], OnOk, take};
+ghost use Rattle.matchit.specs.Order.{placed};
+ghost use Rattle.matchit.specs.Route.{parse_route};
+ghost use Rattle.matchit.specs.Router.{nearest};
+ghost use Rattle.shop_model.specs.Interactions.{interaction_of, path_of, paths};
+ghost use Rattle.shop_http.specs.Routes.{FindsAll, row_of, rows_of, plain_scan};
+
+use matchit::{InsertError, Router};
+use shop_model::Interaction;
+use shop_text::Memory;
+use std::alloc::Global;
+use std::str::from_utf8;
+
+/// The interactions by their paths.
+#[derive(Drop)]
+pub struct Routes {
+    router: Router<Interaction>,
+    ghost finds_all: { FindsAll router },
+}
+
+impl Routes {
+    /// The router of all paths that are served.
+    pub fn new(alloc: Global) -> Result<Routes, Memory> {
+        let mut router = Router::new(alloc);
+        add_first(&mut router)?;
+        add_last(&mut router)?;
+        Ok(Routes { router })
+    }
+
+    /// The interaction of a path, which is compared byte for byte.
+    pub(crate) fn interaction(&self, path: &[u8]) -> Option<Interaction>
+        ensures { result ≡ interaction_of path.now }
+    {
+        let Ok(path) = from_utf8(path) else {
+            return None;
+        };
+        match self.router.at(path) {
+            Ok(found) => Some(*found.value),
+            Err(_) => None,
+        }
+    }
+}
+
+/// Adds the first four paths of the table.
+fn add_first(router: &mut Router<Interaction>) -> Result<(), Memory>
+    requires { router.old ≡ [] }
+    ensures { OnOk result (router.new ≡ rows_of (take 4 paths)) }
+{
+    add_linked(router, Interaction::BestSellers)?;
+    add_linked(router, Interaction::Home)?;
+    add_linked(router, Interaction::NewProducts)?;
+    add_linked(router, Interaction::ProductDetail)
+}
+
+/// Adds the other paths of the table.
+fn add_last(router: &mut Router<Interaction>) -> Result<(), Memory>
+    requires { router.old ≡ rows_of (take 4 paths) }
+    ensures { OnOk result (router.new ≡ rows_of paths) }
+{
+    add_linked(router, Interaction::SearchRequest)?;
+    add_linked(router, Interaction::SearchResults)?;
+    add_linked(router, Interaction::ShoppingCart)?;
+    add(router, "/", Interaction::Home)
+}
+
+/// Adds the path that pages link to.
+fn add_linked(router: &mut Router<Interaction>, interaction: Interaction) -> Result<(), Memory>
+    requires { nearest (path_of interaction) router.old ≡ None }
+    ensures { OnOk result (router.new ≡ placed (row_of (path_of interaction, interaction)) router.old) }
+{
+    add(router, interaction.path(), interaction)
+}
+
+/// Adds a path without parameters, which conflicts with none that is there.
+fn add(router: &mut Router<Interaction>, path: &str, interaction: Interaction) -> Result<(), Memory>
+    requires plain { parse_route path.now ≡ Ok (plain_scan path.now) }
+    requires free { nearest path.now router.old ≡ None }
+    ensures { OnOk result (router.new ≡ placed (row_of (path.now, interaction)) router.old) }
+{
+    match router.insert(path, interaction) {
+        Ok(()) => Ok(()),
+        Err(InsertError::OutOfMemory) => Err(Memory),
+        Err(_) => unreachable!(),
+    }
+}

@@ -1,0 +1,34 @@
+-- The web interactions that are served, after the TPC-W specification; the paths are this project's own.
+use Rattle.std.specs.Prelude.{ℕ, List, [], ◌∷◌, codes, Option}
+use Rattle.std.specs.List.{find}
+use Rattle.std.specs.Option.{option_map}
+use Rattle.std.specs.Str.{bytes_eq}
+use Rattle.shop_model.specs.declared.interaction.Interaction.{Interaction}
+use Rattle.shop_model.specs.declared.interaction.Interaction.TheVariants.{Home, NewProducts, BestSellers, ProductDetail, SearchRequest, SearchResults, ShoppingCart}
+
+-- the path of each
+abbrev pub path_of : Interaction → List ℕ
+path_of Home = codes "/home"
+path_of NewProducts = codes "/new_products"
+path_of BestSellers = codes "/best_sellers"
+path_of ProductDetail = codes "/product_detail"
+path_of SearchRequest = codes "/search_request"
+path_of SearchResults = codes "/search_results"
+path_of ShoppingCart = codes "/shopping_cart"
+
+-- all paths, each with its interaction: by their bytes, but that `/` stands last
+abbrev pub paths : List (List ℕ × Interaction)
+paths =
+    (path_of BestSellers, BestSellers)
+    ∷ (path_of Home, Home)
+    ∷ (path_of NewProducts, NewProducts)
+    ∷ (path_of ProductDetail, ProductDetail)
+    ∷ (path_of SearchRequest, SearchRequest)
+    ∷ (path_of SearchResults, SearchResults)
+    ∷ (path_of ShoppingCart, ShoppingCart)
+    ∷ (codes "/", Home)
+    ∷ []
+
+-- the interaction of a path, which is compared byte for byte
+unfoldable pub interaction_of : List ℕ → Option Interaction
+interaction_of path = option_map (λ row. row.1) (find (λ row. bytes_eq path row.0) paths)
