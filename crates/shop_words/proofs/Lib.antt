@@ -1,0 +1,9 @@
+pub mod Rules
+pub mod Turns
+pub mod Spellings
+pub mod Walks
+pub mod Parses
+pub mod Readings
+pub mod Numbers
+pub mod ScaleNames
+pub mod Sessions

@@ -1,0 +1,4 @@
+pub mod Parser
+pub mod Options
+pub mod Values
+pub mod Commands
