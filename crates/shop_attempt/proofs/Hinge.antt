@@ -104,20 +104,3 @@ pub overtaken : (t : Tables) (log : List Entry) (reads : List ReadOf) (conflict 
 overtaken t log [] conflict were is = absurd cc
 overtaken t log (read ∷ reads) conflict were is =
     first_stale_some t log (IsOvertaken t log) read reads conflict (stale_is t log read were.0) (overtaken t log reads conflict were.1) is
-
--- an attempt has an act where it has writes
-
-pub both_or_none : (opening : Tables) (reads : List ReadOf) (act : Option Act) (writes : Option (List Write)) → MakesAct opening reads act writes → writes ≡ None → act ≡ None
-both_or_none opening reads None writes makes none = refl
-both_or_none opening reads (Some act) None makes none = absurd makes
-both_or_none opening reads (Some act) (Some writes) makes none = absurd cc
-
-pub none_or_both : (opening : Tables) (reads : List ReadOf) (act : Option Act) (writes : Option (List Write)) → MakesAct opening reads act writes → act ≡ None → writes ≡ None
-none_or_both opening reads act None makes none = refl
-none_or_both opening reads None (Some writes) makes none = absurd makes
-none_or_both opening reads (Some act) (Some writes) makes none = absurd cc
-
-pub some_writes : (opening : Tables) (reads : List ReadOf) (act : Option Act) (writes : Option (List Write)) (list : List Write) → MakesAct opening reads act writes → writes ≡ Some list → (does : Act) × (act ≡ Some does)
-some_writes opening reads (Some act) writes list makes some = (act, refl)
-some_writes opening reads None None list makes some = absurd cc
-some_writes opening reads None (Some writes) list makes some = absurd makes

@@ -48,8 +48,3 @@ pub written_grows : (t : Tables) (stamp : ℕ) (writes : List Write) → Grows t
 written_grows t stamp [] = grows_self t
 written_grows t stamp (write ∷ writes) =
     grows_then t (written_one t stamp write) (written t stamp (write ∷ writes)) (written_one_grows t stamp write) (written_grows (written_one t stamp write) stamp writes)
-
--- writes behind others
-pub written_append : (t : Tables) (stamp : ℕ) (one other : List Write) → written t stamp (one ++ other) ≡ written (written t stamp one) stamp other
-written_append t stamp [] other = refl
-written_append t stamp (write ∷ one) other = written_append (written_one t stamp write) stamp one other

@@ -4,7 +4,7 @@ use Rattle.shop_history.specs.declared.acts.Entry.{Entry}
 use Rattle.shop_attempt.specs.declared.attempts.Attempt.{Attempt}
 use Rattle.shop_attempt.specs.declared.attempts.Settle.{Settle}
 use Rattle.shop_attempt.specs.declared.attempts.Settle.TheVariants.{Done, Stale, Full, Memory}
-use Rattle.shop_attempt.specs.Seats.{Seat}
+use Rattle.shop_attempt.specs.Seats.{Seat, Looked}
 
 -- each entry of a log behind the front has a stamp of at least the moment
 pub record IsMark (log : List Entry) (front moment : ℕ) : Type 0 where
@@ -23,6 +23,11 @@ pub record StillMarked (old new : ℕ → ℕ → Type 0) : Type 0 where
 pub record KeepsMarks (old new : ℕ → ℕ → Type 0) (seat seat' : Seat) : Type 0 where
   pub still : StillMarked old new
   pub are : AreMarks old seat.seen → AreMarks new seat'.seen
+
+-- calls of a store only looked, and kept its marks
+pub record Looks {Store : Type 0} (seat : Store → Seat) (marked : Store → ℕ → ℕ → Type 0) (old new : Store) : Type 0 where
+  pub looked : Looked (seat old) (seat new)
+  pub marks : KeepsMarks (marked old) (marked new) (seat old) (seat new)
 
 -- a reading attempt that is done leaves a mark
 abbrev pub LeavesMark : (ℕ → ℕ → Type 0) → Attempt → Settle → Type 0

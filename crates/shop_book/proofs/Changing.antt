@@ -33,7 +33,10 @@ use Rattle.shop_book.proofs.Puts.{count_fits, are_ready, named_written}
 abbrev pub with_entry : BookValue → Entry → BookValue
 with_entry b entry = record { opening = b.opening; log = b.log ++ entry ∷ []; latest = entry.stamp }
 
-module _ (b : BookValue) (is_book : IsBook b) (entry : Entry) (writes : List Write) (next : IsNext b entry writes) where
+module _ (b now : BookValue) (is_book : IsBook b) (entry : Entry) (writes : List Write) (same_now : b ≡ now) (comes : IsNext now entry writes) where
+  pub next : IsNext b entry writes
+  next = subst (λ (v : BookValue). IsNext v entry writes) (sym same_now) comes
+
   good_now : IsGood (tables_of b) (suc (b.opening.limit - length b.log))
   good_now = subst (IsGood (tables_of b)) (omega (arith, next.left)) (good_log b.opening.tables (b.opening.limit + 1) is_book.opens.good b.log is_book.legal (omega (arith, next.left)))
 
@@ -46,14 +49,7 @@ module _ (b : BookValue) (is_book : IsBook b) (entry : Entry) (writes : List Wri
     pub ids_fit : IdsFit (written (tables_of b) entry.stamp writes)
     ids_fit =
         let good : IsGood (play (tables_of b) entry.stamp entry.act).tables (b.opening.limit - length b.log) = good_after (tables_of b) entry (b.opening.limit - length b.log) next.bound form next.makes.passes good_now in
-        subst IdsFit (sym next.makes.tables_are)
-        (record {
-          items = omega (arith, good.room_for.items);
-          customers = omega (arith, good.room_for.customers);
-          carts = omega (arith, good.room_for.carts);
-          addresses = omega (arith, good.room_for.addresses);
-          orders = omega (arith, good.room_for.orders);
-        })
+        subst IdsFit (sym next.makes.tables_are) (grind (arith, good.room_for))
 
     follows : MayFollow b.opening.tables b.log entry
     follows = record {
@@ -144,11 +140,7 @@ kept_roomy b rows roomy versions wide counts counted kept same same_versions mor
     record {
       is_book = kept.is_book;
       rows_are = same b.opening.tables ∙ kept.rows_are;
-      places = record {
-        items = omega (arith, ap (λ (t : Tables). length t.items) (same b.opening.tables), kept.places.items, more.items);
-        customers = omega (arith, ap (λ (t : Tables). length t.customers) (same b.opening.tables), kept.places.customers, more.customers);
-        carts = omega (arith, ap (λ (t : Tables). length t.carts) (same b.opening.tables), kept.places.carts, more.carts);
-      };
+      places = grind (arith, same b.opening.tables, kept.places, more);
       versions_are = λ key. same_versions key ∙ kept.versions_are key;
       counts_are = λ caller. same_counts caller ∙ kept.counts_are caller;
     }

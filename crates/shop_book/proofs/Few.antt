@@ -30,8 +30,6 @@ few_one t stamp (AddAddress text) = grind arith
 few_one t stamp (AddOrder order days) = grind arith
 
 pub few_more : (t : Tables) (stamp : ℕ) (writes : List Write) → FewMore t (written t stamp writes) (length writes)
-few_more t stamp [] = record { items = omega arith; customers = omega arith; carts = omega arith }
+few_more t stamp [] = grind arith
 few_more t stamp (write ∷ writes) =
-    let first : FewMore t (written_one t stamp write) 1 = few_one t stamp write in
-    let rest : FewMore (written_one t stamp write) (written t stamp (write ∷ writes)) (length writes) = few_more (written_one t stamp write) stamp writes in
-    record { items = omega (arith, first.items, rest.items); customers = omega (arith, first.customers, rest.customers); carts = omega (arith, first.carts, rest.carts) }
+    grind (arith, few_one t stamp write, few_more (written_one t stamp write) stamp writes)

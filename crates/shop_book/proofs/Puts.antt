@@ -1,9 +1,8 @@
 -- What writes make of the tables, and when they can be made: their ids fit, and names come first.
-use Rattle.std.proofs.Common.{◌≡◌, ℕ, ◌+◌, ◌<◌, ◌≤◌, List, [], ◌∷◌, ◌++◌, length, get_or, set, take, drop, refl, sym, ◌∙◌, ap, subst, arith, append_assoc, length-append}
+use Rattle.std.proofs.Common.{◌≡◌, ℕ, ◌+◌, ◌<◌, ◌≤◌, List, [], ◌∷◌, ◌++◌, length, get_or, set, take, drop, refl, sym, ap, subst, arith, append_assoc, length-append}
 use Rattle.std.proofs.lemmas.List.{take_more_set, drop-set-lt, drop_more}
 use Rattle.shop_model.specs.declared.tables.Tables.{Tables}
 use Rattle.shop_model.specs.Limits.{stamp_limit}
-use Rattle.shop_history.proofs.Kept.{Grows}
 use Rattle.shop_attempt.specs.declared.attempts.Write.{Write}
 use Rattle.shop_attempt.specs.declared.attempts.Write.TheVariants.{Login, AddCustomer}
 use Rattle.shop_attempt.specs.Writes.{logged_in, entered, written_one, written}
@@ -14,20 +13,9 @@ use Rattle.shop_book.specs.RowsNow.{tables_with, HasRoom}
 
 -- ## Ids that fit
 
--- where the ids fit in tables that have grown, they fit before
-fits_before : (t u : Tables) → Grows t u → IdsFit u → IdsFit t
-fits_before t u grows fits = record {
-  items = omega (arith, grows.items, fits.items);
-  customers = omega (arith, grows.customers, fits.customers);
-  carts = omega (arith, grows.carts, fits.carts);
-  addresses = omega (arith, grows.addresses, fits.addresses);
-  orders = omega (arith, grows.orders, fits.orders);
-}
-
 -- the ids of the first write fit where those of all do
 pub first_fits : (t : Tables) (stamp : ℕ) (write : Write) (writes : List Write) → IdsFit (written t stamp (write ∷ writes)) → IdsFit (written_one t stamp write)
-first_fits t stamp write writes fits =
-    fits_before (written_one t stamp write) (written t stamp (write ∷ writes)) (written_grows (written_one t stamp write) stamp writes) fits
+first_fits t stamp write writes fits = grind (arith, written_grows (written_one t stamp write) stamp writes)
 
 -- ## Names come first
 
@@ -39,8 +27,7 @@ count_one t stamp _ = refl
 
 count_all : (t : Tables) (stamp : ℕ) (writes : List Write) → length (written t stamp writes).customers ≡ count_after (length t.customers) writes
 count_all t stamp [] = refl
-count_all t stamp (write ∷ writes) =
-    count_all (written_one t stamp write) stamp writes ∙ ap (λ count. count_after count writes) (count_one t stamp write)
+count_all t stamp (write ∷ writes) = cc (count_one t stamp write, count_all (written_one t stamp write) stamp writes)
 
 -- so many customers fit where the ids do
 pub count_fits : (t : Tables) (stamp : ℕ) (writes : List Write) → IdsFit (written t stamp writes) → count_after (length t.customers) writes < 4294967296
@@ -62,9 +49,7 @@ count_again count _ = refl
 names_again : (count : ℕ) (writes : List Write) → named count (named count writes) ≡ named count writes
 names_again count [] = refl
 names_again count (write ∷ writes) =
-    ap (λ (w : Write). w ∷ named (count_after_one count (named_one count write)) (named (count_after_one count write) writes)) (name_again count write)
-    ∙ ap (λ k. named_one count write ∷ named k (named (count_after_one count write) writes)) (count_again count write)
-    ∙ ap (λ (ws : List Write). named_one count write ∷ ws) (names_again (count_after_one count write) writes)
+    cc (name_again count write, count_again count write, names_again (count_after_one count write) writes)
 
 -- and is entered as who is not
 named_written_one : (t : Tables) (stamp : ℕ) (write : Write) → written_one t stamp (named_one (length t.customers) write) ≡ written_one t stamp write
@@ -74,10 +59,7 @@ named_written_one t stamp _ = refl
 pub named_written : (t : Tables) (stamp : ℕ) (writes : List Write) → written t stamp (named (length t.customers) writes) ≡ written t stamp writes
 named_written t stamp [] = refl
 named_written t stamp (write ∷ writes) =
-    let count : ℕ = length t.customers in
-    ap (λ u. written u stamp (named (count_after_one count write) writes)) (named_written_one t stamp write)
-    ∙ ap (λ k. written (written_one t stamp write) stamp (named k writes)) (sym (count_one t stamp write))
-    ∙ named_written (written_one t stamp write) stamp writes
+    cc (named_written_one t stamp write, count_one t stamp write, named_written (written_one t stamp write) stamp writes)
 
 -- ## Writes are ready
 
@@ -95,28 +77,25 @@ are_ready t rows stamp writes room fits bound = record {
 -- what is left of writes that are named is named
 pub rest_named : (t : Tables) (stamp : ℕ) (write : Write) (writes : List Write) → named (length t.customers) (write ∷ writes) ≡ write ∷ writes → named (length (written_one t stamp write).customers) writes ≡ writes
 rest_named t stamp write writes names =
-    let rest : named (count_after_one (length t.customers) write) writes ≡ writes = cc in
-    ap (λ k. named k writes) (count_one t stamp write) ∙ rest
+    cc (count_one t stamp write)
 
 pub first_named : (count : ℕ) (write : Write) (writes : List Write) → named count (write ∷ writes) ≡ write ∷ writes → named_one count write ≡ write
 first_named count write writes names = cc
 
 -- ## Naming, one write after another
 
+-- a write and what is left behind it, where the write is changed
+rest_is : (writes : List Write) (i : ℕ) (write new : Write) → i < length writes → drop i writes ≡ get_or writes i write ∷ drop (i + 1) (set writes i new)
+rest_is writes i write new within = rw (drop-set-lt (i + 1) writes i new (omega arith)) (drop_more writes i write within)
+
 pub named_step : (writes : List Write) (i count : ℕ) (write new : Write) → i < length writes → new ≡ named_one count (get_or writes i write)
     → take (i + 1) (set writes i new) ++ named (count_after_one count (get_or writes i write)) (drop (i + 1) (set writes i new)) ≡ take i writes ++ named count (drop i writes)
 named_step writes i count write new within is =
-    let done : take (i + 1) (set writes i new) ≡ take i writes ++ new ∷ [] = take_more_set writes i new within in
-    let rest_stays : drop (i + 1) (set writes i new) ≡ drop (i + 1) writes = drop-set-lt (i + 1) writes i new (omega arith) in
-    let here : drop i writes ≡ get_or writes i write ∷ drop (i + 1) writes = drop_more writes i write within in
-    rw (done, rest_stays, here, append_assoc, is) refl
+    rw (take_more_set writes i new within, rest_is writes i write new within, append_assoc, is) refl
 
 pub count_step : (writes : List Write) (i count : ℕ) (write new : Write) → i < length writes
     → count_after (count_after_one count (get_or writes i write)) (drop (i + 1) (set writes i new)) ≡ count_after count (drop i writes)
-count_step writes i count write new within =
-    let rest_stays : drop (i + 1) (set writes i new) ≡ drop (i + 1) writes = drop-set-lt (i + 1) writes i new (omega arith) in
-    let here : drop i writes ≡ get_or writes i write ∷ drop (i + 1) writes = drop_more writes i write within in
-    rw (rest_stays, here) refl
+count_step writes i count write new within = sym (ap (count_after count) (rest_is writes i write new within))
 
 -- a write that is left and those after it fit together
 pub count_longer : (count : ℕ) (writes : List Write) → count ≤ count_after count writes
@@ -129,11 +108,4 @@ count_longer count (write ∷ writes) = omega (arith, one_longer count write, co
 
 -- room for all is room for the first
 pub room_one : (rows : Rows) (rest : List Write) (write : Write) → HasRoom rows (length (write ∷ rest)) → HasRoom rows 1
-room_one rows rest write room = record {
-  items = omega (arith, room.items);
-  customers = omega (arith, room.customers);
-  last = omega (arith, room.last);
-  carts = omega (arith, room.carts);
-  addresses = omega (arith, room.addresses);
-  orders = omega (arith, room.orders);
-}
+room_one rows rest write room = grind arith

@@ -1,5 +1,5 @@
 -- What raising the version of a watched key does to the versions of all keys.
-use Rattle.std.proofs.Common.{◌≡◌, ◌≢◌, ℕ, ◌+◌, ◌<◌, List, [], ◌∷◌, ◌++◌, length, map, take, get_or, Contains, ◌⊎◌, inl, inr, ⊎_elim, refl, sym, ◌∙◌, ap, subst, arith}
+use Rattle.std.proofs.Common.{◌≡◌, ◌≢◌, ℕ, ◌+◌, ◌<◌, List, [], ◌∷◌, ◌++◌, length, map, take, get_or, Contains, ◌⊎◌, inl, inr, ⊎_elim, sym, ◌∙◌, ap, subst}
 use Rattle.std.proofs.lemmas.List.{take_more, map-append}
 use Rattle.std.proofs.lemmas.List.Elements.{Contains-push_cases}
 use Rattle.shop_model.specs.declared.tables.Tables.{Tables}
@@ -19,9 +19,6 @@ use Rattle.shop_log.proofs.Codes.{decided_by}
 key_cases : (one other : Key) → (one ≡ other) ⊎ (one ≢ other)
 key_cases one other =
     elim (decided_by the_field.row.coded the_field.into the_field.into_one one other) as (λ _. (one ≡ other) ⊎ (one ≢ other)) [ yes is ↦ inl is | no apart ↦ inr apart ]
-
-pub raised_none : (before now : Tables) (number : ℕ) (versions : Key → ℕ) → RaisedFor before now number [] versions versions
-raised_none before now number versions = record { each = λ key. inl refl; all = λ key has differs. absurd (omega (arith, has.1)) }
 
 -- versions that began as others
 pub raised_from : (before now : Tables) (number : ℕ) (keys : List Key) (old began new : Key → ℕ) → ((key : Key) → began key ≡ old key) → RaisedFor before now number keys began new → RaisedFor before now number keys old new

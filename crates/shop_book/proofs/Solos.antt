@@ -13,9 +13,8 @@ use Rattle.shop_attempt.specs.declared.attempts.Settle.{Settle}
 use Rattle.shop_attempt.specs.declared.attempts.Settle.TheVariants.{Done}
 use Rattle.shop_attempt.specs.Marks.{AreMarks, StillMarked}
 use Rattle.shop_attempt.specs.Reads.{first_stale}
-use Rattle.shop_attempt.specs.Seats.{IsSeat}
 use Rattle.shop_attempt.specs.Settles as seat
-use Rattle.shop_book.specs.Books.{BookValue, IsBook}
+use Rattle.shop_book.specs.Books.{BookValue}
 use Rattle.shop_book.specs.Settles.{Taken, IsFresh, made}
 use Rattle.shop_book.specs.Solos.{SoloValue, seat_of, IsKeptMark, marks_of}
 use Rattle.shop_book.proofs.Callers.{entries_mine}
@@ -77,9 +76,7 @@ module _ (old : BookValue) (caller calls settles more_calls more_settles greates
   pub solo_settled : (new : BookValue) → Taken old new caller number stamp attempt.act drawn → (was : SoloValue) → before ≡ was → (raised : ℕ) → raised ≡ max greatest attempt.moment
       → (answer : Settle) → answer ≡ Done drawn → seat.SettledAs (seat_of was) (seat_of (solo new caller more_calls more_settles raised)) attempt answer
   solo_settled new is was was_is raised raised_is answer answer_is =
-      subst (λ (s : Settle). seat.SettledAs (seat_of was) (seat_of (solo new caller more_calls more_settles raised)) attempt s) (sym answer_is)
-      (subst (λ (s : SoloValue). seat.DoneAs (seat_of s) (seat_of (solo new caller more_calls more_settles raised)) attempt attempt.act drawn) was_is
-      (subst (λ n. seat.DoneAs (seat_of before) (seat_of (solo new caller more_calls more_settles n)) attempt attempt.act drawn) (sym raised_is) (solo_done new is)))
+      rw (answer_is, ← was_is, raised_is) (solo_done new is)
 
 -- a mark stays one behind a later entry
 made_late : (caller number stamp moment : ℕ) (act : Option Act) → moment ≤ stamp → All (λ (e : Entry). moment ≤ e.stamp) (made caller number stamp act)
@@ -103,9 +100,6 @@ marks_stay old new number stamp act drawn late is = record {
   kept = λ front moment mark. subst (λ (b : BookValue). IsKeptMark b front moment) (sym is.book) (mark_taken old.book old.visitor.caller number stamp act late front moment mark);
 }
 
--- a seat at a book is one, and its marks are marks
-pub seat_is : (solo : SoloValue) → IsBook solo.book → IsSeat (seat_of solo)
-seat_is solo is = record { good = is.opens.good; legal = is.legal; short = is.short }
-
+-- what is marked of a book is a mark
 pub marks_are : (solo : SoloValue) → AreMarks (marks_of solo) solo.book.log
 marks_are solo = record { are = λ front moment mark. record { within = mark.within; behind = mark.behind } }

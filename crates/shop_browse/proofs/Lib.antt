@@ -1,6 +1,6 @@
 pub mod Attempting
-pub mod Labelling
 pub mod Keyed
+pub mod Labelling
 pub mod Listing
 pub mod Within
 pub mod ListReads

@@ -75,14 +75,11 @@ title_found : (t : Tables) (o : Option ItemRow) (label : Label) → shown (λ it
 title_found t None label is = absurd cc
 title_found t (Some x) label is = let same : label_of t x ≡ label = cc in ap (λ (l : Label). l.title) (sym same)
 
-same_id : (one other : ℕ) → key.Label one ≡ key.Label other → one ≡ other
-same_id one other is = cc
-
 pub link_is : (ids : IdsAsked) (read : ReadOf) (id : ℕ) (label : Label) (link : Block) → read.key ≡ key.Label id → read.row ≡ row.Label label → link ≡ item_link (codes "/product_detail") id ids label.title
     → IsLinkOf ids read (Some link)
 unfolding promoted
 link_is ids read id label link is_key is_label is_link t other has key_is shows =
-    let same : id ≡ other = same_id id other (sym is_key ∙ key_is) in
+    let same : id ≡ other = cc in
     let title : label.title ≡ title_of t other = title_found t (row_numbered t.items other) label (ap (row_of t) (sym key_is) ∙ shows ∙ is_label) in
     ap Some (is_link ∙ ap (λ i. item_link (codes "/product_detail") i ids label.title) same ∙ ap (item_link (codes "/product_detail") other ids) title)
 
@@ -99,16 +96,11 @@ link_at t ids items labels i read link lt is shows links =
     let within : i < length items = omega (arith, lt, as_many key.Label items labels shows.keys) in
     links t (get_or items i 0) (shows.there i 0 within) (key_at key.Label items labels shows.keys i 0 read within is) (shows_at t labels i read lt is shows.shows)
 
-none_some : {A : Type 0} (o : Option A) (x : A) → o ≡ None → o ≡ Some x → ⊥
-none_some o x none some = let apart : None ≡ Some x = sym none ∙ some in absurd cc
-
-same_some : {A : Type 0} (x y : A) → Some x ≡ Some y → x ≡ y
-same_some x y is = cc
-
 pub no_links : (ids : IdsAsked) (labels : List ReadOf) (i : ℕ) (read : ReadOf) (link : Option Block) (old new : List Block) → i < length labels → read ≡ get_or labels i read
     → IsLinkOf ids read link → link ≡ None → AddsLinks ids labels old new false
 no_links ids labels i read link old new lt is links none t items shows =
-    absurd (none_some link (promoted t ids (get_or items i 0)) none (link_at t ids items labels i read link lt is shows links))
+    let some = link_at t ids items labels i read link lt is shows links in
+    absurd cc
 
 pub one_link_more : (ids : IdsAsked) (labels : List ReadOf) (i : ℕ) (read : ReadOf) (found : Option Block) (link : Block) (old before after : List Block) → i < length labels → read ≡ get_or labels i read
     → IsLinkOf ids read found → found ≡ Some link → AddsFirst ids labels i old before → after ≡ before ++ link ∷ [] → AddsFirst ids labels (i + 1) old after
@@ -116,7 +108,7 @@ one_link_more ids labels i read found link old before after lt is links is_link 
     let f : ℕ → Block = promoted t ids in
     let x : ℕ = get_or items i 0 in
     let done : List Block = map f (take i items) in
-    let link_is : link ≡ f x = same_some link (f x) (sym is_link ∙ link_at t ids items labels i read found lt is shows links) in
+    let link_is : link ≡ f x = cc (link_at t ids items labels i read found lt is shows links) in
     let more : take (i + 1) items ≡ take i items ++ x ∷ [] = take_more items i 0 (omega (arith, lt, as_many key.Label items labels shows.keys)) in
     let all : map f (take (i + 1) items) ≡ done ++ f x ∷ [] = ap (map f) more ∙ map-append f (take i items) (x ∷ []) in
     pushed ∙ ap (λ (b : List Block). b ++ link ∷ []) (so_far t items shows) ∙ append_assoc old done (link ∷ []) ∙ ap (λ (b : Block). old ++ (done ++ b ∷ [])) link_is

@@ -95,13 +95,9 @@ no_ids P [] none = λ k d within. absurd (omega (arith, within))
 no_ids P (id ∷ ids) none = absurd cc
 
 pub listed_within : (t : Tables) (k : Key) → Sound t → All (Has (length t.items)) (listed (row_of t k))
-listed_within t (key.Item id) sound =
-    no_ids (Has (length t.items)) (listed (row_of t (key.Item id))) (not_listed row.Item (λ x. refl) (row_numbered t.items id))
-listed_within t (key.Label id) sound =
-    no_ids (Has (length t.items)) (listed (row_of t (key.Label id))) (not_listed (λ item. row.Label (label_of t item)) (λ x. refl) (row_numbered t.items id))
-listed_within t (key.Customer id) sound =
-    no_ids (Has (length t.items)) (listed (row_of t (key.Customer id))) (not_listed row.Customer (λ x. refl) (row_numbered t.customers id))
-listed_within t (key.Cart id) sound =
-    no_ids (Has (length t.items)) (listed (row_of t (key.Cart id))) (not_listed row.Cart (λ x. refl) (row_numbered t.carts id))
+listed_within t (key.Item id) sound = no_ids (Has (length t.items)) _ (not_listed row.Item (λ x. refl) (row_numbered t.items id))
+listed_within t (key.Label id) sound = no_ids (Has (length t.items)) _ (not_listed (λ item. row.Label (label_of t item)) (λ x. refl) (row_numbered t.items id))
+listed_within t (key.Customer id) sound = no_ids (Has (length t.items)) _ (not_listed row.Customer (λ x. refl) (row_numbered t.customers id))
+listed_within t (key.Cart id) sound = no_ids (Has (length t.items)) _ (not_listed row.Cart (λ x. refl) (row_numbered t.carts id))
 listed_within t (key.NewIn subject) sound = newest_within t subject sound
 listed_within t (key.BestIn subject) sound = best_within t subject sound

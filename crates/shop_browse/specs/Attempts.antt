@@ -1,5 +1,5 @@
 -- What an attempt call answers.
-use Rattle.std.specs.Prelude.{◌≡◌, ℕ, ◌≤◌, List, [], ◌∷◌, ◌++◌, map, Option, Some, None}
+use Rattle.std.specs.Prelude.{◌≡◌, ℕ, ◌≤◌, List, [], ◌∷◌, ◌++◌, length, map, Option, Some, None}
 use Rattle.shop_model.specs.declared.page.Page.{Page}
 use Rattle.shop_model.specs.declared.requests.Request.{Request}
 use Rattle.shop_model.specs.declared.tables.Tables.{Tables}
@@ -19,9 +19,15 @@ use Rattle.shop_attempt.specs.declared.attempts.ReadOf.{ReadOf}
 use Rattle.shop_attempt.specs.Faithful.{Faithful}
 use Rattle.shop_attempt.specs.Reads.{Agrees, Shows, IsReadSince, AreReadSince}
 use Rattle.shop_attempt.specs.Seats.{Seat}
+use Rattle.shop_browse.specs.declared.attempted.Ask.{Ask}
 use Rattle.shop_browse.specs.declared.attempted.Attempted.{Attempted}
 use Rattle.shop_browse.specs.declared.attempted.Attempted.TheVariants.{Ready, Contradiction, Memory}
 use Rattle.shop_browse.specs.Footprints.{InFootprint}
+
+-- an ask of the opening tables: its index is of their catalogue, and its scale has as many items
+pub record Suits (ask : Ask) (seat : Seat) : Type 0 where
+  pub index : ask.index.now ≡ catalogue seat.opening
+  pub scale : ask.scale.now.items ≡ length seat.opening.items
 
 -- a read of this call, of a row that the request may read
 pub record IsReadFor (start now : Seat) (request : Request) (draw : ℕ) (read : ReadOf) : Type 0 where

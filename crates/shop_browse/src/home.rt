@@ -1,11 +1,9 @@
-ghost use Rattle.std.specs.Prelude.{◌≡◌, ◌++◌, ℕ, Some, None, IfOk, OnOk, length, option_copied, [], ◌∷◌};
+ghost use Rattle.std.specs.Prelude.{◌≡◌, ◌++◌, ℕ, Some, None, IfOk, OnOk, option_copied, [], ◌∷◌};
 ghost use Rattle.shop_model.specs.declared.refusal.Refusal.TheVariants.{NoCustomer};
-ghost use Rattle.shop_model.specs.Catalogues.{catalogue};
 ghost use Rattle.shop_model.specs.Refusals.{page_of};
 ghost use Rattle.shop_model.specs.Show as spec;
-ghost use Rattle.shop_attempt.specs.Marks.{KeepsMarks};
-ghost use Rattle.shop_attempt.specs.Seats.{Looked};
-ghost use Rattle.shop_browse.specs.Attempts.{AttemptedAs};
+ghost use Rattle.shop_attempt.specs.Marks.{Looks};
+ghost use Rattle.shop_browse.specs.Attempts.{AttemptedAs, Suits};
 ghost use Rattle.shop_browse.specs.Attempts.{attempt_of as attempt_of_lem};
 ghost use Rattle.shop_browse.specs.Homes.{IsGreeting, Greets};
 ghost use Rattle.shop_browse.specs.Promotions.{IsShownBy, promotion_reads};
@@ -172,11 +170,9 @@ fn welcome<St: Store>(
     ask: &Ask,
     asked: &Home,
 ) -> Result<Attempted, Memory>
-    requires index { ask.now.index.now ≡ catalogue (St.seat store.old).opening }
-    requires scale { ask.now.scale.now.items ≡ length (St.seat store.old).opening.items }
+    requires suits { Suits ask.now (St.seat store.old) }
     requires anyone { asked.now.ids.c ≡ None }
-    ensures looked { Looked (St.seat store.old) (St.seat store.new) }
-    ensures marks { KeepsMarks (St.marked store.old) (St.marked store.new) (St.seat store.old) (St.seat store.new) }
+    ensures looks { Looks St.seat St.marked store.old store.new }
     ensures attempted { IfOk result (AttemptedAs (St.seat store.old) (St.seat store.new) (Request.Home asked.now) ask.now.moment ask.now.draw) }
 {
     let promotion = read_promotion(alloc, store, ask)?;
@@ -192,11 +188,9 @@ fn greet<St: Store>(
     asked: &Home,
     number: u32,
 ) -> Result<Attempted, Memory>
-    requires index { ask.now.index.now ≡ catalogue (St.seat store.old).opening }
-    requires scale { ask.now.scale.now.items ≡ length (St.seat store.old).opening.items }
+    requires suits { Suits ask.now (St.seat store.old) }
     requires number { asked.now.ids.c ≡ Some number }
-    ensures looked { Looked (St.seat store.old) (St.seat store.new) }
-    ensures marks { KeepsMarks (St.marked store.old) (St.marked store.new) (St.seat store.old) (St.seat store.new) }
+    ensures looks { Looks St.seat St.marked store.old store.new }
     ensures attempted { IfOk result (AttemptedAs (St.seat store.old) (St.seat store.new) (Request.Home asked.now) ask.now.moment ask.now.draw) }
 {
     let known = read(store, Key::Customer(number))?;
@@ -216,10 +210,8 @@ pub fn home<St: Store>(
     ask: &Ask,
     asked: &Home,
 ) -> Result<Attempted, Memory>
-    requires index { ask.now.index.now ≡ catalogue (St.seat store.old).opening }
-    requires scale { ask.now.scale.now.items ≡ length (St.seat store.old).opening.items }
-    ensures looked { Looked (St.seat store.old) (St.seat store.new) }
-    ensures marks { KeepsMarks (St.marked store.old) (St.marked store.new) (St.seat store.old) (St.seat store.new) }
+    requires suits { Suits ask.now (St.seat store.old) }
+    ensures looks { Looks St.seat St.marked store.old store.new }
     ensures attempted { IfOk result (AttemptedAs (St.seat store.old) (St.seat store.new) (Request.Home asked.now) ask.now.moment ask.now.draw) }
 {
     match asked.ids.c {

@@ -1,6 +1,6 @@
 ghost use Rattle.std.specs.Prelude.{◌<◌, IfOk, length};
-ghost use Rattle.shop_attempt.specs.Marks.{KeepsMarks};
-ghost use Rattle.shop_attempt.specs.Seats.{IsSeat, Looked};
+ghost use Rattle.shop_attempt.specs.Marks.{Looks};
+ghost use Rattle.shop_attempt.specs.Seats.{IsSeat};
 ghost use Rattle.shop_browse.specs.Attempts.{AddsLabels};
 
 use shop_attempt::{ReadOf, Store, read};
@@ -13,8 +13,7 @@ pub(crate) fn read_labels<St: Store>(
     reads: &mut Listed<ReadOf>,
     ids: &[u32],
 ) -> Result<(), Memory>
-    ensures looked { Looked (St.seat store.old) (St.seat store.new) }
-    ensures marks { KeepsMarks (St.marked store.old) (St.marked store.new) (St.seat store.old) (St.seat store.new) }
+    ensures looks { Looks St.seat St.marked store.old store.new }
     ensures valid { 0 < length ids.now → IsSeat (St.seat store.new) }
     ensures labels { IfOk result (λ _. AddsLabels (St.seat store.old) (St.seat store.new) ids.now reads.old reads.new) }
 {

@@ -1,8 +1,7 @@
-ghost use Rattle.std.specs.Prelude.{◌≡◌, ◌++◌, IfOk, OnOk, length};
+ghost use Rattle.std.specs.Prelude.{◌≡◌, ◌++◌, IfOk, OnOk};
 ghost use Rattle.shop_model.specs.Catalogues.{catalogue};
 ghost use Rattle.shop_model.specs.Products as spec;
-ghost use Rattle.shop_attempt.specs.Marks.{KeepsMarks};
-ghost use Rattle.shop_attempt.specs.Seats.{Looked};
+ghost use Rattle.shop_attempt.specs.Marks.{Looks};
 ghost use Rattle.shop_history.specs.Keys.{is_item};
 ghost use Rattle.shop_browse.specs.Attempts.{AttemptedAs};
 ghost use Rattle.shop_browse.specs.Products.{AreOf, AreProductReads, IsProductPage, named, product_reads};
@@ -138,8 +137,7 @@ fn is_there(row: &Row) -> bool
 
 /// Reads the item, and its author's names if it is there.
 fn read_item<St: Store>(store: &mut St, asked: &ProductDetail) -> Result<ItemReads, Memory>
-    ensures looked { Looked (St.seat store.old) (St.seat store.new) }
-    ensures marks { KeepsMarks (St.marked store.old) (St.marked store.new) (St.seat store.old) (St.seat store.new) }
+    ensures looks { Looks St.seat St.marked store.old store.new }
     ensures keys { IfOk result (AreOf asked.now.item) }
     ensures reads { IfOk result (AreProductReads (St.seat store.old) (St.seat store.new) asked.now) }
 {
@@ -193,8 +191,7 @@ pub fn product_detail<St: Store>(
     asked: &ProductDetail,
 ) -> Result<Attempted, Memory>
     requires index { ask.now.index.now ≡ catalogue (St.seat store.old).opening }
-    ensures looked { Looked (St.seat store.old) (St.seat store.new) }
-    ensures marks { KeepsMarks (St.marked store.old) (St.marked store.new) (St.seat store.old) (St.seat store.new) }
+    ensures looks { Looks St.seat St.marked store.old store.new }
     ensures attempted { IfOk result (AttemptedAs (St.seat store.old) (St.seat store.new) (Request.ProductDetail asked.now) ask.now.moment ask.now.draw) }
 {
     let reads = read_item(store, asked)?;

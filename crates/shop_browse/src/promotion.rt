@@ -1,6 +1,5 @@
 ghost use Rattle.std.specs.Prelude.{◌≡◌, ◌+◌, ◌%◌, IfOk, length};
-ghost use Rattle.shop_attempt.specs.Marks.{KeepsMarks};
-ghost use Rattle.shop_attempt.specs.Seats.{Looked};
+ghost use Rattle.shop_attempt.specs.Marks.{Looks};
 ghost use Rattle.shop_browse.specs.Promotions as spec;
 
 use crate::Ask;
@@ -48,8 +47,7 @@ pub(crate) fn read_promotion<St: Store>(
     ask: &Ask,
 ) -> Result<Promotion, Memory>
     requires scale { ask.now.scale.now.items ≡ length (St.seat store.old).opening.items }
-    ensures looked { Looked (St.seat store.old) (St.seat store.new) }
-    ensures marks { KeepsMarks (St.marked store.old) (St.marked store.new) (St.seat store.old) (St.seat store.new) }
+    ensures looks { Looks St.seat St.marked store.old store.new }
     ensures drawn { IfOk result (spec.IsPromotionOf (1 + ask.now.draw % ask.now.scale.now.items)) }
     ensures reads { IfOk result (spec.ArePromotionReads (St.seat store.old) (St.seat store.new) ask.now.draw) }
 {

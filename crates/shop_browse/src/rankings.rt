@@ -1,8 +1,7 @@
 //! The new and the best sold items of a subject.
-ghost use Rattle.std.specs.Prelude.{◌≡◌, IfOk, length};
+ghost use Rattle.std.specs.Prelude.{◌≡◌, IfOk};
 ghost use Rattle.shop_model.specs.Catalogues.{catalogue};
-ghost use Rattle.shop_attempt.specs.Marks.{KeepsMarks};
-ghost use Rattle.shop_attempt.specs.Seats.{Looked};
+ghost use Rattle.shop_attempt.specs.Marks.{Looks};
 ghost use Rattle.shop_browse.specs.Attempts.{AttemptedAs};
 ghost use Rattle.shop_browse.specs.Lists as spec;
 
@@ -32,8 +31,7 @@ fn read_list<St: Store>(
     store: &mut St,
     key: Key,
 ) -> Result<(ReadOf, Listed<ReadOf>), Memory>
-    ensures looked { Looked (St.seat store.old) (St.seat store.new) }
-    ensures marks { KeepsMarks (St.marked store.old) (St.marked store.new) (St.seat store.old) (St.seat store.new) }
+    ensures looks { Looks St.seat St.marked store.old store.new }
     ensures read { IfOk result (λ both. spec.ReadsList (St.seat store.old) (St.seat store.new) key both.0 both.1) }
 {
     let list = read(store, key)?;
@@ -53,8 +51,7 @@ fn attempt_list<St: Store>(
     ids: IdsAsked,
 ) -> Result<Attempted, Memory>
     requires index { ask.now.index.now ≡ catalogue (St.seat store.old).opening }
-    ensures looked { Looked (St.seat store.old) (St.seat store.new) }
-    ensures marks { KeepsMarks (St.marked store.old) (St.marked store.new) (St.seat store.old) (St.seat store.new) }
+    ensures looks { Looks St.seat St.marked store.old store.new }
     ensures attempted { IfOk result (spec.AttemptsList (St.seat store.old) (St.seat store.new) key ids title.now head ask.now.moment ask.now.draw) }
 {
     let (list, mut reads) = read_list(alloc, store, key)?;
@@ -71,8 +68,7 @@ pub fn new_products<St: Store>(
     asked: &NewProducts,
 ) -> Result<Attempted, Memory>
     requires index { ask.now.index.now ≡ catalogue (St.seat store.old).opening }
-    ensures looked { Looked (St.seat store.old) (St.seat store.new) }
-    ensures marks { KeepsMarks (St.marked store.old) (St.marked store.new) (St.seat store.old) (St.seat store.new) }
+    ensures looks { Looks St.seat St.marked store.old store.new }
     ensures attempted { IfOk result (AttemptedAs (St.seat store.old) (St.seat store.new) (Request.NewProducts asked.now) ask.now.moment ask.now.draw) }
 {
     let key = Key::NewIn(asked.subject);
@@ -88,8 +84,7 @@ pub fn best_sellers<St: Store>(
     asked: &BestSellers,
 ) -> Result<Attempted, Memory>
     requires index { ask.now.index.now ≡ catalogue (St.seat store.old).opening }
-    ensures looked { Looked (St.seat store.old) (St.seat store.new) }
-    ensures marks { KeepsMarks (St.marked store.old) (St.marked store.new) (St.seat store.old) (St.seat store.new) }
+    ensures looks { Looks St.seat St.marked store.old store.new }
     ensures attempted { IfOk result (AttemptedAs (St.seat store.old) (St.seat store.new) (Request.BestSellers asked.now) ask.now.moment ask.now.draw) }
 {
     let key = Key::BestIn(asked.subject);

@@ -1,9 +1,7 @@
-ghost use Rattle.std.specs.Prelude.{◌≡◌, ◌+◌, ◌%◌, ℕ, IfOk, length};
-ghost use Rattle.shop_model.specs.Catalogues.{catalogue};
+ghost use Rattle.std.specs.Prelude.{◌≡◌, ◌+◌, ◌%◌, ℕ, IfOk};
 ghost use Rattle.shop_model.specs.Show as spec;
-ghost use Rattle.shop_attempt.specs.Marks.{KeepsMarks};
-ghost use Rattle.shop_attempt.specs.Seats.{Looked};
-ghost use Rattle.shop_browse.specs.Attempts.{AttemptedAs};
+ghost use Rattle.shop_attempt.specs.Marks.{Looks};
+ghost use Rattle.shop_browse.specs.Attempts.{AttemptedAs, Suits};
 ghost use Rattle.shop_browse.specs.Promotions.{IsShownBy};
 
 use crate::attempted::attempt_of;
@@ -84,10 +82,8 @@ pub fn search_request<St: Store>(
     ask: &Ask,
     asked: &SearchRequest,
 ) -> Result<Attempted, Memory>
-    requires index { ask.now.index.now ≡ catalogue (St.seat store.old).opening }
-    requires scale { ask.now.scale.now.items ≡ length (St.seat store.old).opening.items }
-    ensures looked { Looked (St.seat store.old) (St.seat store.new) }
-    ensures marks { KeepsMarks (St.marked store.old) (St.marked store.new) (St.seat store.old) (St.seat store.new) }
+    requires suits { Suits ask.now (St.seat store.old) }
+    ensures looks { Looks St.seat St.marked store.old store.new }
     ensures attempted { IfOk result (AttemptedAs (St.seat store.old) (St.seat store.new) (Request.SearchRequest asked.now) ask.now.moment ask.now.draw) }
 {
     let promotion = read_promotion(alloc, store, ask)?;

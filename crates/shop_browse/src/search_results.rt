@@ -1,10 +1,9 @@
 //! The items that a search finds.
-ghost use Rattle.std.specs.Prelude.{◌≡◌, ◌∷◌, ◌++◌, [], IfOk, codes, length};
+ghost use Rattle.std.specs.Prelude.{◌≡◌, ◌∷◌, ◌++◌, [], IfOk, codes};
 ghost use Rattle.shop_model.specs.declared.page.Block.TheVariants.{Heading, Para};
 ghost use Rattle.shop_model.specs.Catalogues.{catalogue};
 ghost use Rattle.shop_model.specs.Kinds.{kind_name};
-ghost use Rattle.shop_attempt.specs.Marks.{KeepsMarks};
-ghost use Rattle.shop_attempt.specs.Seats.{Looked};
+ghost use Rattle.shop_attempt.specs.Marks.{Looks};
 ghost use Rattle.shop_browse.specs.Attempts.{AttemptedAs};
 
 use crate::attempted::attempt_of;
@@ -41,8 +40,7 @@ pub fn search_results<St: Store>(
     asked: &SearchResults,
 ) -> Result<Attempted, Memory>
     requires index { ask.now.index.now ≡ catalogue (St.seat store.old).opening }
-    ensures looked { Looked (St.seat store.old) (St.seat store.new) }
-    ensures marks { KeepsMarks (St.marked store.old) (St.marked store.new) (St.seat store.old) (St.seat store.new) }
+    ensures looks { Looks St.seat St.marked store.old store.new }
     ensures attempted { IfOk result (AttemptedAs (St.seat store.old) (St.seat store.new) (Request.SearchResults asked.now) ask.now.moment ask.now.draw) }
 {
     let found = ask.index.search(asked.kind, asked.text.bytes())?;

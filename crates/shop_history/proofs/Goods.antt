@@ -1,5 +1,5 @@
 -- Entries that may follow keep the tables sound, and each uses one of the room.
-use Rattle.std.proofs.Common.{◌≡◌, ℕ, suc, ◌+◌, ◌-◌, ◌*◌, ◌^◌, ◌<◌, ◌≤◌, List, [], ◌∷◌, length, take, Option, Some, None, IfSome, option_map, unwrap_or, refl, arith, length-append}
+use Rattle.std.proofs.Common.{◌≡◌, ℕ, suc, ◌+◌, ◌-◌, ◌*◌, ◌^◌, ◌<◌, ◌≤◌, List, [], ◌∷◌, length, take, All, Option, Some, None, IfSome, option_map, unwrap_or, refl, arith, length-append}
 use Rattle.std.proofs.lemmas.List.{length-set}
 use Rattle.std.proofs.lemmas.List.Elements.{All-weaker}
 use Rattle.shop_log.proofs.Extending.{extends_length, take_extends}
@@ -25,16 +25,10 @@ use Rattle.shop_history.proofs.SoundCarts.{AreSound, carts_sound, sound_with, pu
 
 -- room for fewer entries
 pub room_less : (t : Tables) (more less : ℕ) → less ≤ more → Room t more → Room t less
-room_less t more less below room = record {
-  countries = omega (arith, room.countries);
-  addresses = omega (arith, room.addresses);
-  customers = omega (arith, room.customers);
-  authors = omega (arith, room.authors);
-  items = omega (arith, room.items);
-  orders = omega (arith, room.orders);
-  carts = omega (arith, room.carts);
-  restocks = All-weaker (λ i. i.restocks + 49 * more ≤ restocks_limit) (λ i. i.restocks + 49 * less ≤ restocks_limit) (λ i h. omega arith) t.items room.restocks;
-}
+room_less t more less below room =
+    let restocks : All (λ i. i.restocks + 49 * less ≤ restocks_limit) t.items
+    = All-weaker (λ i. i.restocks + 49 * more ≤ restocks_limit) (λ i. i.restocks + 49 * less ≤ restocks_limit) (λ i h. omega arith) t.items room.restocks in
+    grind arith
 
 -- a cart more uses one of the room
 room_with : (t : Tables) (carts : List CartRow) (room : ℕ) → length carts ≤ length t.carts + 1 → Room t (suc room) → Room (record t { carts = carts }) room

@@ -1,11 +1,9 @@
 -- What acts keep of the tables, and that tables only grow.
-use Rattle.std.proofs.Common.{◌≡◌, ℕ, ◌+◌, ◌-◌, ◌≤◌, List, [], ◌∷◌, length, Option, Some, None, refl, sym, ◌∙◌, ap, subst, arith, length-append}
-use Rattle.std.proofs.lemmas.List.{length-map, length-set}
+use Rattle.std.proofs.Common.{◌≡◌, ℕ, ◌-◌, ◌≤◌, List, length, refl, sym, ◌∙◌, ap, subst, arith}
+use Rattle.std.proofs.lemmas.List.{length-map}
 use Rattle.shop_log.proofs.ByEnd.{by_end}
 use Rattle.shop_model.specs.declared.tables.Tables.{Tables}
-use Rattle.shop_model.specs.Carts.{lines_after, carts_with}
 use Rattle.shop_model.specs.Catalogues.{Catalogue, naming}
-use Rattle.shop_model.specs.Rows.{CartRow}
 use Rattle.shop_history.specs.declared.acts.Act.{Act}
 use Rattle.shop_history.specs.declared.acts.Act.TheVariants.{Cart}
 use Rattle.shop_history.specs.declared.acts.Entry.{Entry}
@@ -46,10 +44,3 @@ pub record Grows (t u : Tables) : Type 0 where
   pub orders : length t.orders ≤ length u.orders
   pub carts : length t.carts ≤ length u.carts
   pub last : length t.last ≤ length u.last
-
-carts_longer : (carts : List CartRow) (named : Option ℕ) (lines : List (ℕ × ℕ)) → length carts ≤ length (carts_with carts named lines)
-carts_longer carts None lines = omega (arith, length-append carts (record { id = length carts + 1; lines = lines } ∷ []))
-carts_longer carts (Some id) lines = omega (arith, length-set carts (id - 1) (record { id = id; lines = lines }))
-
-pub play_grows : (t : Tables) (stamp : ℕ) (act : Act) → Grows t (play t stamp act).tables
-play_grows t stamp (Cart asked draw) = grind (arith, carts_longer t.carts asked.ids.cart (lines_after t asked draw))

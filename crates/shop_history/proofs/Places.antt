@@ -1,7 +1,7 @@
 -- Rows by their numbers, in lists that are written and that grow.
-use Rattle.std.proofs.Common.{◌≡◌, ℕ, zero, suc, ◌+◌, ◌-◌, ◌<◌, ◌≤◌, cond, true, false, List, [], ◌∷◌, ◌++◌, length, map, get_or, All, Some, None, slice_get, slice_set, eqb, refl, sym, ◌∙◌, ap, subst, ◌⊎◌, inl, inr, ⊎_elim, arith}
-use Rattle.std.proofs.lemmas.Bool.{eqb-true, eqb-false, cond-true, cond-false, eq-eqb, ne_eqb, cases_eq}
-use Rattle.std.proofs.lemmas.Option.{slice_get_past, slice_get_within, slice_get-get_or, get_or_from_slice_get}
+use Rattle.std.proofs.Common.{◌≡◌, ℕ, zero, suc, ◌+◌, ◌-◌, ◌<◌, cond, true, false, List, [], ◌∷◌, ◌++◌, length, map, get_or, All, Some, None, slice_get, slice_set, eqb, refl, sym, ◌∙◌, ap, subst, ◌⊎◌, ⊎_elim, arith}
+use Rattle.std.proofs.lemmas.Bool.{eqb-false, cond-true, cond-false, eq-eqb, ne_eqb, cases_eq}
+use Rattle.std.proofs.lemmas.Option.{slice_get_within, slice_get-get_or, get_or_from_slice_get}
 use Rattle.shop_model.specs.Lookups.{row_numbered}
 use Rattle.shop_model.specs.Sound.{Has, Runs}
 use Rattle.shop_model.proofs.Lists.{id_of_place}
@@ -14,11 +14,6 @@ module _ {A : Type 0} where
   set_other (z ∷ xs) (suc i) zero y apart = refl
   set_other (z ∷ xs) (suc i) (suc j) y apart = set_other xs i j y (λ e. apart (ap suc e))
 
-  set_here : (xs : List A) (i : ℕ) (x y : A) → slice_get xs i ≡ Some x → slice_get (slice_set xs i y) i ≡ Some y
-  set_here [] i x y there = absurd cc
-  set_here (z ∷ xs) zero x y there = refl
-  set_here (z ∷ xs) (suc i) x y there = set_here xs i x y there
-
   push_other : (xs : List A) (j : ℕ) (y : A) → (j ≡ length xs → ⊥) → slice_get (xs ++ y ∷ []) j ≡ slice_get xs j
   push_other [] zero y apart = absurd (apart refl)
   push_other [] (suc j) y apart = refl
@@ -28,11 +23,6 @@ module _ {A : Type 0} where
   pub push_here : (xs : List A) (y : A) → slice_get (xs ++ y ∷ []) (length xs) ≡ Some y
   push_here [] y = refl
   push_here (z ∷ xs) y = push_here xs y
-
-  get_none : (xs : List A) (i : ℕ) → slice_get xs i ≡ None → length xs ≤ i
-  get_none [] i none = omega arith
-  get_none (x ∷ xs) zero none = absurd cc
-  get_none (x ∷ xs) (suc i) none = let rest : length xs ≤ i = get_none xs i none in omega arith
 
   -- a row that is there has a number above 0, and stands in its place
   pub record IsThere (xs : List A) (id : ℕ) (x : A) : Type 0 where
@@ -56,18 +46,6 @@ module _ {A : Type 0} where
       (λ (e : id ≡ 0 → ⊥). cond-false _ _ _ (ne_eqb id 0 e) ∙ same (omega arith) ∙ sym (cond-false _ _ _ (ne_eqb id 0 e)))
       (cases_eq id 0)
 
-  -- no row has the number 0, or one above the length
-  pub row_none : (xs : List A) (id : ℕ) → row_numbered xs id ≡ None → (id ≡ 0) ⊎ (length xs < id)
-  row_none xs id none =
-      elim (eqb id 0) as (λ b. b ≡ eqb id 0 → cond b None (slice_get xs (id - 1)) ≡ None → (id ≡ 0) ⊎ (length xs < id)) [
-        | true ↦ (λ is gone. inl (eqb-true id 0 (sym is)))
-        | false ↦ (λ is gone. let some : id ≡ 0 → ⊥ = eqb-false id 0 (sym is) in inr (let far : length xs ≤ id - 1 = get_none xs (id - 1) gone in omega arith))
-      ] refl none
-
-  pub none_row : (xs : List A) (id : ℕ) → (id ≡ 0) ⊎ (length xs < id) → row_numbered xs id ≡ None
-  none_row xs id (inl e) = cond-true _ _ _ (eq-eqb id 0 e)
-  none_row xs id (inr past) = cond-false _ _ _ (ne_eqb id 0 (λ e. omega arith)) ∙ slice_get_past xs (id - 1) (omega arith)
-
   -- a row in the place of another
   pub row_set_apart : (xs : List A) (id other : ℕ) (y : A) → 0 < id → (other ≡ id → ⊥) → row_numbered (slice_set xs (id - 1) y) other ≡ row_numbered xs other
   row_set_apart xs id other y above apart = row_same (slice_set xs (id - 1) y) xs other (λ some. set_other xs (id - 1) (other - 1) y (λ e. apart (omega (arith, above))))
@@ -75,17 +53,9 @@ module _ {A : Type 0} where
   pub row_set_other : (xs : List A) (id other : ℕ) (x y : A) → row_numbered xs id ≡ Some x → (other ≡ id → ⊥) → row_numbered (slice_set xs (id - 1) y) other ≡ row_numbered xs other
   row_set_other xs id other x y is apart = row_set_apart xs id other y (is_there xs id x is).above apart
 
-  pub row_set : (xs : List A) (id : ℕ) (x y : A) → row_numbered xs id ≡ Some x → row_numbered (slice_set xs (id - 1) y) id ≡ Some y
-  row_set xs id x y is =
-      let there : IsThere xs id x = is_there xs id x is in
-      row_there (slice_set xs (id - 1) y) id y (record { above = there.above; at = set_here xs (id - 1) x y there.at })
-
   -- a row behind the others
   pub row_push_other : (xs : List A) (other : ℕ) (y : A) → (other ≡ length xs + 1 → ⊥) → row_numbered (xs ++ y ∷ []) other ≡ row_numbered xs other
   row_push_other xs other y apart = row_same (xs ++ y ∷ []) xs other (λ above. push_other xs (other - 1) y (λ e. apart (omega arith)))
-
-  pub row_push : (xs : List A) (y : A) → row_numbered (xs ++ y ∷ []) (length xs + 1) ≡ Some y
-  row_push xs y = row_there (xs ++ y ∷ []) (length xs + 1) y (record { above = omega arith; at = subst (λ i. slice_get (xs ++ y ∷ []) i ≡ Some y) (omega arith) (push_here xs y) })
 
   -- a number that there is has a row
   pub some_row : (xs : List A) (id : ℕ) → Has (length xs) id → (x : A) × (row_numbered xs id ≡ Some x)

@@ -1,7 +1,6 @@
 -- A request for a cart may read what it reads.
-use Rattle.std.proofs.Common.{◌≡◌, ℕ, ◌+◌, ◌%◌, List, [], ◌∷◌, ◌++◌, length, map, take, get_or, All, Option, Some, None, refl, sym, ◌∙◌, ap, subst, inl, inr}
-use Rattle.std.proofs.lemmas.List.Elements.{All-nil, All-cons, All-head, All-tail, All-append, All-map}
-use Rattle.shop_model.specs.declared.requests.Request.{Request}
+use Rattle.std.proofs.Common.{◌≡◌, ℕ, ◌+◌, ◌%◌, List, [], ◌∷◌, ◌++◌, length, take, get_or, All, Option, Some, None, refl, sym, ◌∙◌, ap, subst, inl, inr}
+use Rattle.std.proofs.lemmas.List.Elements.{All-nil, All-cons, All-append}
 use Rattle.shop_model.specs.declared.requests.Request.TheVariants.{CartRequest}
 use Rattle.shop_model.specs.declared.tables.Tables.{Tables}
 use Rattle.shop_model.specs.CartAsked.{CartAsked}
@@ -9,7 +8,6 @@ use Rattle.shop_model.specs.Carts.{set_lines, wanted, cart_lines, lines_named}
 use Rattle.shop_model.specs.Lookups.{row_numbered}
 use Rattle.shop_model.specs.Rows.{CartRow}
 use Rattle.shop_history.specs.declared.acts.Entry.{Entry}
-use Rattle.shop_history.specs.declared.keys.Key.{Key}
 use Rattle.shop_history.specs.declared.keys.Key.TheVariants as key
 use Rattle.shop_history.specs.declared.keys.Row.{Row}
 use Rattle.shop_history.specs.declared.keys.Row.TheVariants as row
@@ -21,7 +19,9 @@ use Rattle.shop_attempt.specs.Seats.{Seat, Looked}
 use Rattle.shop_attempt.proofs.Looks.{all_since_later, all_since_earlier}
 use Rattle.shop_browse.specs.Attempts.{AreReadFor}
 use Rattle.shop_browse.specs.Footprints.{drawn_item, IsAmong, WasOnCart, IsCartItem, InFootprint}
+use Rattle.shop_browse.proofs.Attempting.{reads_for}
 use Rattle.shop_browse.proofs.Items.{same_size}
+use Rattle.shop_browse.proofs.Keyed.{all_keyed}
 use Rattle.shop_order.specs.Begun.{cart_reads, IsNamed, ReadsCart, lines_in, begun_with, MakesOfCart}
 use Rattle.shop_order.specs.Lines.{AreItems, ReadsItems}
 use Rattle.shop_order.proofs.Setting.{made_on}
@@ -48,13 +48,6 @@ since_append : (start now : Seat) (one other : List ReadOf) → AreReadSince sta
 since_append start now [] other are more = more
 since_append start now (read ∷ one) other are more = (are.0, since_append start now one other are.1 more)
 
-reads_for : (start now : Seat) (request : Request) (draw : ℕ) (reads : List ReadOf) → AreReadSince start now reads
-    → All (λ r. InFootprint now.opening now.seen request draw r.key) reads → AreReadFor start now request draw reads
-reads_for start now request draw [] since about = tt
-reads_for start now request draw (read ∷ reads) since about =
-    let P : ReadOf → Type 0 = λ r. InFootprint now.opening now.seen request draw r.key in
-    (record { since = since.0; footprint = All-head P read reads about }, reads_for start now request draw reads since.1 (All-tail P read reads about))
-
 -- each item of the lines after is one that the request may read
 
 was_on : (start now : Seat) (named : Option ℕ) (read : ReadOf) (r : Row) (item : ℕ) → read.row ≡ r → IsNamed named (Some read) → AreReadSince start now (read ∷ []) → IsAmong item (lines_in r)
@@ -72,11 +65,7 @@ was_on start now named read (row.Cart cart) item row_is is since among =
         line = among;
       },
     )
-was_on start now named read row.Absent item row_is is since among = absurd cc
-was_on start now named read (row.Item x) item row_is is since among = absurd cc
-was_on start now named read (row.Label x) item row_is is since among = absurd cc
-was_on start now named read (row.Customer x) item row_is is since among = absurd cc
-was_on start now named read (row.Items x) item row_is is since among = absurd cc
+was_on start now named read _ item row_is is since among = absurd cc
 
 old_on : (start now : Seat) (asked : CartAsked) (draw : ℕ) (cart : Option ReadOf) (item : ℕ) → IsNamed asked.ids.cart cart → AreReadSince start now (cart_reads cart)
     → IsAmong item (begun_with cart) → IsCartItem now.opening now.seen asked draw item
@@ -111,10 +100,6 @@ lines_on start now asked items draw cart lines size is since had lines_are =
 
 -- the keys
 
-unmap : {A B : Type 0} (P : B → Type 0) (f : A → B) (xs : List A) → All P (map f xs) → All (λ x. P (f x)) xs
-unmap P f [] all = All-nil (λ x. P (f x))
-unmap P f (x ∷ xs) all = All-cons (λ x. P (f x)) x xs (All-head P (f x) (map f xs) all) (unmap P f xs (All-tail P (f x) (map f xs) all))
-
 cart_about : (opening : Tables) (log : List Entry) (asked : CartAsked) (draw : ℕ) (cart : Option ReadOf) → IsNamed asked.ids.cart cart
     → All (λ r. InFootprint opening log (CartRequest asked) draw r.key) (cart_reads cart)
 cart_about opening log asked draw None is = All-nil (λ (r : ReadOf). InFootprint opening log (CartRequest asked) draw r.key)
@@ -126,10 +111,8 @@ cart_about opening log asked draw (Some read) is =
 items_about : (opening : Tables) (log : List Entry) (asked : CartAsked) (draw : ℕ) (lines : List (ℕ × ℕ)) (reads : List ReadOf) → AreItems lines reads
     → All (λ l. IsCartItem opening log asked draw l.0) lines → All (λ r. InFootprint opening log (CartRequest asked) draw r.key) reads
 items_about opening log asked draw lines reads are on =
-    let K : Key → Type 0 = InFootprint opening log (CartRequest asked) draw in
-    let key_of : ℕ × ℕ → Key = λ l. key.Item l.0 in
-    let keys : All K (map key_of lines) = All-map K key_of lines (λ k d within. inl (inr ((get_or lines k d).0, on k d within, refl))) in
-    unmap K (λ (r : ReadOf). r.key) reads (subst (All K) (sym are) keys)
+    all_keyed (λ (l : ℕ × ℕ). key.Item l.0) lines reads are (InFootprint opening log (CartRequest asked) draw)
+    (λ k d within. inl (inr ((get_or lines k d).0, on k d within, refl)))
 
 -- the items behind the cart, or the cart alone
 

@@ -1,6 +1,6 @@
 -- Reads of a cart, and of the items of its lines one after another.
-use Rattle.std.proofs.Common.{◌≡◌, ℕ, ◌+◌, ◌<◌, List, [], ◌∷◌, ◌++◌, length, map, take, Option, Some, None, refl, sym, ◌∙◌, ap, subst}
-use Rattle.std.proofs.lemmas.List.{map-append, map_more}
+use Rattle.std.proofs.Common.{◌≡◌, ℕ, ◌+◌, ◌<◌, List, [], ◌∷◌, ◌++◌, length, take, Option, Some, None, refl, sym, subst}
+use Rattle.std.proofs.lemmas.List.{take_more}
 use Rattle.shop_model.specs.declared.tables.Tables.{Tables}
 use Rattle.shop_model.specs.Lookups.{row_numbered}
 use Rattle.shop_model.specs.Rows.{CartRow}
@@ -16,6 +16,7 @@ use Rattle.shop_attempt.specs.Reads.{IsReadOf, AreReadSince}
 use Rattle.shop_attempt.specs.Seats.{Seat, IsSeat, Looked}
 use Rattle.shop_attempt.proofs.Looks.{looked_trans, since_push, all_since_later}
 use Rattle.shop_browse.proofs.Items.{seat_sound}
+use Rattle.shop_browse.proofs.Keyed.{keyed_more}
 use Rattle.shop_browse.proofs.Labelling.{read_since}
 use Rattle.shop_order.specs.Begun.{IsFitRow, ReadsCart}
 use Rattle.shop_order.specs.Lines.{ReadsItems}
@@ -44,12 +45,7 @@ pub one_item_more : (start middle now : Seat) (lines : List (ℕ × ℕ)) (i : �
 one_item_more start middle now lines i items new read within reads before after is pushed =
     let key_of : ℕ × ℕ → Key = λ l. key.Item l.0 in
     record {
-      are =
-          ap (map (λ (r : ReadOf). r.key)) pushed
-          ∙ map-append (λ (r : ReadOf). r.key) items (read ∷ [])
-          ∙ ap (λ (keys : List Key). keys ++ read.key ∷ []) reads.are
-          ∙ ap (λ (k : Key). map key_of (take i lines) ++ k ∷ []) is.key_is
-          ∙ sym (map_more key_of lines i (0, 0) within);
+      are = rw (pushed, take_more lines i (0, 0) within) (keyed_more key_of (take i lines) items reads.are (line_at lines i) read is.key_is);
       since = subst (AreReadSince start now) (sym pushed)
           (since_push start now items read (all_since_later start middle now items after reads.since)
           (read_since start now (key.Item (line_at lines i).0) read (looked_trans start middle now before after) is));

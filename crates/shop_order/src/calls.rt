@@ -1,8 +1,6 @@
-ghost use Rattle.std.specs.Prelude.{◌≡◌, length};
-ghost use Rattle.shop_model.specs.Catalogues.{catalogue};
-ghost use Rattle.shop_attempt.specs.Marks.{KeepsMarks};
-ghost use Rattle.shop_attempt.specs.Seats.{Looked};
-ghost use Rattle.shop_browse.specs.Attempts.{AttemptedAs};
+ghost use Rattle.std.specs.Prelude.{◌≡◌};
+ghost use Rattle.shop_attempt.specs.Marks.{Looks};
+ghost use Rattle.shop_browse.specs.Attempts.{AttemptedAs, Suits};
 
 use crate::shopping_cart;
 use shop_attempt::Store;
@@ -12,10 +10,8 @@ use std::alloc::Global;
 
 /// An attempt at what a request asks for.
 pub fn attempt<St: Store>(alloc: Global, store: &mut St, ask: &Ask, request: &Request) -> Attempted
-    requires index { ask.now.index.now ≡ catalogue (St.seat store.old).opening }
-    requires scale { ask.now.scale.now.items ≡ length (St.seat store.old).opening.items }
-    ensures looked { Looked (St.seat store.old) (St.seat store.new) }
-    ensures marks { KeepsMarks (St.marked store.old) (St.marked store.new) (St.seat store.old) (St.seat store.new) }
+    requires suits { Suits ask.now (St.seat store.old) }
+    ensures looks { Looks St.seat St.marked store.old store.new }
     ensures attempted { AttemptedAs (St.seat store.old) (St.seat store.new) request.now ask.now.moment ask.now.draw result }
 {
     match request {

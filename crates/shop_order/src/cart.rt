@@ -1,8 +1,7 @@
 //! Shopping Cart: what a request for it makes of a cart.
 ghost use Rattle.std.specs.Prelude.{◌≡◌, Some, None, IfOk, length};
 ghost use Rattle.shop_model.specs.Refusals.{page_of};
-ghost use Rattle.shop_attempt.specs.Marks.{KeepsMarks};
-ghost use Rattle.shop_attempt.specs.Seats.{Looked};
+ghost use Rattle.shop_attempt.specs.Marks.{Looks};
 ghost use Rattle.shop_browse.specs.Attempts.{AttemptedAs, attempt_of};
 ghost use Rattle.shop_pricing.specs.Bounds.{AreLines};
 ghost use Rattle.shop_order.specs.Begun.{IsBegun, MakesOfCart, cart_reads};
@@ -103,8 +102,7 @@ fn change<St: Store>(
     lines: Listed<(u32, u32)>,
 ) -> Result<Attempted, Memory>
     requires made { MakesOfCart ask.now.scale.now.items asked.now ask.now.draw cart lines }
-    ensures looked { Looked (St.seat store.old) (St.seat store.new) }
-    ensures marks { KeepsMarks (St.marked store.old) (St.marked store.new) (St.seat store.old) (St.seat store.new) }
+    ensures looks { Looks St.seat St.marked store.old store.new }
     ensures attempted { IfOk result (spec.AttemptsChange (St.seat store.old) (St.seat store.new) ask.now.scale.now.items asked.now cart ask.now.moment ask.now.draw) }
 {
     let items = read_items(alloc, store, lines.as_slice())?;
@@ -141,8 +139,7 @@ fn attempt_by<St: Store>(
     begun: Begun,
 ) -> Result<Attempted, Memory>
     requires begun { IsBegun ask.now.scale.now.items asked.now ask.now.draw cart begun }
-    ensures looked { Looked (St.seat store.old) (St.seat store.new) }
-    ensures marks { KeepsMarks (St.marked store.old) (St.marked store.new) (St.seat store.old) (St.seat store.new) }
+    ensures looks { Looks St.seat St.marked store.old store.new }
     ensures attempted { IfOk result (spec.AttemptsChange (St.seat store.old) (St.seat store.new) ask.now.scale.now.items asked.now cart ask.now.moment ask.now.draw) }
 {
     match begun {
@@ -159,8 +156,7 @@ fn answer<St: Store>(
     asked: &CartRequest,
 ) -> Result<Attempted, Memory>
     requires scale { ask.now.scale.now.items ≡ length (St.seat store.old).opening.items }
-    ensures looked { Looked (St.seat store.old) (St.seat store.new) }
-    ensures marks { KeepsMarks (St.marked store.old) (St.marked store.new) (St.seat store.old) (St.seat store.new) }
+    ensures looks { Looks St.seat St.marked store.old store.new }
     ensures attempted { IfOk result (AttemptedAs (St.seat store.old) (St.seat store.new) (Request.CartRequest asked.now) ask.now.moment ask.now.draw) }
 {
     let cart = read_cart(store, asked.ids.cart)?;
@@ -176,8 +172,7 @@ pub fn shopping_cart<St: Store>(
     asked: &CartRequest,
 ) -> Attempted
     requires scale { ask.now.scale.now.items ≡ length (St.seat store.old).opening.items }
-    ensures looked { Looked (St.seat store.old) (St.seat store.new) }
-    ensures marks { KeepsMarks (St.marked store.old) (St.marked store.new) (St.seat store.old) (St.seat store.new) }
+    ensures looks { Looks St.seat St.marked store.old store.new }
     ensures attempted { AttemptedAs (St.seat store.old) (St.seat store.new) (Request.CartRequest asked.now) ask.now.moment ask.now.draw result }
 {
     match answer(alloc, store, ask, asked) {

@@ -1,7 +1,6 @@
 //! The rows that a request for the shopping cart reads.
 ghost use Rattle.std.specs.Prelude.{◌≡◌, ◌++◌, IfOk};
-ghost use Rattle.shop_attempt.specs.Marks.{KeepsMarks};
-ghost use Rattle.shop_attempt.specs.Seats.{Looked};
+ghost use Rattle.shop_attempt.specs.Marks.{Looks};
 ghost use Rattle.shop_order.specs.Begun.{ReadsCart, cart_reads};
 ghost use Rattle.shop_order.specs.Lines.{ReadsItems};
 
@@ -15,8 +14,7 @@ pub(crate) fn read_cart<St: Store>(
     store: &mut St,
     named: Option<u32>,
 ) -> Result<Option<ReadOf>, Memory>
-    ensures looked { Looked (St.seat store.old) (St.seat store.new) }
-    ensures marks { KeepsMarks (St.marked store.old) (St.marked store.new) (St.seat store.old) (St.seat store.new) }
+    ensures looks { Looks St.seat St.marked store.old store.new }
     ensures reads { IfOk result (ReadsCart (St.seat store.old) (St.seat store.new) named) }
 {
     match named {
@@ -31,8 +29,7 @@ pub(crate) fn read_items<St: Store>(
     store: &mut St,
     lines: &[(u32, u32)],
 ) -> Result<Listed<ReadOf>, Memory>
-    ensures looked { Looked (St.seat store.old) (St.seat store.new) }
-    ensures marks { KeepsMarks (St.marked store.old) (St.marked store.new) (St.seat store.old) (St.seat store.new) }
+    ensures looks { Looks St.seat St.marked store.old store.new }
     ensures reads { IfOk result (ReadsItems (St.seat store.old) (St.seat store.new) lines.now) }
 {
     let mut items = Listed::with_capacity(alloc, lines.len() + 1)?;

@@ -14,11 +14,7 @@ pub grow-requires : goal.grow-requires
 grow-requires c =
     let few : FewMore (tables_with no_tables c.args.rows.now) (tables_with no_tables c.put_writes.new.self) (length c.args.writes.items)
     = subst (λ u. FewMore (tables_with no_tables c.args.rows.now) u (length c.args.writes.items)) (sym (c.put_writes.ensures no_tables)) (few_more (tables_with no_tables c.args.rows.now) c.args.stamp c.args.writes.items) in
-    record {
-      items = omega (arith, few.items, c.requires.places.items, c.requires.room.items, c.args.versions.now.items.ok);
-      customers = omega (arith, few.customers, c.requires.places.customers, c.requires.room.customers, c.args.versions.now.customers.ok);
-      carts = omega (arith, few.carts, c.requires.places.carts, c.requires.room.carts, c.args.versions.now.carts.ok);
-    }
+    grind (arith, few, c.requires.places, c.requires.room, c.args.versions.now.items.ok, c.args.versions.now.customers.ok, c.args.versions.now.carts.ok)
 
 pub raise_changed-requires-clause-watchable : goal.raise_changed-requires-clause-watchable
 raise_changed-requires-clause-watchable c = λ k d within.

@@ -22,11 +22,7 @@ loop-kept-preserved c =
     let keys : List Key = keys_of (take c.loop-kept.kept-index c.args.watched.now) in
     let raised = c.raise_if_changed.ensures in
     record {
-      places = record {
-        items = omega (arith, raised.places.items, c.loop-kept.invariant.places.items);
-        customers = omega (arith, raised.places.customers, c.loop-kept.invariant.places.customers);
-        carts = omega (arith, raised.places.carts, c.loop-kept.invariant.places.carts);
-      };
+      places = grind (arith, raised.places, c.loop-kept.invariant.places);
       raised = λ before t are.
           let was : kept.row ≡ row_of before kept.key = subst (λ (k : Watched). k.row ≡ row_of before k.key) (sym c.kept-item.is) (are c.loop-kept.kept-index kept c.loop-kept-test.true) in
           subst (λ (ks : List Key). RaisedFor before (tables_with t c.args.rows.now) c.args.number ks (stored c.args.versions.now) (stored c.raise_if_changed.new.versions))

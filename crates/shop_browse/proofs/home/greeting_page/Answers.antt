@@ -1,15 +1,13 @@
-use Rattle.std.proofs.Common.{Some, ap, sym, ◌∙◌, subst}
+use Rattle.std.proofs.Common.{Some, sym, ◌∙◌, subst}
 use Rattle.std.proofs.lemmas.Result.{IfOk-weaker}
 use Rattle.shop_model.specs.Show.{home_page}
-use Rattle.shop_browse.specs.Homes.{IsGreeting}
 use Rattle.shop_browse.specs.Promotions.{IsShownBy}
 use Rattle.shop_browse.proofs.Homes.{same_customer}
 use Rattle.shop_browse.proofs.home.greeting_page.Goals as goal
 
 pub returns-in-Customer : goal.returns-in-Customer
 returns-in-Customer c =
-    IfOk-weaker c.home_page.result (IsShownBy c.args.promotion.now c.args.draw (λ t. home_page t c.args.ids c.args.draw (Some c.in-Customer.customer)))
-    (IsGreeting c.args.ids c.args.known.now c.args.promotion.now c.args.draw)
+    IfOk-weaker c.home_page.result _ _
     (λ page shows customer is. subst (λ x. IsShownBy c.args.promotion.now c.args.draw (λ t. home_page t c.args.ids c.args.draw (Some x)) page) (same_customer c.in-Customer.customer customer (sym c.in-Customer.is ∙ is)) shows)
     c.home_page.ensures
 

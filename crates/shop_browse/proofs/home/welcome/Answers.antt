@@ -8,7 +8,7 @@ use Rattle.shop_browse.proofs.home.welcome.Goals as goal
 pub returns-clause-attempted : goal.returns-clause-attempted
 returns-clause-attempted g c =
     attempted_from _ _ (Home c.args.asked.now) _ _ c.args.ask.now.index.now (promotion_reads c.in_ok-promotion.promotion) c.in_ok-into_reads.field-0 c.in_ok-page.page c.attempt_of.result
-    c.attempt_of.ensures c.in_ok-into_reads.ensures c.requires.index c.in_ok-promotion.ensures.looked
+    c.attempt_of.ensures c.in_ok-into_reads.ensures c.requires.suits.index c.in_ok-promotion.ensures.looks.looked
     (c.in_ok-promotion.ensures.reads (Home c.args.asked.now) (λ opening log. inr refl))
     (anyone_shown (g.St.Store.seat c.args.store.now).opening c.args.ask.now.index.now c.args.ask.now.scale.now.items c.args.ask.now.draw c.args.asked.now c.in_ok-promotion.promotion c.in_ok-page.page
-    c.in_ok-promotion.ensures.drawn c.requires.scale c.requires.index c.requires.anyone c.in_ok-page.ensures)
+    c.in_ok-promotion.ensures.drawn c.requires.suits.scale c.requires.suits.index c.requires.anyone c.in_ok-page.ensures)

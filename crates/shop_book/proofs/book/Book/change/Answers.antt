@@ -5,30 +5,25 @@ use Rattle.shop_history.specs.declared.acts.Entry.{Entry}
 use Rattle.shop_history.specs.Drawing.{new_ids}
 use Rattle.shop_history.proofs.Raising.{RaisedFor}
 use Rattle.shop_book.specs.declared.watching.Watched.{Watched}
-use Rattle.shop_book.specs.Books.{BookValue, tables_of}
+use Rattle.shop_book.specs.Books.{tables_of}
 use Rattle.shop_book.specs.BookView.{book_of}
 use Rattle.shop_book.specs.Keeping.{IsKept}
 use Rattle.shop_book.specs.Puts.{AreReady, named}
 use Rattle.shop_book.specs.RowsNow.{tables_with, HasRoom}
-use Rattle.shop_book.specs.Settles.{IsNext}
 use Rattle.shop_book.specs.Stored as versioned
 use Rattle.shop_book.specs.Stored.{stored}
 use Rattle.shop_book.specs.Watching.{AreOf, IsWatchable, keys_of}
-use Rattle.shop_book.proofs.Changing.{cart_fits, names_fit, kept_roomy, ready, kept_after}
+use Rattle.shop_book.proofs.Changing.{next, cart_fits, names_fit, kept_roomy, ready, kept_after}
 use Rattle.shop_book.proofs.Puts.{named_length}
 use Rattle.shop_book.proofs.book.Book.change.Goals as goal
 
 pub watch-requires : goal.watch-requires
 watch-requires c =
-    let b : BookValue = book_of c.self.inside in
-    let next : IsNext b c.args.entry c.args.writes.items = subst (λ (v : BookValue). IsNext v c.args.entry c.args.writes.items) (sym c.self.view_is) c.requires in
-    omega (arith, cart_fits b c.self.invariant.is_book c.args.entry c.args.writes.items next, ap (λ (t : Tables). length t.carts) c.self.invariant.rows_are)
+    omega (arith, cart_fits _ _ c.self.invariant.is_book _ _ c.self.view_is c.requires, ap (λ (t : Tables). length t.carts) c.self.invariant.rows_are)
 
 pub named-requires : goal.named-requires
 named-requires c =
-    let b : BookValue = book_of c.self.inside in
-    let next : IsNext b c.args.entry c.args.writes.items = subst (λ (v : BookValue). IsNext v c.args.entry c.args.writes.items) (sym c.self.view_is) c.requires in
-    names_fit b c.self.invariant.is_book c.args.entry c.args.writes.items next c.in-Ok.ensures.form c.self.inside.rows c.self.inside.versions c.self.inside.counts c.self.invariant
+    names_fit _ _ c.self.invariant.is_book _ _ c.self.view_is c.requires c.in-Ok.ensures.form c.self.inside.rows c.self.inside.versions c.self.inside.counts c.self.invariant
 
 pub invariant_of-self : goal.invariant_of-self
 invariant_of-self c =
@@ -38,19 +33,17 @@ invariant_of-self c =
 
 pub change_rows-ids-requires : goal.change_rows-ids-requires
 change_rows-ids-requires c =
-    let b : BookValue = book_of c.self.inside in
-    let next : IsNext b c.args.entry c.args.writes.items = subst (λ (v : BookValue). IsNext v c.args.entry c.args.writes.items) (sym c.self.view_is) c.requires in
     let count : ℕ = length c.self.inside.rows.customers.items in
     let many : c.len-more.result ≡ length c.args.writes.items = omega (arith, c.len-more.ensures, c.args.writes.ok.0) in
     let named_many : length c.in-Ok-named.writes.items ≡ length c.args.writes.items = ap length c.in-Ok-named.ensures ∙ named_length count c.args.writes.items in
     record {
       ready =
           subst (AreReady c.make_room.new.rows c.args.entry.stamp) (sym c.in-Ok-named.ensures)
-          (ready b c.self.invariant.is_book c.args.entry c.args.writes.items next c.in-Ok.ensures.form c.self.inside.rows c.self.inside.versions c.self.inside.counts c.self.invariant
+          (ready _ _ c.self.invariant.is_book _ _ c.self.view_is c.requires c.in-Ok.ensures.form c.self.inside.rows c.self.inside.versions c.self.inside.counts c.self.invariant
           c.make_room.new.rows (c.make_room.ensures.rows c.self.inside.opening.tables)
           (subst (HasRoom c.make_room.new.rows) many c.if-not-make_room.ensures.rows_room));
       places =
-          (kept_roomy b c.self.inside.rows c.make_room.new.rows c.self.inside.versions c.make_room.new.versions c.self.inside.counts c.make_room.new.counts
+          (kept_roomy (book_of c.self.inside) c.self.inside.rows c.make_room.new.rows c.self.inside.versions c.make_room.new.versions c.self.inside.counts c.make_room.new.counts
           c.self.invariant c.make_room.ensures.rows c.make_room.ensures.versions c.make_room.ensures.places c.make_room.ensures.counts).places;
       room = subst (versioned.HasRoom c.make_room.new.versions) (many ∙ sym named_many) c.if-not-make_room.ensures.versions_room;
       rows = λ t.
@@ -61,8 +54,6 @@ change_rows-ids-requires c =
 
 pub invariant_of-self-2 : goal.invariant_of-self-2
 invariant_of-self-2 c =
-    let b : BookValue = book_of c.self.inside in
-    let next : IsNext b c.args.entry c.args.writes.items = subst (λ (v : BookValue). IsNext v c.args.entry c.args.writes.items) (sym c.self.view_is) c.requires in
     let t : Tables = c.self.inside.opening.tables in
     let later : Tables = tables_with t c.change_rows-ids.new.rows in
     let log : c.push_reserved.new.self.items ≡ c.self.inside.log.items ++ c.args.entry ∷ [] = c.push_reserved.ensures.items ∙ ap (λ (l : List Entry). l ++ c.args.entry ∷ []) c.make_room.ensures.log in
@@ -73,27 +64,25 @@ invariant_of-self-2 c =
     = subst (λ n. RaisedFor (tables_with t c.make_room.new.rows) later n (keys_of c.in-Ok.watched.items) (stored c.make_room.new.versions) (stored c.change_rows-ids.new.versions)) size
     (subst (λ (watched : List Watched). RaisedFor (tables_with t c.make_room.new.rows) later (c.len.result + 1) (keys_of watched) (stored c.make_room.new.versions) (stored c.change_rows-ids.new.versions)) c.deref.ensures.value (c.change_rows-ids.ensures.raised t)) in
     subst (λ (l : List Entry). IsKept (record { opening = c.self.inside.opening; log = l; latest = c.args.entry.stamp }) c.change_rows-ids.new.rows c.change_rows-ids.new.versions c.set.new.self) (sym log)
-    (kept_after b c.self.invariant.is_book c.args.entry c.args.writes.items next c.in-Ok.ensures.form c.self.inside.rows c.self.inside.versions c.self.inside.counts c.self.invariant
+    (kept_after _ _ c.self.invariant.is_book _ _ c.self.view_is c.requires c.in-Ok.ensures.form c.self.inside.rows c.self.inside.versions c.self.inside.counts c.self.invariant
     c.make_room.new.rows (c.make_room.ensures.rows t) c.change_rows-ids.new.rows c.make_room.new.versions c.change_rows-ids.new.versions c.set.new.self made
     (keys_of c.in-Ok.watched.items) (c.in-Ok.ensures.keys t) c.change_rows-ids.ensures.places c.make_room.ensures.versions rises
     (λ caller. c.set.ensures caller ∙ ap (λ (count : ℕ). if c.args.entry.caller == caller then c.args.entry.number else count) (c.make_room.ensures.counts caller)))
 
 pub returns-clause-taken : goal.returns-clause-taken
 returns-clause-taken c =
-    let b : BookValue = book_of c.self.inside in
-    let next : IsNext b c.args.entry c.args.writes.items = subst (λ (v : BookValue). IsNext v c.args.entry c.args.writes.items) (sym c.self.view_is) c.requires in
     let t : Tables = c.self.inside.opening.tables in
     let log : c.push_reserved.new.self.items ≡ c.self.inside.log.items ++ c.args.entry ∷ [] = c.push_reserved.ensures.items ∙ ap (λ (l : List Entry). l ++ c.args.entry ∷ []) c.make_room.ensures.log in
     rw (← c.self.view_is)
     (record {
-      room = λ some. next.left;
+      room = λ some. (next _ _ c.self.invariant.is_book _ _ c.self.view_is c.requires).left;
       stamp_is = refl;
       book = ap (λ (l : List Entry). record { opening = c.self.inside.opening; log = l; latest = c.args.entry.stamp }) log;
       front = omega (arith, c.len.ensures, c.make_room.new.log.ok.0, ap length c.make_room.ensures.log, ap length log, length-append c.self.inside.log.items (c.args.entry ∷ []));
       ids =
           c.change_rows-ids.ensures.ids t
           ∙ ap (λ (u : Tables). new_ids u (tables_with t c.change_rows-ids.new.rows)) (c.make_room.ensures.rows t ∙ c.self.invariant.rows_are)
-          ∙ ap (new_ids (tables_of b)) (invariant_of-self-2 c).rows_are;
+          ∙ ap (new_ids (tables_of (book_of c.self.inside))) (invariant_of-self-2 c).rows_are;
     })
 
 pub returns-clause-kept : goal.returns-clause-kept
