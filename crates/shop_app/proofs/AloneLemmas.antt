@@ -1,95 +1,126 @@
 -- Over a store that one caller has, each answer is settled at once, and the log is what the changes made.
-use Rattle.std.proofs.Common.{◌≡◌, ℕ, List, [], ◌∷◌, ◌++◌, length, map, take, Some, IsSome, ◌⊎◌, inl, inr, refl, sym, ◌∙◌, ap, subst, ◌+◌, arith, length-append, append-nil}
+use Rattle.std.proofs.Common.{◌≡◌, ℕ, ◌+◌, ◌≤◌, List, [], ◌∷◌, ◌++◌, map, Option, Some, None, IsSome, Result, Ok, Err, ◌⊎◌, inl, inr, refl, sym, ◌∙◌, ap, subst, arith, append-nil}
 use Rattle.std.specs.Prelude.{All}
 use Rattle.std.proofs.lemmas.List.{map-append}
 use Rattle.std.proofs.lemmas.List.Concat.{flat_map-append}
-use Rattle.std.proofs.lemmas.List.Elements.{All-cons, All-nil, All-map, All-weaker, All-append}
-use Rattle.shop_log.specs.Histories.{Extends}
-use Rattle.shop_log.proofs.Extending.{take_extends}
-use Rattle.shop_model.proofs.Lists.{all_head, all_tail}
+use Rattle.std.proofs.lemmas.List.Elements.{All-cons, All-nil, All-append}
+use Rattle.shop_model.specs.declared.requests.Request.{Request}
 use Rattle.shop_history.specs.declared.acts.Entry.{Entry}
-use Rattle.shop_attempt.specs.Seats.{Seat}
-use Rattle.shop_http.specs.declared.messages.Stop.{Stop}
-use Rattle.shop_http.specs.declared.messages.Stop.TheVariants.{Between, Refusing}
+use Rattle.shop_http.specs.declared.requests.Refusal.{Refusal}
+use Rattle.shop_http.specs.Requests.{asked}
+use Rattle.shop_pages.specs.declared.reply.Form.{Form}
+use Rattle.shop_engine.specs.declared.report.Ended.{Ended}
+use Rattle.shop_engine.specs.declared.report.Ended.TheVariants as ended
 use Rattle.shop_engine.specs.declared.report.Point.{Point}
 use Rattle.shop_engine.specs.declared.report.PointKind.{PointKind}
 use Rattle.shop_engine.specs.declared.report.PointKind.TheVariants.{Plain, Change, Busy}
-use Rattle.shop_engine.specs.Rounds.{Round, Place, PointAs, AreRounds, after_one, made_as, changes_of, entry_numbered}
-use Rattle.shop_engine.specs.Served.{Served, Streams, last_points, plain_point}
-use Rattle.shop_engine.specs.Workers.{Caller, Progress}
-use Rattle.shop_engine.proofs.Lasts.{last_entry, entry_longer}
+use Rattle.shop_engine.specs.Decided.{Asking, CauseAs}
+use Rattle.shop_engine.specs.Served.{Served, Streams, AfterAs, told_points}
+use Rattle.shop_engine.specs.Staying.{StampRose}
+use Rattle.shop_engine.specs.Steps.{Step, IsStepFor, AreSteps, asking_of, plain_point, points_of, made_of}
+use Rattle.shop_engine.specs.Workers.{Progress, Standing}
 use Rattle.shop_app.specs.Session.{IsAtOnce, IsSettled, moment_as, moments_of}
 
--- a round is settled at once
-once : (place : Place) (told : IsSome place.latest) (log : List Entry) (round : Round) (kind : PointKind) → round.point.kind ≡ kind → PointAs place log round kind → IsAtOnce round.point
-once place told log round (Busy conflicts) is point = absurd (point.others told)
-once place told log round Plain is point = absurd point
-once place told log round _ is point = record { settled = subst IsSettled (sym is) tt; tries = point.tries.alone told }
+-- a caller who has the shop alone: its latest stamp is no later than the last moment
+pub record IsAlone (here : Standing) : Type 0 where
+  pub stamp : ℕ
+  pub latest : here.seat.latest ≡ Some stamp
+  pub within : stamp ≤ here.progress.last
 
-rounds_once : (place : Place) (told : IsSome place.latest) (rounds : List Round) (before after : Progress) (log last : List Entry)
-    → AreRounds place before log rounds after last → All (λ (r : Round). IsAtOnce r.point) rounds
-rounds_once place told [] before after log last are = All-nil (λ (r : Round). IsAtOnce r.point)
-rounds_once place told (round ∷ rounds) before after log last are =
-    All-cons (λ (r : Round). IsAtOnce r.point) round rounds
-    (once place told log round round.point.kind refl are.0.kind)
-    (rounds_once place told rounds _ after round.seen last are.1)
+is_told : (here : Standing) → IsAlone here → IsSome here.seat.latest
+is_told here alone = subst IsSome (sym alone.latest) refl
 
--- a refusal's point is plain
-refusal_plain : (stop : Stop) → All (λ p. (p ≡ plain_point) ⊎ IsAtOnce p) (last_points stop)
-refusal_plain (Refusing status) = All-cons (λ (p : Point). (p ≡ plain_point) ⊎ IsAtOnce p) plain_point [] (inl refl) (All-nil (λ (p : Point). (p ≡ plain_point) ⊎ IsAtOnce p))
-refusal_plain _ = All-nil (λ (p : Point). (p ≡ plain_point) ⊎ IsAtOnce p)
+alone_next : (form : Form) (from to : Standing) (step : Step) (asks : Result Request Refusal) → IsStepFor form from step to asks → IsAlone from → IsAlone to
+alone_next form from to step (Ok request) is alone =
+    let rose : StampRose (Some alone.stamp) to.seat.latest step.point.moment = subst (λ o. StampRose o to.seat.latest step.point.moment) alone.latest is.decided.stays.stamp in
+    record {
+      stamp = rose.0;
+      latest = rose.1;
+      within = omega (arith, rose.3, alone.within, is.moment, ap (λ (p : Progress). p.last) is.accepts.progress);
+    }
+alone_next form from to step (Err refusal) is alone = subst IsAlone (sym is.stands) alone
 
--- the points of a connection of the only caller
-pub all_at_once : (caller : Caller) (before after : Progress) (seat seat' : Seat) (old new : Streams) (stop : Stop) (points : List Point)
-    → Served caller before after seat seat' old new stop points → IsSome seat.latest → All (λ p. (p ≡ plain_point) ⊎ IsAtOnce p) points
-all_at_once caller before after seat seat' old new stop points served told =
-    let here : All (λ p. (p ≡ plain_point) ⊎ IsAtOnce p) (map (λ r. r.point) served.rounds)
-    = All-map (λ (p : Point). (p ≡ plain_point) ⊎ IsAtOnce p) (λ (r : Round). r.point) served.rounds
-    (All-weaker (λ (r : Round). IsAtOnce r.point) (λ (r : Round). (r.point ≡ plain_point) ⊎ IsAtOnce r.point) (λ r is. inr is) served.rounds
-    (rounds_once _ told served.rounds before after seat.seen seat'.seen served.each)) in
-    subst (All (λ p. (p ≡ plain_point) ⊎ IsAtOnce p)) (sym served.all)
-    (All-append (λ (p : Point). (p ≡ plain_point) ⊎ IsAtOnce p) (map (λ r. r.point) served.rounds) (last_points stop) here (refusal_plain stop))
+-- a point is settled at once, or it tells a refusal
+
+abbrev IsQuick : Point → Type 0
+IsQuick point = (point ≡ plain_point) ⊎ IsAtOnce point
+
+once : (from to : Standing) (step : Step) (asking : Asking) (kind : PointKind) → IsSome from.seat.latest → step.point.kind ≡ kind → step.point.tries ≡ 1
+    → CauseAs from.seat to.seat asking step.point.tries step.made kind → IsAtOnce step.point
+once from to step asking (Busy conflicts) told is tries cause = absurd (cause.0.others told)
+once from to step asking Plain told is tries cause = absurd cause
+once from to step asking _ told is tries cause = record { settled = subst IsSettled (sym is) tt; tries = tries }
+
+quick : (form : Form) (from to : Standing) (step : Step) (asks : Result Request Refusal) → IsStepFor form from step to asks → IsAlone from → IsQuick step.point
+quick form from to step (Ok request) is alone = inr (once from to step (asking_of request step.point) step.point.kind (is_told from alone) refl (is.decided.tries.alone (is_told from alone)) is.decided.cause)
+quick form from to step (Err refusal) is alone = inl is.point
+
+steps_once : (answers : ℕ) (from to : Standing) (steps : List Step) → AreSteps answers from steps to → IsAlone from → All IsQuick (points_of steps)
+steps_once answers from to [] are alone = All-nil IsQuick
+steps_once answers from to (step ∷ steps) (next, is, are) alone =
+    All-cons IsQuick step.point (points_of steps) (quick _ from next step (asked step.message) is alone)
+    (steps_once (answers + 1) next to steps are (alone_next _ from next step (asked step.message) is alone))
+
+told_once : (told : Option ℕ) → All IsQuick (told_points told)
+told_once None = All-nil IsQuick
+told_once (Some status) = All-cons IsQuick plain_point [] (inl refl) (All-nil IsQuick)
 
 -- the stamps of changes are their moments
 
--- the stamp of a round's entry in a log that it begins
-stamp_made : (place : Place) (log final : List Entry) (round : Round) (kind : PointKind) → place.latest ≡ Some 0 → PointAs place log round kind → take (length round.seen) final ≡ round.seen
-    → map (λ e. e.stamp) (made_as final round.point.front kind) ≡ moment_as round.point.moment kind
-stamp_made place log final round Change first point begins =
-    let extends : Extends round.seen final = subst (λ (l : List Entry). Extends l final) begins (take_extends final (length round.seen)) in
-    let long : length round.seen ≡ length point.before + 1 = ap length point.seen ∙ length-append point.before (point.entry ∷ []) in
-    let made : entry_numbered final round.point.front ≡ point.entry ∷ []
-    = entry_longer round.seen final round.point.front extends (omega (arith, point.front, long)) (omega (arith, point.front, long))
-    ∙ last_entry round.seen point.before point.entry round.point.front point.seen point.front in
-    let stamp : point.entry.stamp ≡ round.point.moment = omega (arith, point.stamp.exact 0 first) in
-    ap (map (λ (e : Entry). e.stamp)) made ∙ ap (λ n. n ∷ []) stamp
-stamp_made place log final round _ first point begins = refl
+stamp_made : (from to : Standing) (step : Step) (asking : Asking) (kind : PointKind) → IsAlone from → from.progress.last ≤ asking.moment
+    → CauseAs from.seat to.seat asking step.point.tries step.made kind → map (λ e. e.stamp) step.made ≡ moment_as asking.moment kind
+stamp_made from to step asking Change alone later cause =
+    let stamp : cause.entry.stamp ≡ asking.moment = omega (arith, cause.stamp.exact alone.stamp alone.latest, alone.within, later) in
+    ap (map (λ (e : Entry). e.stamp)) cause.made_is ∙ ap (λ n. n ∷ []) stamp
+stamp_made from to step asking Plain alone later cause = absurd cause
+stamp_made from to step asking _ alone later cause = ap (map (λ (e : Entry). e.stamp)) cause.1
 
-stamps_made : (place : Place) (rounds : List Round) (before after : Progress) (log last final : List Entry) → place.latest ≡ Some 0 → AreRounds place before log rounds after last
-    → All (λ r. take (length r.seen) final ≡ r.seen) rounds → map (λ e. e.stamp) (changes_of final (map (λ r. r.point) rounds)) ≡ moments_of (map (λ r. r.point) rounds)
-stamps_made place [] before after log last final first are fronts = refl
-stamps_made place (round ∷ rounds) before after log last final first are fronts =
-    let head = stamp_made place log final round round.point.kind first are.0.kind (all_head (λ (r : Round). take (length r.seen) final ≡ r.seen) round rounds fronts) in
-    let behind = stamps_made place rounds (after_one before round.reading) after round.seen last final first are.1 (all_tail (λ (r : Round). take (length r.seen) final ≡ r.seen) round rounds fronts) in
-    map-append (λ (e : Entry). e.stamp) (made_as final round.point.front round.point.kind) (changes_of final (map (λ (r : Round). r.point) rounds))
-    ∙ ap (λ (l : List ℕ). l ++ map (λ (e : Entry). e.stamp) (changes_of final (map (λ (r : Round). r.point) rounds))) head
-    ∙ ap (λ (l : List ℕ). moment_as round.point.moment round.point.kind ++ l) behind
+stamps_of : (form : Form) (from to : Standing) (step : Step) (asks : Result Request Refusal) → IsStepFor form from step to asks → IsAlone from
+    → map (λ e. e.stamp) step.made ≡ moment_as step.point.moment step.point.kind
+stamps_of form from to step (Ok request) is alone =
+    stamp_made from to step (asking_of request step.point) step.point.kind alone (omega (arith, is.moment, ap (λ (p : Progress). p.last) is.accepts.progress)) is.decided.cause
+stamps_of form from to step (Err refusal) is alone = rw (is.made, is.point) refl
 
--- a refusal changes nothing
-changes_last : (log : List Entry) (stop : Stop) → changes_of log (last_points stop) ≡ []
-changes_last log Between = refl
-changes_last log _ = refl
+stamps_made : (answers : ℕ) (from to : Standing) (steps : List Step) → AreSteps answers from steps to → IsAlone from → map (λ e. e.stamp) (made_of steps) ≡ moments_of (points_of steps)
+stamps_made answers from to [] are alone = refl
+stamps_made answers from to (step ∷ steps) (next, is, are) alone =
+    map-append (λ (e : Entry). e.stamp) step.made (made_of steps)
+    ∙ ap (λ (l : List ℕ). l ++ map (λ (e : Entry). e.stamp) (made_of steps)) (stamps_of _ from next step (asked step.message) is alone)
+    ∙ ap (λ (l : List ℕ). moment_as step.point.moment step.point.kind ++ l)
+    (stamps_made (answers + 1) next to steps are (alone_next _ from next step (asked step.message) is alone))
 
-moments_last : (stop : Stop) → moments_of (last_points stop) ≡ []
-moments_last Between = refl
-moments_last _ = refl
+moments_told : (told : Option ℕ) → moments_of (told_points told) ≡ []
+moments_told None = refl
+moments_told (Some status) = refl
 
-pub stamps_are : (caller : Caller) (before after : Progress) (seat seat' : Seat) (old new : Streams) (stop : Stop) (points : List Point)
-    → Served caller before after seat seat' old new stop points → seat.latest ≡ Some 0 → map (λ e. e.stamp) (changes_of seat'.seen points) ≡ moments_of points
-stamps_are caller before after seat seat' old new stop points served first =
-    let those : List Point = map (λ (r : Round). r.point) served.rounds in
-    let made : List Point → List Entry = changes_of seat'.seen in
-    ap (λ ps. map (λ (e : Entry). e.stamp) (made ps)) served.all
-    ∙ ap (map (λ (e : Entry). e.stamp)) (flat_map-append (λ (p : Point). made_as seat'.seen p.front p.kind) those (last_points stop) ∙ ap (λ (l : List Entry). made those ++ l) (changes_last seat'.seen stop) ∙ append-nil (made those))
-    ∙ stamps_made _ served.rounds before after seat.seen seat'.seen seat'.seen first served.each served.fronts
-    ∙ sym (ap moments_of served.all ∙ flat_map-append (λ (p : Point). moment_as p.moment p.kind) those (last_points stop) ∙ ap (λ (l : List ℕ). moments_of those ++ l) (moments_last stop) ∙ append-nil (moments_of those))
+-- what came behind the last answer left the tables and the log
+
+after_alone : (end : Ended) (mid new : Standing) → AfterAs end mid new → IsSome mid.seat.latest → (new.seat.opening ≡ mid.seat.opening) × (new.seat.seen ≡ mid.seat.seen)
+after_alone ended.Memory mid new gives_up told = (gives_up.within.stays.follows.opening, gives_up.within.stays.alone told ∙ append-nil mid.seat.seen)
+after_alone _ mid new same told = (ap (λ (s : Standing). s.seat.opening) same, ap (λ (s : Standing). s.seat.seen) same)
+
+-- a connection of the only caller
+module _ (old new : Standing) (streams streams' : Streams) (end : Ended) (points : List Point) (served : Served old new streams streams' end points) (alone : IsAlone old) where
+  still_told : IsSome served.mid.seat.latest
+  still_told =
+      let rose : StampRose (Some alone.stamp) served.mid.seat.latest served.mid.progress.last = subst (λ o. StampRose o served.mid.seat.latest served.mid.progress.last) alone.latest served.stays.stamp in
+      subst IsSome (sym rose.1) refl
+
+  pub opening_same : new.seat.opening ≡ old.seat.opening
+  opening_same = (after_alone end served.mid new served.after still_told).0 ∙ served.stays.follows.opening
+
+  pub log_made : new.seat.seen ≡ old.seat.seen ++ made_of served.steps
+  log_made = (after_alone end served.mid new served.after still_told).1 ∙ served.stays.alone (is_told old alone)
+
+  pub all_at_once : All (λ p. (p ≡ plain_point) ⊎ IsAtOnce p) points
+  all_at_once =
+      subst (All IsQuick) (sym served.all)
+      (All-append IsQuick (points_of served.steps) (told_points served.told) (steps_once 0 old served.mid served.steps served.run alone) (told_once served.told))
+
+  pub stamps_are : map (λ e. e.stamp) (made_of served.steps) ≡ moments_of points
+  stamps_are =
+      stamps_made 0 old served.mid served.steps served.run alone
+      ∙ sym (append-nil (moments_of (points_of served.steps)))
+      ∙ ap (λ (l : List ℕ). moments_of (points_of served.steps) ++ l) (sym (moments_told served.told))
+      ∙ sym (flat_map-append (λ (p : Point). moment_as p.moment p.kind) (points_of served.steps) (told_points served.told))
+      ∙ ap moments_of (sym served.all)

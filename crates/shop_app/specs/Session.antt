@@ -1,38 +1,38 @@
 -- What a session does, by its status.
-use Rattle.std.specs.Prelude.{◌≡◌, ◌≢◌, ◌⊎◌, ℕ, List, [], ◌∷◌, map, All, Option, Some, codes}
+use Rattle.std.specs.Prelude.{◌≡◌, ◌⊎◌, ℕ, List, [], ◌∷◌, map, All, Option, Some}
 use Rattle.std.specs.List.{flat_map}
 use Rattle.std.specs.Io.KnownBytes.{Appends}
 use Rattle.shop_edges.specs.Causes.{Rose}
 use Rattle.shop_model.specs.Population.{populated}
-use Rattle.shop_model.specs.Scales.{desk}
 use Rattle.shop_history.specs.Lawful.{IsLawful}
-use Rattle.shop_book.specs.Solos.{SoloValue, seat_of}
-use Rattle.shop_http.specs.declared.messages.Stop.{Stop}
-use Rattle.shop_http.specs.declared.messages.Stop.TheVariants.{Between}
-use Rattle.shop_engine.specs.declared.report.Point.{Point}
 use Rattle.shop_attempt.specs.Seats.{Seat}
+use Rattle.shop_book.specs.Solos.{SoloValue, seat_of}
+use Rattle.shop_engine.specs.declared.report.Ended.{Ended}
+use Rattle.shop_engine.specs.declared.report.Ended.TheVariants as ended
+use Rattle.shop_engine.specs.declared.report.Point.{Point}
 use Rattle.shop_engine.specs.declared.report.PointKind.{PointKind}
 use Rattle.shop_engine.specs.declared.report.PointKind.TheVariants.{Plain, At, Change, Busy, Full}
-use Rattle.shop_engine.specs.Rounds.{changes_of}
-use Rattle.shop_engine.specs.Served.{Served, Streams, plain_point}
-use Rattle.shop_engine.specs.Workers.{Caller, Progress, WorkerState, at_first}
+use Rattle.shop_engine.specs.Served.{Served, Streams}
+use Rattle.shop_engine.specs.Steps.{plain_point, made_of}
+use Rattle.shop_engine.specs.Workers.{Caller, Standing, WorkerState, at_first}
+use Rattle.shop_words.specs.declared.command.Command.{Command}
+use Rattle.shop_words.specs.declared.command.Command.TheVariants as command
+use Rattle.shop_words.specs.declared.command.Session.{Session}
+use Rattle.shop_words.specs.Commands.{IsCommand}
 use Rattle.shop_app.specs.declared.status.Status.{Status}
 use Rattle.shop_app.specs.declared.status.Status.TheVariants as status
 use Rattle.shop_app.specs.Statuses.{fault_line}
 
--- the words of the one command
-abbrev pub session_words : List (List ℕ)
-session_words = codes "session" ∷ []
+-- caller 1 of the shop that the words choose
+unfoldable pub first_caller : Session → Caller
+first_caller session = record { number = 1; seed = session.seed; scale = session.scale }
 
--- caller 1 of the shop at desk scale with seed 0
-unfoldable pub first_caller : Caller
-first_caller = record { number = 1; seed = 0; scale = desk }
-
--- its seat before the session: alone over the desk, whose log is empty and may have so many entries
-unfoldable pub first_seat : Seat
-first_seat = record {
+-- its seat before the session: alone, over the population of its seed and scale, with a log that is empty
+-- and may have so many entries
+unfoldable pub first_seat : Session → Seat
+first_seat session = record {
   shop = [];
-  opening = populated 0 desk;
+  opening = populated session.seed session.scale;
   limit = 1_000_000;
   caller = 1;
   seen = [];
@@ -44,10 +44,14 @@ first_seat = record {
 }
 
 -- a worker of this caller at this seat, that has served no request
-pub record IsFirst (worker : WorkerState SoloValue) : Type 0 where
-  pub caller : worker.caller ≡ first_caller
+pub record IsFirst (session : Session) (worker : WorkerState SoloValue) : Type 0 where
+  pub caller : worker.caller ≡ first_caller session
   pub progress : worker.progress ≡ at_first
-  pub seat : seat_of worker.store ≡ first_seat
+  pub seat : seat_of worker.store ≡ first_seat session
+
+-- where it stands before the session
+abbrev pub first_standing : Session → Option (List ℕ) → Standing
+first_standing session clock = record { caller = first_caller session; progress = at_first; seat = first_seat session; clock = clock }
 
 -- a settle decided the answer
 abbrev pub IsSettled : PointKind → Type 0
@@ -71,39 +75,44 @@ moment_as moment _ = []
 abbrev pub moments_of : List Point → List ℕ
 moments_of points = flat_map (λ p. moment_as p.moment p.kind) points
 
--- its one connection was served until the messages stopped so: no settle was stale, the log is lawful, and it
--- is what the changes made, each with its moment as its stamp
-pub record ServedTo (old new : Streams) (stop : Stop) : Type 0 where
-  pub points : List Point
-  pub after : Progress
-  pub seat : Seat
-  pub served : Served first_caller at_first after first_seat seat old new stop points
-  pub alone : All (λ p. (p ≡ plain_point) ⊎ IsAtOnce p) points
-  pub lawful : IsLawful (populated 0 desk) seat.seen
-  pub log : seat.seen ≡ changes_of seat.seen points
-  pub stamps : map (λ e. e.stamp) seat.seen ≡ moments_of points
-
--- the messages stopped otherwise than between two of them
-pub record ServedInPart (old new : Streams) : Type 0 where
-  pub stop : Stop
-  pub unserved : stop ≢ Between
-  pub to : ServedTo old new stop
-
--- how often the source and the sink have failed, before and after
-pub record Faults : Type 0 where
+-- what a session is run on: its streams and its clock, and how often the source and the sink have failed
+pub record Run : Type 0 where
+  pub streams : Streams
+  pub clock : Option (List ℕ)
   pub reads : ℕ
-  pub reads_after : ℕ
   pub writes : ℕ
-  pub writes_after : ℕ
 
--- what a session's status says
-abbrev pub IsSession : Streams → Streams → Faults → Status → Type 0
-IsSession old new faults status.Done = ServedTo old new Between
-IsSession old new faults status.Unserved = ServedInPart old new
-IsSession old new faults status.BadWords = ⊥
-IsSession old new faults status.ReadFault = Rose faults.reads faults.reads_after
-IsSession old new faults status.WriteFault = Rose faults.writes faults.writes_after
-IsSession old new faults status.Memory = Unit {0}
+-- its one connection was served to this end: no settle was stale, the log is lawful, and it is what the
+-- changes made, each with its moment as its stamp
+pub record ServedTo (session : Session) (old new : Run) (end : Ended) : Type 0 where
+  pub points : List Point
+  pub after : Standing
+  pub served : Served (first_standing session old.clock) after old.streams new.streams end points
+  pub clock : after.clock ≡ new.clock
+  pub alone : All (λ p. (p ≡ plain_point) ⊎ IsAtOnce p) points
+  pub lawful : IsLawful (populated session.seed session.scale) after.seat.seen
+  pub log : after.seat.seen ≡ made_of served.steps
+  pub stamps : map (λ e. e.stamp) after.seat.seen ≡ moments_of points
+
+-- what the status of a session says; where memory runs out before there is a worker, nothing is read or written
+abbrev pub IsSession : Session → Run → Run → Status → Type 0
+IsSession session old new status.Done = ServedTo session old new ended.Closed ⊎ ServedTo session old new ended.Asked
+IsSession session old new status.Unserved =
+    ServedTo session old new ended.Cut ⊎ ((number : ℕ) × ServedTo session old new (ended.Refused number))
+    ⊎ ServedTo session old new ended.Spent
+IsSession session old new status.BadWords = ⊥
+IsSession session old new status.ReadFault = Rose old.reads new.reads × ServedTo session old new ended.ReadFault
+IsSession session old new status.WriteFault = Rose old.writes new.writes × ServedTo session old new ended.WriteFault
+IsSession session old new status.Memory = (new ≡ old) ⊎ ServedTo session old new ended.Memory
+
+-- what came of a command
+abbrev pub Obeys : Command → Run → Run → Status → Type 0
+Obeys (command.Session session) old new outcome = IsSession session old new outcome
+
+-- the words give a command, and this is what came of it, or memory ran out before they were read
+abbrev pub IsRun : List (List ℕ) → Run → Run → Status → Type 0
+IsRun words old new outcome =
+    ((outcome ≡ status.Memory) × (new ≡ old)) ⊎ ((given : Command) × IsCommand words given × Obeys given old new outcome)
 
 -- the line of a status stands on the faults sink, or that sink failed
 abbrev pub IsTold : Option (List ℕ) → Option (List ℕ) → ℕ → ℕ → Status → Type 0

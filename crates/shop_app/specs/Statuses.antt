@@ -25,8 +25,10 @@ fault_line status.Memory = codes "tpcw: out of memory\n"
 -- the status of a session whose connection ended so
 abbrev pub status_of : Ended → Status
 status_of ended.Closed = status.Done
+status_of ended.Asked = status.Done
 status_of ended.Cut = status.Unserved
 status_of (ended.Refused number) = status.Unserved
+status_of ended.Spent = status.Unserved
 status_of ended.ReadFault = status.ReadFault
 status_of ended.WriteFault = status.WriteFault
 status_of ended.Memory = status.Memory

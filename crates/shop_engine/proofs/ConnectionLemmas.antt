@@ -1,324 +1,304 @@
 -- How what a connection has met goes on by one message, and what it comes to at the end.
-use Rattle.std.proofs.Common.{◌≡◌, ℕ, ◌+◌, ◌<◌, ◌≤◌, ◌⊎◌, ⊎_elim, length-append, List, [], ◌∷◌, ◌++◌, length, take, map, All, append_assoc, append-nil, refl, sym, ap, ◌∙◌, arith, subst, Some, None, IsSome}
-use Rattle.std.specs.Option.{IfSome}
+use Rattle.std.proofs.Common.{◌≡◌, ℕ, ◌+◌, ◌<◌, ◌≤◌, ◌==◌, inr, Bool, false, List, [], ◌∷◌, ◌++◌, length, length-append, append_assoc, append-nil, refl, sym, ap, ◌∙◌, arith, subst, take, Some, None, Result, Ok, Err}
 use Rattle.std.specs.declared.option.Option.{Option}
-use Rattle.std.specs.Io.KnownBytes.{Appends}
-use Rattle.std.proofs.lemmas.List.{map-append, length-take, take-append-le, take_all}
-use Rattle.std.proofs.lemmas.List.Concat.{flat_map-append}
-use Rattle.std.proofs.lemmas.List.Elements.{All-nil, All-push, All-weaker, All-head, All-tail}
-use Rattle.std.proofs.lemmas.List.Sums.{sum_by-cons, sum_by_push}
-use Rattle.shop_edges.specs.Clocks.{Tells}
+use Rattle.std.specs.List.{concat}
+use Rattle.std.specs.Io.KnownBytes.{Appends, Consumes}
+use Rattle.std.proofs.lemmas.List.{map-append, length-map}
+use Rattle.std.proofs.lemmas.List.Elements.{All-nil, All-push}
+use Rattle.std.proofs.lemmas.List.Folds.{concat-append}
+use Rattle.std.proofs.lemmas.List.Sums.{sum_by-cons}
+use Rattle.shop_edges.specs.Streams.{AppendsFront}
 use Rattle.shop_edges.proofs.Known.{Appends-nothing, Appends-more, Consumes-nothing, Consumes-more}
-use Rattle.shop_log.specs.Histories.{Extends}
+use Rattle.shop_message.specs.declared.messages.Message.{Message}
+use Rattle.shop_message.specs.Messages.{Between, Inside, Refusing, StopsAt}
+use Rattle.shop_message.specs.Nexts.{GivesMessage, Stops, Breaks}
+use Rattle.shop_message.proofs.BeginLemmas.{HaveCome-none, HaveCome-begin, HaveCome-message}
 use Rattle.shop_model.specs.declared.requests.Request.{Request}
-use Rattle.shop_model.specs.Checks.{check}
-use Rattle.shop_model.specs.Show.{show}
-use Rattle.shop_history.specs.declared.acts.Entry.{Entry}
-use Rattle.shop_history.specs.Logs.{tables}
 use Rattle.shop_attempt.specs.Seats.{Seat}
-use Rattle.shop_http.specs.declared.messages.Stop.{Stop}
-use Rattle.shop_http.specs.declared.messages.Stop.TheVariants.{Refusing}
-use Rattle.shop_http.specs.Messages.{AreMessages}
-use Rattle.shop_http.specs.Nexts.{GivesRequest, Stops}
+use Rattle.shop_http.specs.declared.requests.Refusal.{Refusal}
+use Rattle.shop_http.specs.Requests.{asked}
+use Rattle.shop_pages.specs.declared.reply.Form.{Form}
 use Rattle.shop_engine.specs.declared.report.Ended.{Ended}
 use Rattle.shop_engine.specs.declared.report.Ended.TheVariants as ended
 use Rattle.shop_engine.specs.declared.report.Point.{Point}
-use Rattle.shop_engine.specs.declared.report.PointKind.{PointKind}
-use Rattle.shop_engine.specs.declared.report.PointKind.TheVariants.{Plain, At, Change, Busy, Full}
-use Rattle.shop_engine.specs.Rounds.{Round, Place, PointAs, IsRound, AreRounds, after_one, reply_of, settles_of, made_as, changes_of}
-use Rattle.shop_engine.specs.Served.{Streams, Served, Ran, place_of, last_points, tries_of, plain_point}
-use Rattle.shop_engine.specs.Steps.{Answered, Finished, SoFar, Serves}
-use Rattle.shop_engine.specs.Tries.{Stays, StaysWithin, StampRose, IsTry}
-use Rattle.shop_engine.specs.Workers.{Caller, Progress}
-use Rattle.shop_engine.proofs.Lasts.{entry_longer}
-use Rattle.shop_engine.proofs.Retrying.{same_met}
-use Rattle.shop_engine.proofs.Staying.{stays_same, stays_later, stays_trans, within_trans, within_of, still_told, stamp_from}
+use Rattle.shop_engine.specs.Connections.{Output, Turn, Adds, MessageAs, RefusalAs, Came, SoFar}
+use Rattle.shop_engine.specs.Served.{Streams, Served, GoesOn, EndsWith, IsCut, Wrote, EndsAs, LastsAs, AfterAs, told_points, told_replies}
+use Rattle.shop_engine.specs.Staying.{Stays}
+use Rattle.shop_engine.specs.Steps.{ANSWERS, Step, IsStep, IsStepFor, AreSteps, GivesUp, messages_of, points_of, replies_from, made_of, settles_of}
+use Rattle.shop_engine.specs.Workers.{Progress, Standing, WorkerState, standing}
+use Rattle.shop_engine.proofs.Staying.{stays_same, stays_later, stays_trans, within_of}
 
--- one more message behind the others
+-- what steps leave together
 
-ran_more : (a b c : Option (List ℕ)) (readings : List ℕ) (reading : ℕ) → Ran a readings b → Tells b c reading → Ran a (readings ++ reading ∷ []) c
-ran_more a b c [] reading ran told = let P : Option (List ℕ) → Type 0 = λ x. Tells x c reading in (c, subst P ran told, refl)
-ran_more a b c (first ∷ readings) reading ran told = (ran.0, ran.1, ran_more ran.0 b c readings reading ran.2 told)
+last_kept : (form : Form) (from : Standing) (step : Step) (to : Standing) (asks : Result Request Refusal) → IsStepFor form from step to asks → from.progress.last ≤ to.progress.last
+last_kept form from step to (Ok request) is = omega (arith, ap (λ (p : Progress). p.last) is.accepts.progress)
+last_kept form from step to (Err refusal) is = omega (arith, ap (λ (s : Standing). s.progress.last) is.stands)
 
-rounds_more : (place : Place) (before mid : Progress) (log seen : List Entry) (rounds : List Round) (round : Round) → AreRounds place before log rounds mid seen → IsRound place mid seen round
-    → AreRounds place before log (rounds ++ round ∷ []) (after_one mid round.reading) round.seen
-rounds_more place before mid log seen [] round each one = (
-  subst (λ p. IsRound place p log round) each.0 (subst (λ l. IsRound place mid l round) each.1 one),
-  (ap (λ p. after_one p round.reading) each.0, refl),
-)
-rounds_more place before mid log seen (first ∷ rounds) round each one = (each.0, rounds_more place (after_one before first.reading) mid first.seen seen rounds round each.1 one)
+step_stays : (form : Form) (from : Standing) (step : Step) (to : Standing) (asks : Result Request Refusal) → IsStepFor form from step to asks → Stays from.seat to.seat step.made step.point.tries to.progress.last
+step_stays form from step to (Ok request) is = rw (sym is.moment) is.decided.stays
+step_stays form from step to (Err refusal) is = rw (is.stands, is.made, is.point) (stays_same from.seat from.progress.last)
 
-begins_later : (begin log longer : List Entry) → Extends log longer → take (length begin) log ≡ begin → take (length begin) longer ≡ begin
-begins_later begin log longer extends begins =
-    ap (λ l. take (length begin) l) extends.is ∙ take-append-le (length begin) log extends.rest (omega (arith, ap length begins, length-take (length begin) log)) ∙ begins
+last_grows : (answers : ℕ) (from to : Standing) (steps : List Step) → AreSteps answers from steps to → from.progress.last ≤ to.progress.last
+last_grows answers from to [] same = omega (arith, ap (λ (s : Standing). s.progress.last) same)
+last_grows answers from to (step ∷ steps) (next, is, are) = omega (arith, last_kept _ from step next (asked step.message) is, last_grows (answers + 1) next to steps are)
 
-fronts_more : (log : List Entry) (rounds : List Round) (round : Round) → Extends log round.seen → All (λ r. take (length r.seen) log ≡ r.seen) rounds
-    → All (λ r. take (length r.seen) round.seen ≡ r.seen) (rounds ++ round ∷ [])
-fronts_more log rounds round grows fronts =
-    All-push (λ r. take (length r.seen) round.seen ≡ r.seen) rounds round (All-weaker _ _ (λ r. begins_later r.seen log round.seen grows) rounds fronts) (take_all (length round.seen) round.seen (omega arith))
+stays_of : (answers : ℕ) (from to : Standing) (steps : List Step) → AreSteps answers from steps to → Stays from.seat to.seat (made_of steps) (settles_of steps) to.progress.last
+stays_of answers from to [] same = subst (λ (s : Standing). Stays from.seat s.seat [] 0 s.progress.last) (sym same) (stays_same from.seat from.progress.last)
+stays_of answers from to (step ∷ steps) (next, is, are) =
+    rw (sum_by-cons (λ (s : Step). s.point.tries) step steps)
+    (stays_trans from.seat next.seat to.seat step.made (made_of steps) step.point.tries (settles_of steps) to.progress.last
+    (stays_later from.seat next.seat step.made step.point.tries next.progress.last to.progress.last (step_stays _ from step next (asked step.message) is) (last_grows (answers + 1) next to steps are))
+    (stays_of (answers + 1) next to steps are))
 
--- a place whose latest stamp was told stays one
+-- one message more
 
-try_from : (first later : Option ℕ) (last tries : ℕ) → StampRose first later last → IsTry later tries → IsTry first tries
-try_from first later last tries rose is = record { some = is.some; few = is.few; alone = λ told. is.alone (still_told first later last rose told) }
-
-point_from : (place now : Place) (last : ℕ) (log : List Entry) (round : Round) (kind : PointKind) → now.opening ≡ place.opening → now.limit ≡ place.limit → now.caller ≡ place.caller
-    → StampRose place.latest now.latest last → last ≤ round.point.moment → PointAs now log round kind → PointAs place log round kind
-point_from place now last log round At opening limit caller rose later point = record {
-  front = point.front;
-  alone = subst (λ t. IsSome (show (tables t round.seen) round.request round.point.draw)) opening point.alone;
-  tries = try_from place.latest now.latest last round.point.tries rose point.tries;
-}
-point_from place now last log round Change opening limit caller rose later point = record {
-  before = point.before;
-  entry = point.entry;
-  grows = point.grows;
-  seen = point.seen;
-  front = point.front;
-  caller = point.caller ∙ ap (λ (c : Caller). c.number) caller;
-  does = point.does;
-  stamp = stamp_from place.latest now.latest last round.point.moment point.entry.stamp rose later point.stamp;
-  tries = try_from place.latest now.latest last round.point.tries rose point.tries;
-}
-point_from place now last log round (Busy conflicts) opening limit caller rose later point = record {
-  front = point.front;
-  tries = point.tries;
-  eight = point.eight;
-  each = same_met now.opening place.opening round.seen now.caller.number place.caller.number round.request round.point.draw conflicts opening (ap (λ (c : Caller). c.number) caller) point.each;
-  rise = point.rise;
-  on = point.on;
-  others = λ told. point.others (still_told place.latest now.latest last rose told);
-}
-point_from place now last log round Full opening limit caller rose later point = record {
-  front = point.front;
-  limit = point.limit ∙ limit;
-  changes = point.changes;
-  passes = ap (λ t. check (tables t round.seen) round.request) (sym opening) ∙ point.passes;
-  tries = try_from place.latest now.latest last round.point.tries rose point.tries;
-}
-point_from place now last log round Plain opening limit caller rose later point = absurd point
-
-round_from : (caller : Caller) (start seat : Seat) (before : Progress) (log : List Entry) (round : Round) → seat.opening ≡ start.opening → seat.limit ≡ start.limit → StampRose start.latest seat.latest before.last
-    → IsRound (place_of caller seat) before log round → IsRound (place_of caller start) before log round
-round_from caller start seat before log round opening limit rose is = record {
-  call = is.call;
-  moment = is.moment;
-  draw = is.draw;
-  grows = is.grows;
-  kind =
-      point_from (place_of caller start) (place_of caller seat) before.last log round round.point.kind opening limit refl rose (omega (arith, is.moment)) is.kind;
+Came-one : (left mid left' : Option (List ℕ)) (unread rest : List ℕ) (messages : List Message) (message : Message) → Came left mid unread messages → GivesMessage mid left' unread rest message
+    → Came left left' rest (messages ++ message ∷ [])
+Came-one left mid left' unread rest messages message came gives = record {
+  given = came.given ++ gives.piece;
+  taken = Consumes-more left mid left' came.given gives.piece came.taken gives.taken;
+  come = HaveCome-message mid left' came.given unread rest messages message came.come gives;
 }
 
--- the entries of the changes among points that a log has are the same in a longer one
+Steps-one : (answers : ℕ) (from now next : Standing) (steps : List Step) (step : Step) → AreSteps answers from steps now → IsStep ((answers + length steps + 1) == ANSWERS) now step next
+    → AreSteps answers from (steps ++ step ∷ []) next
+Steps-one answers from now next [] step same is =
+    let one : IsStep ((answers + 1) == ANSWERS) now step next = subst (λ n. IsStep ((n + 1) == ANSWERS) now step next) (omega arith) is in
+    (next, subst (λ (s : Standing). IsStep ((answers + 1) == ANSWERS) s step next) same one, refl)
+Steps-one answers from now next (first ∷ steps) step (mid, begins, are) is =
+    (mid, begins, Steps-one (answers + 1) mid now next steps step are (subst (λ n. IsStep ((n + 1) == ANSWERS) now step next) (omega arith) is))
 
-made_longer : (place : Place) (before log longer : List Entry) (round : Round) (kind : PointKind) → Extends log longer → PointAs place before round kind → take (length round.seen) log ≡ round.seen
-    → made_as longer round.point.front kind ≡ made_as log round.point.front kind
-made_longer place before log longer round Change extends point begins =
-    let some : 0 < round.point.front = omega (arith, point.front, ap length point.seen, length-append point.before (point.entry ∷ [])) in
-    entry_longer log longer round.point.front extends some (omega (arith, some, point.front, ap length begins, length-take (length round.seen) log))
-made_longer place before log longer round _ extends point begins = refl
+-- the step of a turn follows those before it
+turn-step : (old now next : Standing) (steps : List Step) (step : Step) (points points' : List Point) (turn : Turn)
+    → AreSteps 0 old steps now → points ≡ points_of steps → Adds turn now next points points' step → turn.last ≡ ((length points + 1) == ANSWERS) → AreSteps 0 old (steps ++ step ∷ []) next
+turn-step old now next steps step points points' turn run all adds last =
+    let count : length points ≡ 0 + length steps = ap length all ∙ length-map steps (λ (s : Step). s.point) ∙ omega arith in
+    Steps-one 0 old now next steps step run (subst (λ b. IsStep b now step next) (last ∙ ap (λ n. (n + 1) == ANSWERS) count) adds.is)
 
-changes_longer : (place : Place) (before after : Progress) (first log longer seen : List Entry) (rounds : List Round) → Extends log longer → AreRounds place before first rounds after seen
-    → All (λ r. take (length r.seen) log ≡ r.seen) rounds → changes_of longer (map (λ r. r.point) rounds) ≡ changes_of log (map (λ r. r.point) rounds)
-changes_longer place before after first log longer seen [] extends are fronts = refl
-changes_longer place before after first log longer seen (round ∷ rounds) extends are fronts =
-    let begins = All-head (λ (r : Round). take (length r.seen) log ≡ r.seen) round rounds fronts in
-    let head : made_as longer round.point.front round.point.kind ≡ made_as log round.point.front round.point.kind
-    = made_longer place first log longer round round.point.kind extends are.0.kind begins in
-    let behind : changes_of longer (map (λ (r : Round). r.point) rounds) ≡ changes_of log (map (λ (r : Round). r.point) rounds)
-    = changes_longer place (after_one before round.reading) after round.seen log longer seen rounds extends are.1 (All-tail (λ (r : Round). take (length r.seen) log ≡ r.seen) round rounds fronts) in
-    ap (λ (l : List Entry). l ++ changes_of longer (map (λ (r : Round). r.point) rounds)) head
-    ∙ ap (λ (l : List Entry). made_as log round.point.front round.point.kind ++ l) behind
+messages-one : (steps : List Step) (step : Step) (message : Message) → step.message ≡ message → messages_of (steps ++ step ∷ []) ≡ messages_of steps ++ message ∷ []
+messages-one steps step message is = map-append (λ (s : Step). s.message) steps (step ∷ []) ∙ ap (λ (m : Message). messages_of steps ++ m ∷ []) is
 
--- the bytes that came before, those that are held and those to come
-regrouped : (held piece more : List ℕ) → held ++ (piece ++ more) ≡ held ++ piece ++ more
-regrouped held piece more = sym (append_assoc held piece more)
+points-one : (steps : List Step) (step : Step) (points points' : List Point) → points ≡ points_of steps → points' ≡ points ++ step.point ∷ [] → points' ≡ points_of (steps ++ step ∷ [])
+points-one steps step points points' are added = added ∙ ap (λ ps. ps ++ step.point ∷ []) are ∙ sym (map-append (λ (s : Step). s.point) steps (step ∷ []))
 
-last_later : (before after : Progress) (reading : ℕ) → after ≡ after_one before reading → before.last ≤ after.last
-last_later before after reading is = omega (arith, ap (λ (p : Progress). p.last) is)
+replies-one : (steps : List Step) (step : Step) → concat (replies_from (steps ++ step ∷ [])) ≡ concat (replies_from steps) ++ step.reply
+replies-one steps step =
+    ap concat (map-append (λ (s : Step). s.reply) steps (step ∷ [])) ∙ concat-append (replies_from steps) (step.reply ∷ [])
+    ∙ ap (λ (l : List ℕ). concat (replies_from steps) ++ l) (append-nil step.reply)
 
--- so a round more adds what its point made
-stays_more : (caller : Caller) (before mid after : Progress) (start seat seat' : Seat) (old now : Streams) (held : List ℕ) (points points' : List Point) (request : Request) (clock' : Option (List ℕ)) (round : Round)
-    → (so_far : SoFar caller before mid start seat old now held points) → Answered caller mid after seat seat' now.clock clock' request points points' round
-    → Stays start seat' (changes_of seat'.seen points') (settles_of so_far.rounds + round.point.tries) after.last
-stays_more caller before mid after start seat seat' old now held points points' request clock' round so_far one =
-    let were : changes_of seat'.seen points ≡ changes_of seat.seen points
-    = ap (changes_of seat'.seen) so_far.all
-    ∙ changes_longer (place_of caller start) before mid start.seen seat.seen seat'.seen seat.seen so_far.rounds one.stays.follows.grows so_far.each so_far.fronts
-    ∙ ap (changes_of seat.seen) (sym so_far.all) in
-    let are : changes_of seat'.seen points' ≡ changes_of seat.seen points ++ made_as seat'.seen round.point.front round.point.kind
-    = ap (changes_of seat'.seen) one.point
-    ∙ flat_map-append (λ (p : Point). made_as seat'.seen p.front p.kind) points (round.point ∷ [])
-    ∙ ap (λ (l : List Entry). l ++ changes_of seat'.seen (round.point ∷ [])) were
-    ∙ ap (λ (l : List Entry). changes_of seat.seen points ++ l) (append-nil (made_as seat'.seen round.point.front round.point.kind)) in
-    subst (λ entries. Stays start seat' entries (settles_of so_far.rounds + round.point.tries) after.last) (sym are)
-    (stays_trans start seat seat' (changes_of seat.seen points) (made_as seat'.seen round.point.front round.point.kind) (settles_of so_far.rounds) round.point.tries after.last
-    (stays_later start seat (changes_of seat.seen points) (settles_of so_far.rounds) mid.last after.last so_far.stays (last_later mid after round.reading one.progress))
-    (stays_later seat seat' (made_as seat'.seen round.point.front round.point.kind) round.point.tries round.point.moment after.last one.stays (omega (arith, one.is.moment, ap (λ (p : Progress). p.last) one.progress))))
-
-SoFar-request : (caller : Caller) (before mid after : Progress) (start seat seat' : Seat) (old now : Streams) (held rest : List ℕ) (points points' : List Point) (request : Request) (left' held' clock' : Option (List ℕ)) (round : Round)
-    → SoFar caller before mid start seat old now held points → GivesRequest now.left left' held rest request → Answered caller mid after seat seat' now.clock clock' request points points' round
-    → Appends now.held held' (reply_of seat.opening round)
-    → SoFar caller before after start seat' old (record { left = left'; held = held'; clock = clock' }) rest points'
-SoFar-request caller before mid after start seat seat' old now held rest points points' request left' held' clock' round so_far asks one written =
-    let opening = so_far.stays.follows.opening in
-    let reply : reply_of seat.opening round ≡ reply_of start.opening round = ap (λ t. reply_of t round) opening in
-    record {
-      given = so_far.given ++ asks.piece;
-      rounds = so_far.rounds ++ round ∷ [];
-      taken = Consumes-more _ _ _ _ _ so_far.taken asks.taken;
-      cut = λ more others stop are.
-          let all : AreMessages (held ++ (asks.piece ++ more)) (round.request ∷ others) stop = rw (regrouped, one.asks) (rest ++ more, asks.first more, are) in
-          rw (append_assoc so_far.given asks.piece more, map-append (λ (r : Round). r.request) so_far.rounds (round ∷ []), append_assoc (map (λ (r : Round). r.request) so_far.rounds) (round.request ∷ []) others)
-          (so_far.cut (asks.piece ++ more) (round.request ∷ others) stop all);
-      ran = rw (map-append (λ (r : Round). r.reading) so_far.rounds (round ∷ [])) (ran_more _ _ _ (map (λ (r : Round). r.reading) so_far.rounds) round.reading so_far.ran one.told);
-      each =
-          rw (one.progress, ← one.seen)
-          (rounds_more (place_of caller start) before mid start.seen seat.seen so_far.rounds round so_far.each (round_from caller start seat mid seat.seen round opening so_far.stays.follows.limit so_far.stays.stamp one.is));
-      fronts = rw (← one.seen) (fronts_more seat.seen so_far.rounds round one.is.grows so_far.fronts);
-      all = one.point ∙ ap (λ ps. ps ++ round.point ∷ []) so_far.all ∙ sym (map-append (λ (r : Round). r.point) so_far.rounds (round ∷ []));
-      written =
-          rw (flat_map-append (reply_of start.opening) so_far.rounds (round ∷ []), append-nil (reply_of start.opening round))
-          (Appends-more _ _ _ _ _ so_far.written (subst (λ bytes. Appends now.held held' bytes) reply written));
-      stays =
-          rw (sum_by_push (λ (r : Round). r.point.tries) so_far.rounds round)
-          (stays_more caller before mid after start seat seat' old now held points points' request clock' round so_far one);
-    }
-
-pub Serves-request : (caller c c' : Caller) (before mid after : Progress) (start seat seat' : Seat) (old now : Streams) (r r' r'' w w' w'' : ℕ) (held rest : List ℕ) (points points' : List Point) (request : Request) (left' held' clock' : Option (List ℕ))
-    → Serves caller c before mid start seat old now r r' w w' held points → GivesRequest now.left left' held rest request
-    → (round : Round) × Answered c mid after seat seat' now.clock clock' request points points' round × Appends now.held held' (reply_of seat.opening round) → c' ≡ c → r' ≤ r'' → w' ≤ w''
-    → Serves caller c' before after start seat' old (record { left = left'; held = held'; clock = clock' }) r r'' w w'' rest points'
-Serves-request caller c c' before mid after start seat seat' old now r r' r'' w w' w'' held rest points points' request left' held' clock' serves asks one same reads writes = record {
-  so_far =
-      SoFar-request caller before mid after start seat seat' old now held rest points points' request left' held' clock' one.0 serves.so_far asks
-      (subst (λ who. Answered who mid after seat seat' now.clock clock' request points points' one.0) serves.same one.1) one.2;
-  same = same ∙ serves.same;
-  read_faults = omega (arith, serves.read_faults, reads);
-  write_faults = omega (arith, serves.write_faults, writes);
+pub SoFar-message : (old now next : Standing) (streams streams' : Streams) (unread rest : List ℕ) (points points' : List Point) (message : Message) (last : Bool) (left' held' : Option (List ℕ))
+    → SoFar old now streams streams' unread points → last ≡ ((length points + 1) == ANSWERS) → GivesMessage streams'.left left' unread rest message
+    → MessageAs (record { message = message; last = last }) now next (record { points = points; held = streams'.held }) (record { points = points'; held = held' }) None
+    → SoFar old next streams (record { left = left'; held = held' }) rest points'
+SoFar-message old now next streams streams' unread rest points points' message last left' held' so_far last_is gives (step, adds, written, stays) = record {
+  steps = so_far.steps ++ step ∷ [];
+  came =
+      rw (messages-one so_far.steps step message adds.message)
+      (Came-one streams.left streams'.left left' unread rest (messages_of so_far.steps) message so_far.came gives);
+  stay = rw (messages-one so_far.steps step message adds.message) (All-push (λ (m : Message). m.close ≡ false) (messages_of so_far.steps) message so_far.stay stays);
+  run = turn-step old now next so_far.steps step points points' _ so_far.run so_far.all adds last_is;
+  all = points-one so_far.steps step points points' so_far.all adds.added;
+  written = rw (replies-one so_far.steps step) (Appends-more streams.held streams'.held held' (concat (replies_from so_far.steps)) step.reply so_far.written written);
 }
 
--- an answer that was written whole
-pub whole_answer : (One : Round → Type 0) (Written : Round → Type 0) {Whole : Type 0} → ((round : Round) × One round × (Whole → Written round)) → Whole → (round : Round) × One round × Written round
-whole_answer One Written answered whole = (answered.0, answered.1, answered.2 whole)
+pub one_point : (turn : Turn) (from to : Standing) (old new : Output) → MessageAs turn from to old new None → length new.points ≡ length old.points + 1
+one_point turn from to old new (step, adds, written, stays) = ap length adds.added ∙ length-append old.points (step.point ∷ [])
 
 -- nothing was met yet
-pub nothing_met : (caller : Caller) (before : Progress) (start : Seat) (old : Streams) (r w : ℕ) (held : List ℕ) (points : List Point) → held ≡ [] → points ≡ []
-    → Serves caller caller before before start start old old r r w w held points
-nothing_met caller before start old r w held points empty first = rw (empty, first) (record {
-  so_far = record {
-    given = [];
-    rounds = [];
-    taken = Consumes-nothing _;
-    cut = λ more others stop are. are;
-    ran = refl;
-    each = (refl, refl);
-    fronts = All-nil _;
-    all = refl;
-    written = Appends-nothing _;
-    stays = stays_same start before.last;
-  };
-  same = refl;
-  read_faults = omega arith;
-  write_faults = omega arith;
-})
-
--- where the messages stop
-
--- the point of a refusal made no change
-changes_plain : (log : List Entry) (points : List Point) → changes_of log (points ++ plain_point ∷ []) ≡ changes_of log points
-changes_plain log points =
-    flat_map-append (λ (p : Point). made_as log p.front p.kind) points (plain_point ∷ []) ∙ append-nil (changes_of log points)
-
-changes_stopped : (log : List Entry) (points points' : List Point) (stop : Stop) → points' ≡ points ++ last_points stop → changes_of log points' ≡ changes_of log points
-changes_stopped log points points' (Refusing status) is = ap (changes_of log) is ∙ changes_plain log points
-changes_stopped log points points' _ is = ap (changes_of log) (is ∙ append-nil points)
-
-Served-finished : (caller : Caller) (before after : Progress) (start seat : Seat) (old now : Streams) (held : List ℕ) (points points' : List Point) (left' held' : Option (List ℕ)) (stop : Stop)
-    → SoFar caller before after start seat old now held points → Stops now.left left' held stop → Finished now.held held' points points' stop
-    → Served caller before after start seat old (record { left = left'; held = held'; clock = now.clock }) stop points'
-Served-finished caller before after start seat old now held points points' left' held' stop so_far stops done = record {
-  given = so_far.given ++ stops.piece;
-  rounds = so_far.rounds;
-  taken = Consumes-more _ _ _ _ _ so_far.taken stops.taken;
-  ended = stops.ended;
-  cut =
-      let none : AreMessages (held ++ stops.piece) [] stop = stops.none in
-      rw (← append-nil (map (λ (r : Round). r.request) so_far.rounds)) (so_far.cut stops.piece [] stop none);
-  ran = so_far.ran;
-  each = so_far.each;
-  fronts = so_far.fronts;
-  all = done.point ∙ ap (λ ps. ps ++ last_points stop) so_far.all;
-  written = Appends-more _ _ _ _ _ so_far.written done.written;
-  stays = subst (λ entries. Stays start seat entries (settles_of so_far.rounds) after.last) (sym (changes_stopped seat.seen points points' stop done.point)) so_far.stays;
+pub nothing_met : (old : Standing) (streams : Streams) (unread : List ℕ) (points : List Point) → unread ≡ [] → points ≡ [] → SoFar old old streams streams unread points
+nothing_met old streams unread points empty first = record {
+  steps = [];
+  came = record { given = []; taken = Consumes-nothing streams.left; come = rw empty (HaveCome-none []) };
+  stay = All-nil (λ (m : Message). m.close ≡ false);
+  run = refl;
+  all = first;
+  written = Appends-nothing streams.held;
 }
 
-pub Served-stopped : (told : Option Stop) (caller c : Caller) (before mid after : Progress) (start seat seat' : Seat) (old now : Streams) (r r' w w' : ℕ) (held : List ℕ) (points points' : List Point) (left' held' : Option (List ℕ)) (stop : Stop)
-    → Serves caller c before mid start seat old now r r' w w' held points → Stops now.left left' held stop → after ≡ mid → seat' ≡ seat → IfSome told (λ s. (s ≡ stop) × Finished now.held held' points points' stop)
-    → IfSome told (λ s. Served caller before after start seat' old (record { left = left'; held = held'; clock = now.clock }) s points')
-Served-stopped None caller c before mid after start seat seat' old now r r' w w' held points points' left' held' stop serves stops progress same done = tt
-Served-stopped (Some s) caller c before mid after start seat seat' old now r r' w w' held points points' left' held' stop serves stops progress same done =
-    rw (progress, same, done.0) (Served-finished caller before mid start seat old now held points points' left' held' stop serves.so_far stops done.1)
+-- one message more may be answered
+goes_on : (old now : Standing) (streams streams' : Streams) (unread : List ℕ) (points : List Point) → (so_far : SoFar old now streams streams' unread points) → length points < 1000 → GoesOn (messages_of so_far.steps)
+goes_on old now streams streams' unread points so_far few = record {
+  stay = so_far.stay;
+  few = omega (arith, few, ap length so_far.all ∙ length-map so_far.steps (λ (s : Step). s.point), length-map so_far.steps (λ (s : Step). s.message));
+}
 
--- the settles of a connection, wherever it ends
+-- what was written at the end
 
-tries_are : (rounds : List Round) → tries_of (map (λ r. r.point) rounds) ≡ settles_of rounds
-tries_are [] = refl
-tries_are (round ∷ rounds) =
-    omega (arith, sum_by-cons (λ (p : Point). p.tries) round.point (map (λ (r : Round). r.point) rounds), sum_by-cons (λ (r : Round). r.point.tries) round rounds, tries_are rounds)
+Wrote-more : (end : Ended) (a b c : Option (List ℕ)) (replies more : List (List ℕ)) → Appends a b (concat replies) → Wrote end b c more → Wrote end a c (replies ++ more)
+Wrote-more ended.WriteFault a b c replies more written cut = record {
+  whole = replies ++ cut.whole;
+  last = cut.last;
+  count = cut.count;
+  are = ap (λ (l : List (List ℕ)). replies ++ l) cut.are ∙ sym (append_assoc replies cut.whole (cut.last ∷ []));
+  within = cut.within;
+  written =
+      rw (concat-append replies cut.whole, append_assoc (concat replies) (concat cut.whole) (take cut.count cut.last))
+      (Appends-more a b c (concat replies) (concat cut.whole ++ take cut.count cut.last) written cut.written);
+}
+Wrote-more _ a b c replies more written rest = rw (concat-append replies more) (Appends-more a b c (concat replies) (concat more) written rest)
 
--- a connection that ends where it stands
+cut-one : (held held' : Option (List ℕ)) (reply : List ℕ) → AppendsFront held held' reply → IsCut held held' (reply ∷ [])
+cut-one held held' reply front = record { whole = []; last = reply; count = front.count; are = refl; within = front.within; written = front.written }
 
-pub SoFar-ends : (caller : Caller) (before after : Progress) (start seat : Seat) (old now : Streams) (held : List ℕ) (points points' : List Point)
-    → SoFar caller before after start seat old now held points → (points' ≡ points) ⊎ (points' ≡ points ++ plain_point ∷ []) → StaysWithin start seat (changes_of seat.seen points') (tries_of points' + 8) after.last
-SoFar-ends caller before after start seat old now held points points' so_far more = ⊎_elim
-    (λ (same : points' ≡ points).
-    subst (λ ps. StaysWithin start seat (changes_of seat.seen ps) (tries_of ps + 8) after.last) (sym same)
-    (within_of start seat (changes_of seat.seen points) (settles_of so_far.rounds) (tries_of points + 8) after.last so_far.stays (omega (arith, ap tries_of so_far.all, tries_are so_far.rounds))))
-    (λ (plain : points' ≡ points ++ plain_point ∷ []).
-    subst (λ ps. StaysWithin start seat (changes_of seat.seen ps) (tries_of ps + 8) after.last) (sym plain)
-    (subst (λ entries. StaysWithin start seat entries (tries_of (points ++ plain_point ∷ []) + 8) after.last) (sym (changes_plain seat.seen points))
-    (within_of start seat (changes_of seat.seen points) (settles_of so_far.rounds) (tries_of (points ++ plain_point ∷ []) + 8) after.last so_far.stays
-    (omega (arith, ap tries_of so_far.all, tries_are so_far.rounds, sum_by_push (λ (p : Point). p.tries) points plain_point)))))
-    more
+whole-one : (held held' : Option (List ℕ)) (reply : List ℕ) → Appends held held' reply → Appends held held' (concat (reply ∷ []))
+whole-one held held' reply written = rw (append-nil reply) written
 
--- or in a request: with its point, or without, where memory ran out
+-- a connection that ends behind its last answer
 
-broken_written : (caller : Caller) (before mid after : Progress) (start seat seat' : Seat) (old now : Streams) (held : List ℕ) (points points' : List Point) (request : Request) (clock' : Option (List ℕ)) (round : Round)
-    → SoFar caller before mid start seat old now held points → Answered caller mid after seat seat' now.clock clock' request points points' round
-    → StaysWithin start seat' (changes_of seat'.seen points') (tries_of points' + 8) after.last
-broken_written caller before mid after start seat seat' old now held points points' request clock' round so_far one =
-    within_of start seat' (changes_of seat'.seen points') (settles_of so_far.rounds + round.point.tries) (tries_of points' + 8) after.last
-    (stays_more caller before mid after start seat seat' old now held points points' request clock' round so_far one)
-    (omega (arith, ap tries_of one.point, sum_by_push (λ (p : Point). p.tries) points round.point, ap tries_of so_far.all, tries_are so_far.rounds))
+served : (old now new : Standing) (streams streams' : Streams) (unread : List ℕ) (points points' : List Point) (left' held' : Option (List ℕ)) (end : Ended) (piece : List ℕ) (told : Option ℕ)
+    → (so_far : SoFar old now streams streams' unread points) → Consumes streams'.left left' piece → EndsAs end (unread ++ piece) told left' → LastsAs end told (messages_of so_far.steps) → AfterAs end now new
+    → points' ≡ points ++ told_points told → Wrote end streams'.held held' (told_replies told) → Served old new streams (record { left = left'; held = held' }) end points'
+served old now new streams streams' unread points points' left' held' end piece told so_far taken ends lasts after added written = record {
+  given = so_far.came.given ++ piece;
+  rest = unread ++ piece;
+  told = told;
+  steps = so_far.steps;
+  mid = now;
+  taken = Consumes-more streams.left streams'.left left' so_far.came.given piece so_far.came.taken taken;
+  begin = so_far.came.come piece;
+  ends = ends;
+  lasts = lasts;
+  run = so_far.run;
+  stays = stays_of 0 old now so_far.steps so_far.run;
+  after = after;
+  all = added ∙ ap (λ ps. ps ++ told_points told) so_far.all;
+  written = Wrote-more end streams.held streams'.held held' (replies_from so_far.steps) (told_replies told) so_far.written written;
+}
 
-broken_memory : (caller : Caller) (before mid after : Progress) (start seat seat' : Seat) (old now : Streams) (held : List ℕ) (points points' : List Point)
-    → SoFar caller before mid start seat old now held points → mid.last ≤ after.last → points' ≡ points → StaysWithin seat seat' [] 8 after.last
-    → StaysWithin start seat' (changes_of seat'.seen points') (tries_of points' + 8) after.last
-broken_memory caller before mid after start seat seat' old now held points points' so_far later same within =
-    let were : changes_of seat'.seen points' ≡ changes_of seat.seen points ++ []
-    = ap (changes_of seat'.seen) (same ∙ so_far.all)
-    ∙ changes_longer (place_of caller start) before mid start.seen seat.seen seat'.seen seat.seen so_far.rounds within.stays.follows.grows so_far.each so_far.fronts
-    ∙ ap (changes_of seat.seen) (sym so_far.all)
-    ∙ sym (append-nil (changes_of seat.seen points)) in
-    subst (λ entries. StaysWithin start seat' entries (tries_of points' + 8) after.last) (sym were)
-    (within_trans start seat seat' (changes_of seat.seen points) [] (settles_of so_far.rounds) 8 (tries_of points' + 8) after.last
-    (stays_later start seat (changes_of seat.seen points) (settles_of so_far.rounds) mid.last after.last so_far.stays later) within
-    (omega (arith, ap tries_of same, ap tries_of so_far.all, tries_are so_far.rounds)))
+-- where nothing is told, and nothing more is written
+Served-quiet : (old now new : Standing) (streams streams' : Streams) (unread : List ℕ) (points : List Point) (left' : Option (List ℕ)) (end : Ended) (piece : List ℕ)
+    → (so_far : SoFar old now streams streams' unread points) → Consumes streams'.left left' piece → EndsAs end (unread ++ piece) None left'
+    → (GoesOn (messages_of so_far.steps) → LastsAs end None (messages_of so_far.steps)) → length points < 1000 → AfterAs end now new → Wrote end streams'.held streams'.held []
+    → Served old new streams (record { left = left'; held = streams'.held }) end points
+Served-quiet old now new streams streams' unread points left' end piece so_far taken ends lasts few after written =
+    served old now new streams streams' unread points points left' streams'.held end piece None so_far taken ends (lasts (goes_on old now streams streams' unread points so_far few)) after
+    (sym (append-nil points)) written
 
-pub SoFar-broken : (end : Ended) (caller c : Caller) (before mid after : Progress) (start seat seat' : Seat) (old now : Streams) (held : List ℕ) (points points' : List Point) (request : Request) (clock' : Option (List ℕ)) (Whole : Round → Type 0)
-    → SoFar caller before mid start seat old now held points → c ≡ caller → mid.last ≤ after.last
-    → ((Some end ≡ Some ended.Memory → ⊥) → (round : Round) × Answered c mid after seat seat' now.clock clock' request points points' round × Whole round)
-    → (Some end ≡ Some ended.Memory → (points' ≡ points) × StaysWithin seat seat' [] 8 after.last)
-    → StaysWithin start seat' (changes_of seat'.seen points') (tries_of points' + 8) after.last
-SoFar-broken end caller c before mid after start seat seat' old now held points points' request clock' Whole so_far same later met memory =
-    let answered : (Some end ≡ Some ended.Memory → ⊥) → StaysWithin start seat' (changes_of seat'.seen points') (tries_of points' + 8) after.last
-    = λ other.
-    let one = met other in
-    broken_written caller before mid after start seat seat' old now held points points' request clock' one.0 so_far
-    (subst (λ who. Answered who mid after seat seat' now.clock clock' request points points' one.0) same one.1) in
-    by_end end answered (λ is. broken_memory caller before mid after start seat seat' old now held points points' so_far later (memory is).0 (memory is).1)
+-- where the messages stopped, or the source failed
+
+pub Served-closed : (old now : Standing) (streams streams' : Streams) (unread after : List ℕ) (points : List Point) (left' : Option (List ℕ))
+    → SoFar old now streams streams' unread points → length points < 1000 → Stops streams'.left left' unread after Between
+    → Served old now streams (record { left = left'; held = streams'.held }) ended.Closed points
+Served-closed old now streams streams' unread after points left' so_far few stops =
+    Served-quiet old now now streams streams' unread points left' ended.Closed stops.gathers.piece so_far stops.gathers.taken (stops.none, stops.ended, refl) (λ on. on) few refl (Appends-nothing streams'.held)
+
+pub Served-inside : (old now : Standing) (streams streams' : Streams) (unread after : List ℕ) (points : List Point) (left' : Option (List ℕ))
+    → SoFar old now streams streams' unread points → length points < 1000 → Stops streams'.left left' unread after Inside
+    → Served old now streams (record { left = left'; held = streams'.held }) ended.Cut points
+Served-inside old now streams streams' unread after points left' so_far few stops =
+    Served-quiet old now now streams streams' unread points left' ended.Cut stops.gathers.piece so_far stops.gathers.taken (stops.none, stops.ended, refl) (λ on. on) few refl (Appends-nothing streams'.held)
+
+pub Served-broken : (old now : Standing) (streams streams' : Streams) (unread after : List ℕ) (points : List Point) (left' : Option (List ℕ))
+    → SoFar old now streams streams' unread points → length points < 1000 → Breaks streams'.left left' unread after
+    → Served old now streams (record { left = left'; held = streams'.held }) ended.ReadFault points
+Served-broken old now streams streams' unread after points left' so_far few breaks =
+    Served-quiet old now now streams streams' unread points left' ended.ReadFault breaks.gathers.piece so_far breaks.gathers.taken (breaks.none, refl) (λ on. on) few refl (Appends-nothing streams'.held)
+
+-- without an answer, for want of memory
+pub Served-memory : (old now new : Standing) (streams streams' : Streams) (unread : List ℕ) (points : List Point) (left' : Option (List ℕ)) (piece : List ℕ)
+    → SoFar old now streams streams' unread points → length points < 1000 → Consumes streams'.left left' piece → GivesUp now new
+    → Served old new streams (record { left = left'; held = streams'.held }) ended.Memory points
+Served-memory old now new streams streams' unread points left' piece so_far few taken gives_up =
+    Served-quiet old now new streams streams' unread points left' ended.Memory piece so_far taken refl (λ on. on) few gives_up (Appends-nothing streams'.held)
+
+-- all answers are spent
+pub Served-spent : (old now : Standing) (streams streams' : Streams) (unread : List ℕ) (points : List Point)
+    → SoFar old now streams streams' unread points → length points ≡ 1000 → Served old now streams streams' ended.Spent points
+Served-spent old now streams streams' unread points so_far all =
+    served old now now streams streams' unread points points streams'.left streams'.held ended.Spent [] None so_far (Consumes-nothing streams'.left) refl
+    (so_far.stay, length-map so_far.steps (λ (s : Step). s.message) ∙ sym (length-map so_far.steps (λ (s : Step). s.point)) ∙ sym (ap length so_far.all) ∙ all) refl (sym (append-nil points))
+    (Appends-nothing streams'.held)
+
+pub nothing_begun : (now : Standing) → GivesUp now now
+nothing_begun now = record { accepts = inr refl; within = within_of now.seat now.seat [] 0 8 now.progress.last (stays_same now.seat now.progress.last) (omega arith) }
+
+pub left_alone : (from to : Standing) → to ≡ from → GivesUp from to
+left_alone from to same = subst (GivesUp from) (sym same) (nothing_begun from)
+
+-- in a message
+
+-- the last message is the one of this turn
+ends_with : (old now : Standing) (streams streams' : Streams) (unread : List ℕ) (points : List Point) (step : Step) (message : Message)
+    → (so_far : SoFar old now streams streams' unread points) → length points < 1000 → step.message ≡ message → EndsWith message (messages_of (so_far.steps ++ step ∷ []))
+ends_with old now streams streams' unread points step message so_far few is = record {
+  before = messages_of so_far.steps;
+  are = messages-one so_far.steps step message is;
+  goes_on = goes_on old now streams streams' unread points so_far few;
+}
+
+in_message : (old now next : Standing) (streams streams' : Streams) (unread rest : List ℕ) (points points' : List Point) (message : Message) (last : Bool) (left' held' : Option (List ℕ)) (end : Ended) (step : Step)
+    → (so_far : SoFar old now streams streams' unread points) → last ≡ ((length points + 1) == ANSWERS) → GivesMessage streams'.left left' unread rest message
+    → Adds (record { message = message; last = last }) now next points points' step → EndsAs end rest None left' → LastsAs end None (messages_of (so_far.steps ++ step ∷ [])) → AfterAs end next next
+    → Wrote end streams'.held held' (step.reply ∷ []) → Served old next streams (record { left = left'; held = held' }) end points'
+in_message old now next streams streams' unread rest points points' message last left' held' end step so_far last_is gives adds ends lasts after written =
+    let run = turn-step old now next so_far.steps step points points' _ so_far.run so_far.all adds last_is in
+    let came = Came-one streams.left streams'.left left' unread rest (messages_of so_far.steps) message so_far.came gives in
+    record {
+      given = came.given;
+      rest = rest;
+      told = None;
+      steps = so_far.steps ++ step ∷ [];
+      mid = next;
+      taken = came.taken;
+      begin = rw (messages-one so_far.steps step message adds.message) (HaveCome-begin came.given rest (messages_of so_far.steps ++ message ∷ []) came.come);
+      ends = ends;
+      lasts = lasts;
+      run = run;
+      stays = stays_of 0 old next (so_far.steps ++ step ∷ []) run;
+      after = after;
+      all = points-one so_far.steps step points points' so_far.all adds.added ∙ sym (append-nil (points_of (so_far.steps ++ step ∷ [])));
+      written =
+          rw (append-nil (replies_from (so_far.steps ++ step ∷ [])), map-append (λ (s : Step). s.reply) so_far.steps (step ∷ []))
+          (Wrote-more end streams.held streams'.held held' (replies_from so_far.steps) (step.reply ∷ []) so_far.written written);
+    }
+
+pub Served-message : (end : Ended) (old now next : Standing) (streams streams' : Streams) (unread rest : List ℕ) (points points' : List Point) (message : Message) (last : Bool) (left' held' : Option (List ℕ))
+    → SoFar old now streams streams' unread points → length points < 1000 → last ≡ ((length points + 1) == ANSWERS) → GivesMessage streams'.left left' unread rest message
+    → MessageAs (record { message = message; last = last }) now next (record { points = points; held = streams'.held }) (record { points = points'; held = held' }) (Some end)
+    → Served old next streams (record { left = left'; held = held' }) end points'
+Served-message ended.Asked old now next streams streams' unread rest points points' message last left' held' so_far few last_is gives (step, adds, written, asks) =
+    in_message old now next streams streams' unread rest points points' message last left' held' ended.Asked step so_far last_is gives adds refl
+    (message, ends_with old now streams streams' unread points step message so_far few adds.message, asks) refl (whole-one streams'.held held' step.reply written)
+Served-message ended.WriteFault old now next streams streams' unread rest points points' message last left' held' so_far few last_is gives (step, adds, front) =
+    in_message old now next streams streams' unread rest points points' message last left' held' ended.WriteFault step so_far last_is gives adds (λ status told. absurd cc)
+    (message, ends_with old now streams streams' unread points step message so_far few adds.message) refl (cut-one streams'.held held' step.reply front)
+Served-message ended.Memory old now next streams streams' unread rest points points' message last left' held' so_far few last_is gives (gives_up, same) =
+    rw (ap (λ (o : Output). o.points) same, ap (λ (o : Output). o.held) same)
+    (Served-memory old now next streams streams' unread points left' gives.piece so_far few gives.taken gives_up)
+Served-message _ old now next streams streams' unread rest points points' message last left' held' so_far few last_is gives is = absurd is
+
+-- at a refusal, which leaves the worker where it stands
+
+pub still_standing : {St : Type 0} (seat_of : St → Seat) (old new : WorkerState St) (clock : Option (List ℕ)) → new ≡ record { store = old.store; caller = old.caller; progress = old.progress; reply = new.reply }
+    → standing seat_of new clock ≡ standing seat_of old clock
+still_standing {St} seat_of old new clock is = ap (λ (w : WorkerState St). standing seat_of w clock) is
+
+same_status : (bytes : List ℕ) (status : ℕ) → StopsAt bytes (Refusing status) → (told : ℕ) → Some status ≡ Some told → StopsAt bytes (Refusing told)
+same_status bytes status stops told same = subst (λ n. StopsAt bytes (Refusing n)) (inside status told same) stops
   where
-    by_end : {A : Type 0} (e : Ended) → ((Some e ≡ Some ended.Memory → ⊥) → A) → (Some e ≡ Some ended.Memory → A) → A
-    by_end ended.Memory other is = is refl
-    by_end _ other is = other (λ same. absurd cc)
+    inside : (one other : ℕ) → Some one ≡ Some other → one ≡ other
+    inside one other is = cc
+
+told_refusal : (end : Ended) (old now : Standing) (streams streams' : Streams) (unread after : List ℕ) (points points' : List Point) (left' held' : Option (List ℕ)) (status : ℕ)
+    → SoFar old now streams streams' unread points → length points < 1000 → Stops streams'.left left' unread after (Refusing status)
+    → RefusalAs status (record { points = points; held = streams'.held }) (record { points = points'; held = held' }) end
+    → Served old now streams (record { left = left'; held = held' }) end points'
+told_refusal (ended.Refused same) old now streams streams' unread after points points' left' held' status so_far few stops (is, added, written) =
+    served old now now streams streams' unread points points' left' held' (ended.Refused same) stops.gathers.piece (Some status) so_far stops.gathers.taken
+    (subst (λ n. StopsAt (unread ++ stops.gathers.piece) (Refusing n)) (sym is) stops.none, ap (λ n. Some n) (sym is)) (goes_on old now streams streams' unread points so_far few) refl added
+    (whole-one streams'.held held' _ written)
+told_refusal ended.WriteFault old now streams streams' unread after points points' left' held' status so_far few stops (added, front) =
+    served old now now streams streams' unread points points' left' held' ended.WriteFault stops.gathers.piece (Some status) so_far stops.gathers.taken
+    (same_status (unread ++ stops.gathers.piece) status stops.none) (goes_on old now streams streams' unread points so_far few) refl added (cut-one streams'.held held' _ front)
+told_refusal ended.Memory old now streams streams' unread after points points' left' held' status so_far few stops same =
+    rw (ap (λ (o : Output). o.points) same, ap (λ (o : Output). o.held) same)
+    (Served-memory old now now streams streams' unread points left' stops.gathers.piece so_far few stops.gathers.taken (nothing_begun now))
+told_refusal _ old now streams streams' unread after points points' left' held' status so_far few stops is = absurd is
+
+pub Served-refusal : (end : Ended) (old now new : Standing) (streams streams' : Streams) (unread after : List ℕ) (points points' : List Point) (left' held' : Option (List ℕ)) (status : ℕ)
+    → SoFar old now streams streams' unread points → length points < 1000 → Stops streams'.left left' unread after (Refusing status)
+    → RefusalAs status (record { points = points; held = streams'.held }) (record { points = points'; held = held' }) end → new ≡ now
+    → Served old new streams (record { left = left'; held = held' }) end points'
+Served-refusal end old now new streams streams' unread after points points' left' held' status so_far few stops told same =
+    subst (λ (s : Standing). Served old s streams (record { left = left'; held = held' }) end points') (sym same)
+    (told_refusal end old now streams streams' unread after points points' left' held' status so_far few stops told)

@@ -6,7 +6,8 @@ use Rattle.shop_history.specs.Logs.{entries_of}
 use Rattle.shop_attempt.specs.Seats.{Seat, Looked, last_count}
 use Rattle.shop_attempt.specs.Settles.{raised}
 use Rattle.shop_attempt.proofs.Looks.{follows_trans, looked_self}
-use Rattle.shop_engine.specs.Tries.{RoseBy, StampRose, IsStampOf, Stays, StaysWithin}
+use Rattle.shop_engine.specs.Decided.{IsStampOf}
+use Rattle.shop_engine.specs.Staying.{RoseBy, StampRose, Stays, StaysWithin}
 
 -- latest stamps
 

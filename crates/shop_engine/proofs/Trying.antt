@@ -7,11 +7,13 @@ use Rattle.shop_log.specs.Histories.{Extends}
 use Rattle.shop_log.proofs.Extending.{extends_self, extends_trans}
 use Rattle.shop_log.proofs.Legality.{legal_shorter, legal_last}
 use Rattle.shop_model.specs.declared.page.Page.{Page}
+use Rattle.shop_model.specs.declared.refusal.Refusal.TheVariants.{FullLog}
 use Rattle.shop_model.specs.declared.requests.Request.{Request}
 use Rattle.shop_model.specs.declared.tables.Tables.{Tables}
 use Rattle.shop_model.specs.Limits.{stamp_limit}
 use Rattle.shop_model.specs.Lookups.{row_numbered}
 use Rattle.shop_model.specs.Checks.{is_changing, check}
+use Rattle.shop_model.specs.Refusals.{page_of}
 use Rattle.shop_history.specs.declared.acts.Act.{Act}
 use Rattle.shop_history.specs.declared.acts.Act.TheVariants.{Cart}
 use Rattle.shop_history.specs.declared.acts.Drawn.{Drawn}
@@ -41,7 +43,10 @@ use Rattle.shop_pages.specs.declared.reply.Form.{Form}
 use Rattle.shop_pages.specs.Replies.{reply}
 use Rattle.shop_browse.specs.Attempts.{IsReadFor, AreReadFor, IsAttempt, IsDraftOf, IsReady, IsContradiction, Becomes}
 use Rattle.shop_browse.specs.Footprints.{InFootprint}
-use Rattle.shop_engine.specs.Tries.{Stays, StaysWithin, ShowsBy, ChangesBy, FullBy, IsAgain, StampRose, reply_of_page}
+use Rattle.shop_engine.specs.declared.report.PointKind.TheVariants.{At, Change, Full as FullKind}
+use Rattle.shop_engine.specs.Decided.{Asking, IsTry, reply_of_page}
+use Rattle.shop_engine.specs.Staying.{Stays, StaysWithin, StampRose}
+use Rattle.shop_engine.specs.Tries.{IsAnswer, IsAgain}
 use Rattle.shop_engine.proofs.Footprints.{footprint_later}
 use Rattle.shop_engine.proofs.Staying.{stamp_kept, stamp_raised, stays_looked, within_of}
 
@@ -108,29 +113,35 @@ fixed_is : (stamp : ℕ) (ids : Ids) (draft : Draft) (page : Page) → draft ≡
 unfolding filled
 fixed_is stamp ids draft page is = ap (filled stamp ids) is
 
+-- the first try is one
+first_try : (latest : Option ℕ) → IsTry latest 1
+first_try latest = record { some = omega arith; few = omega arith; alone = λ told. refl }
+
 -- a settle that was done without a change
 
-pub shown_is : (start old new : Seat) (request : Request) (moment draw : ℕ) (attempt : Attempt) (draft : Draft) (drawn : Drawn) (form : Form) (bytes : List ℕ) → Looked start old → Follows old new → IsSeat new
-    → RoseOnce old.settles new.settles → IsReady start old request moment draw attempt draft → DoneAs old new attempt attempt.act drawn → is_some attempt.act ≡ false
-    → bytes ≡ reply (filled drawn.stamp drawn.ids draft) form → ShowsBy 1 start new request moment draw form drawn.front bytes
-shown_is start old new request moment draw attempt draft drawn form bytes looked follows seat rose ready done reads bytes_are =
+pub shown_is : (start old new : Seat) (asking : Asking) (attempt : Attempt) (draft : Draft) (drawn : Drawn) (form : Form) (bytes : List ℕ) → Looked start old → Follows old new → IsSeat new
+    → RoseOnce old.settles new.settles → IsReady start old asking.request asking.moment asking.draw attempt draft → DoneAs old new attempt attempt.act drawn → is_some attempt.act ≡ false
+    → bytes ≡ reply (filled drawn.stamp drawn.ids draft) form → IsAnswer start new asking form bytes (record { kind = At; front = drawn.front; tries = 1 })
+shown_is start old new asking attempt draft drawn form bytes looked follows seat rose ready done reads bytes_are =
     let none : attempt.act ≡ None = no_act attempt.act reads in
     let was : Confirmed old new attempt drawn = subst (λ o. DoneAs old new attempt o drawn) none done in
     let t : Tables = tables new.opening new.seen in
-    let drafts : IsDraftOf old.opening request draw attempt.reads draft None = subst (IsDraftOf old.opening request draw attempt.reads draft) none ready.drafts in
+    let drafts : IsDraftOf old.opening asking.request asking.draw attempt.reads draft None = subst (IsDraftOf old.opening asking.request asking.draw attempt.reads draft) none ready.drafts in
     let shown = drafts t (agrees_found old new new.seen attempt follows seat was.accepted.is_found.grows (extends_self new.seen) ready.attempts.faithful was.accepted.fresh) in
     record {
-      stays =
-          stays_found start old new new.seen [] moment looked follows rose was.accepted.is_found (sym (append-nil new.seen)) (entries_none old.caller) (was.own ∙ sym (append-nil old.own))
-          (omega (arith, was.accepted.greatest, ready.attempts.at))
-          (stamp_raised old.latest new.latest moment (was.accepted.latest ∙ ap (raised old.latest) ready.attempts.at));
-      shown = record {
-        front_is = was.accepted.front;
-        alone = subst IsSome (sym shown.shows) refl;
-        bytes_are =
-            bytes_are ∙ ap (λ (page : Page). reply page form) (fixed_is drawn.stamp drawn.ids draft shown.page shown.draft_is)
-            ∙ ap (λ (o : Option Page). reply_of_page o form) (sym shown.shows);
+      made = [];
+      decided = record {
+        stays =
+            stays_found start old new new.seen [] asking.moment looked follows rose was.accepted.is_found (sym (append-nil new.seen)) (entries_none old.caller) (was.own ∙ sym (append-nil old.own))
+            (omega (arith, was.accepted.greatest, ready.attempts.at))
+            (stamp_raised old.latest new.latest asking.moment (was.accepted.latest ∙ ap (raised old.latest) ready.attempts.at));
+        tries = first_try start.latest;
+        front = was.accepted.front;
+        cause = (subst IsSome (sym shown.shows) refl, refl);
       };
+      bytes_are =
+          bytes_are ∙ ap (λ (page : Page). reply page form) (fixed_is drawn.stamp drawn.ids draft shown.page shown.draft_is)
+          ∙ ap (λ (o : Option Page). reply_of_page o form) (sym shown.shows);
     }
 
 -- a settle that was done as a change
@@ -151,17 +162,17 @@ exact_stamp latest now moment stamp is rose told same =
     same_stamp : (one other : ℕ) → Some one ≡ Some other → one ≡ other
     same_stamp one other is = cc
 
-pub changed_is : (start old new : Seat) (request : Request) (moment draw : ℕ) (attempt : Attempt) (draft : Draft) (drawn : Drawn) (form : Form) (bytes : List ℕ) → Looked start old → Follows old new → IsSeat new
-    → RoseOnce old.settles new.settles → IsReady start old request moment draw attempt draft → DoneAs old new attempt attempt.act drawn → is_some attempt.act ≡ true
-    → bytes ≡ reply (filled drawn.stamp drawn.ids draft) form → ChangesBy 1 start new request moment draw form drawn.front bytes
-changed_is start old new request moment draw attempt draft drawn form bytes looked follows seat rose ready done changes bytes_are =
+pub changed_is : (start old new : Seat) (asking : Asking) (attempt : Attempt) (draft : Draft) (drawn : Drawn) (form : Form) (bytes : List ℕ) → Looked start old → Follows old new → IsSeat new
+    → RoseOnce old.settles new.settles → IsReady start old asking.request asking.moment asking.draw attempt draft → DoneAs old new attempt attempt.act drawn → is_some attempt.act ≡ true
+    → bytes ≡ reply (filled drawn.stamp drawn.ids draft) form → IsAnswer start new asking form bytes (record { kind = Change; front = drawn.front; tries = 1 })
+changed_is start old new asking attempt draft drawn form bytes looked follows seat rose ready done changes bytes_are =
     let some = some_act attempt.act changes in
     let act : Act = some.0 in
     let was : Added old new attempt act drawn = subst (λ o. DoneAs old new attempt o drawn) some.1 done in
     let accepted : Accepted old new was.before attempt drawn = was.accepted in
     let begins : Extends was.before new.seen = record { rest = was.entry ∷ []; is = was.seen } in
     let t : Tables = tables new.opening was.before in
-    let drafts : IsDraftOf old.opening request draw attempt.reads draft (Some act) = subst (IsDraftOf old.opening request draw attempt.reads draft) some.1 ready.drafts in
+    let drafts : IsDraftOf old.opening asking.request asking.draw attempt.reads draft (Some act) = subst (IsDraftOf old.opening asking.request asking.draw attempt.reads draft) some.1 ready.drafts in
     let may : MayFollow new.opening was.before was.entry = legal_last (MayFollow new.opening) was.before was.entry (subst (Legal new.opening) was.seen seat.legal) in
     let becomes : Becomes t was.entry.stamp act draft
     = drafts.1 t was.entry.stamp (agrees_found old new was.before attempt follows seat accepted.is_found.grows begins ready.attempts.faithful accepted.fresh) may.bound in
@@ -170,32 +181,36 @@ changed_is start old new request moment draw attempt draft drawn form bytes look
     ∙ ap (new_ids t) (ap (tables new.opening) was.seen ∙ tables_push new.opening was.before was.entry ∙ ap (λ a. (play t was.entry.stamp a).tables) was.does) in
     let filled_is : filled drawn.stamp drawn.ids draft ≡ (play t was.entry.stamp was.entry.act).page
     = ap (λ s. filled s drawn.ids draft) (sym was.stamp) ∙ ap (λ i. filled was.entry.stamp i draft) ids_are ∙ becomes.page_is ∙ ap (λ a. (play t was.entry.stamp a).page) (sym was.does) in
-    let front : drawn.front ≡ length (was.before ++ was.entry ∷ []) = accepted.front ∙ ap length was.seen in
-    let page : page_at new.opening new.seen drawn.front ≡ Some (play t was.entry.stamp was.entry.act).page
-    = ap (λ (log : List Entry). page_at new.opening log drawn.front) was.seen ∙ last_page new.opening was.before was.entry drawn.front front in
+    let page : page_at new.opening new.seen (length new.seen) ≡ Some (play t was.entry.stamp was.entry.act).page
+    = ap (λ (log : List Entry). page_at new.opening log (length log)) was.seen ∙ last_page new.opening was.before was.entry (length (was.before ++ was.entry ∷ [])) refl in
     let caller : was.entry.caller ≡ old.caller = was.caller ∙ follows.caller in
     record {
-      entry = was.entry;
-      stays =
-          stays_found start old new was.before (was.entry ∷ []) moment looked follows rose accepted.is_found was.seen (entries_one old.caller was.entry caller) was.own
-          (omega (arith, accepted.greatest, ready.attempts.at))
-          (stamp_raised old.latest new.latest moment (accepted.latest ∙ ap (raised old.latest) ready.attempts.at));
-      changed = record {
-        before = was.before;
-        grows = extends_trans start.seen old.seen was.before looked.follows.grows accepted.is_found.grows;
-        seen = was.seen;
-        front_is = accepted.front;
-        caller = was.caller;
-        does = subst (IsActOf request draw) (sym was.does) drafts.0;
-        stamp = record {
-          later = omega (arith, accepted.moment, ready.attempts.at, was.stamp);
-          exact = λ told same.
-              was.stamp
-              ∙ exact_stamp start.latest new.latest moment drawn.stamp (λ is. accepted.told (subst IsSome (sym looked.latest) is))
-              (accepted.latest ∙ ap (raised old.latest) ready.attempts.at ∙ ap (λ o. raised o moment) looked.latest) told same;
+      made = was.entry ∷ [];
+      decided = record {
+        stays =
+            stays_found start old new was.before (was.entry ∷ []) asking.moment looked follows rose accepted.is_found was.seen (entries_one old.caller was.entry caller) was.own
+            (omega (arith, accepted.greatest, ready.attempts.at))
+            (stamp_raised old.latest new.latest asking.moment (accepted.latest ∙ ap (raised old.latest) ready.attempts.at));
+        tries = first_try start.latest;
+        front = accepted.front;
+        cause = record {
+          before = was.before;
+          entry = was.entry;
+          made_is = refl;
+          grows = extends_trans start.seen old.seen was.before looked.follows.grows accepted.is_found.grows;
+          seen = was.seen;
+          caller = was.caller;
+          does = subst (IsActOf asking.request asking.draw) (sym was.does) drafts.0;
+          stamp = record {
+            later = omega (arith, accepted.moment, ready.attempts.at, was.stamp);
+            exact = λ told same.
+                was.stamp
+                ∙ exact_stamp start.latest new.latest asking.moment drawn.stamp (λ is. accepted.told (subst IsSome (sym looked.latest) is))
+                (accepted.latest ∙ ap (raised old.latest) ready.attempts.at ∙ ap (λ o. raised o asking.moment) looked.latest) told same;
+          };
         };
-        bytes_are = bytes_are ∙ ap (λ (shown : Page). reply shown form) filled_is ∙ ap (λ o. reply_of_page o form) (sym page);
       };
+      bytes_are = bytes_are ∙ ap (λ (shown : Page). reply shown form) filled_is ∙ ap (λ o. reply_of_page o form) (sym page);
     }
 
 -- a settle that found the log full
@@ -208,30 +223,39 @@ passes_there : (opening : Tables) (reads : List ReadOf) (act : Act) (writes : Op
 passes_there opening reads act None t stamp makes agrees bound = absurd makes
 passes_there opening reads act (Some writes) t stamp makes agrees bound = (makes t stamp agrees bound).passes
 
-pub full_is : (start old new : Seat) (request : Request) (moment draw : ℕ) (attempt : Attempt) (draft : Draft) (size : ℕ) → Looked start old → Follows old new → IsSeat new → RoseOnce old.settles new.settles
-    → IsReady start old request moment draw attempt draft → SettledAs old new attempt (settle.Full size) → FullBy 1 start new request moment draw size
-full_is start old new request moment draw attempt draft size looked follows seat rose ready settled =
+pub full_is : (start old new : Seat) (asking : Asking) (attempt : Attempt) (draft : Draft) (size : ℕ) (form : Form) (bytes : List ℕ) → Looked start old → Follows old new → IsSeat new → RoseOnce old.settles new.settles
+    → IsReady start old asking.request asking.moment asking.draw attempt draft → SettledAs old new attempt (settle.Full size)
+    → bytes ≡ reply (page_of FullLog) form → IsAnswer start new asking form bytes (record { kind = FullKind; front = size; tries = 1 })
+full_is start old new asking attempt draft size form bytes looked follows seat rose ready settled bytes_are =
     let some = some_act attempt.act settled.0.changes in
     let t : Tables = tables new.opening new.seen in
     let agrees : Agrees old.opening t attempt.reads
     = agrees_found old new new.seen attempt follows seat settled.0.refused.found.grows (extends_self new.seen) ready.attempts.faithful settled.0.fresh in
     let makes : MakesAct old.opening attempt.reads (Some some.0) attempt.writes = subst (λ o. MakesAct old.opening attempt.reads o attempt.writes) some.1 ready.attempts.faithful.makes in
-    let drafts : IsDraftOf old.opening request draw attempt.reads draft (Some some.0) = subst (IsDraftOf old.opening request draw attempt.reads draft) some.1 ready.drafts in
+    let drafts : IsDraftOf old.opening asking.request asking.draw attempt.reads draft (Some some.0) = subst (IsDraftOf old.opening asking.request asking.draw attempt.reads draft) some.1 ready.drafts in
     record {
-      stays = stays_refused start old new moment looked follows rose settled.0.refused;
-      full = record {
-        front_is = settled.1;
-        limit = settled.2;
-        changes = ap is_changing (sym drafts.0.does) ∙ act_changes some.0;
-        passes = ap (check t) (sym drafts.0.does) ∙ passes_there old.opening attempt.reads some.0 attempt.writes t 0 makes agrees (omega arith);
+      made = [];
+      decided = record {
+        stays = stays_refused start old new asking.moment looked follows rose settled.0.refused;
+        tries = first_try start.latest;
+        front = settled.1;
+        cause = (
+          record {
+            limit = sym settled.1 ∙ settled.2;
+            changes = ap is_changing (sym drafts.0.does) ∙ act_changes some.0;
+            passes = ap (check t) (sym drafts.0.does) ∙ passes_there old.opening attempt.reads some.0 attempt.writes t 0 makes agrees (omega arith);
+          },
+          refl,
+        );
       };
+      bytes_are = bytes_are;
     }
 
 -- memory
 
-pub no_memory : (start old new : Seat) (moment : ℕ) (attempt : Attempt) → Looked start old → Follows old new → RoseOnce old.settles new.settles → SettledAs old new attempt settle.Memory → StaysWithin start new [] 1 moment
-no_memory start old new moment attempt looked follows rose settled =
-    within_of start new [] 1 1 moment (stays_refused start old new moment looked follows rose settled.0.refused) (omega arith)
+pub not_taken : (start old new : Seat) (moment : ℕ) → Looked start old → Follows old new → RoseOnce old.settles new.settles → Refused old new → StaysWithin start new [] 1 moment
+not_taken start old new moment looked follows rose refused =
+    within_of start new [] 1 1 moment (stays_refused start old new moment looked follows rose refused) (omega arith)
 
 pub no_room : (start old : Seat) (moment : ℕ) → Looked start old → StaysWithin start old [] 1 moment
 no_room start old moment looked = within_of start old [] 0 1 moment (stays_looked start old moment looked) (omega arith)
@@ -268,14 +292,14 @@ are_since : (start old : Seat) (request : Request) (draw : ℕ) (reads : List Re
 are_since start old request draw [] are = tt
 are_since start old request draw (read ∷ reads) are = (are.0.since, are_since start old request draw reads are.1)
 
-pub again_is : (start old new : Seat) (request : Request) (moment draw : ℕ) (attempt : Attempt) (conflict : Conflict) → Looked start old → Follows old new → RoseOnce old.settles new.settles
-    → IsAttempt start old request moment draw attempt → SettledAs old new attempt (settle.Stale conflict) → IsAgain start new request moment draw conflict
-again_is start old new request moment draw attempt conflict looked follows rose made settled =
-    let both = conflict_of start old new attempt conflict looked follows (are_since start old request draw attempt.reads made.reads) settled in
-    let stale = stale_in start old new request draw attempt.reads conflict looked follows settled.0.found made.reads settled.1 in
+pub again_is : (start old new : Seat) (asking : Asking) (attempt : Attempt) (conflict : Conflict) → Looked start old → Follows old new → RoseOnce old.settles new.settles
+    → IsAttempt start old asking.request asking.moment asking.draw attempt → SettledAs old new attempt (settle.Stale conflict) → IsAgain start new asking conflict
+again_is start old new asking attempt conflict looked follows rose made settled =
+    let both = conflict_of start old new attempt conflict looked follows (are_since start old asking.request asking.draw attempt.reads made.reads) settled in
+    let stale = stale_in start old new asking.request asking.draw attempt.reads conflict looked follows settled.0.found made.reads settled.1 in
     record {
-      stays = stays_refused start old new moment looked follows rose settled.0;
-      conflict_is = record { conflicts = both.0; footprint = stale.footprint; above = both.1; since = stale.since };
+      stays = stays_refused start old new asking.moment looked follows rose settled.0;
+      conflict_is = record { met = record { conflicts = both.0; footprint = stale.footprint }; above = both.1; since = stale.since };
       others = stale.others;
     }
 

@@ -1,8 +1,8 @@
 pub mod Workers
 pub mod WorkerView
-pub mod Replies
+pub mod Staying
+pub mod Decided
 pub mod Tries
-pub mod Rounds
-pub mod Points
-pub mod Served
 pub mod Steps
+pub mod Served
+pub mod Connections

@@ -1,77 +1,104 @@
 -- What one connection met, and what it left.
-use Rattle.std.specs.Prelude.{◌≡◌, ℕ, List, [], ◌∷◌, ◌++◌, length, map, take, sum_by, All, Option, Some, None}
-use Rattle.std.specs.List.{flat_map}
-use Rattle.std.specs.Io.KnownBytes.{Appends, Consumes}
-use Rattle.shop_edges.specs.Clocks.{Tells}
-use Rattle.shop_attempt.specs.Seats.{Seat}
-use Rattle.shop_http.specs.declared.messages.Stop.{Stop}
-use Rattle.shop_http.specs.declared.messages.Stop.TheVariants.{Between, Inside, Refusing}
-use Rattle.shop_http.specs.Messages.{AreMessages}
-use Rattle.shop_http.specs.Nexts.{IsDrained}
+use Rattle.std.specs.Prelude.{◌≡◌, ◌==◌, ℕ, ◌<◌, ◌⊎◌, List, [], ◌∷◌, ◌++◌, length, take, All, Option, Some, None, true, false, if◌then◌else◌}
+use Rattle.std.specs.List.{concat}
+use Rattle.std.specs.Io.KnownBytes.{Appends, Consumes, IsAtEnd}
+use Rattle.shop_model.specs.declared.refusal.Refusal.{Refusal}
+use Rattle.shop_model.specs.declared.refusal.Refusal.TheVariants.{BadRequest, LargeBody, LargeHead, TransferEncoding}
+use Rattle.shop_model.specs.Refusals.{page_of}
+use Rattle.shop_pages.specs.Replies.{reply}
+use Rattle.shop_message.specs.declared.messages.Message.{Message}
+use Rattle.shop_message.specs.Messages.{Begin, Between, Inside, Refusing, StopsAt}
 use Rattle.shop_engine.specs.declared.report.Ended.{Ended}
 use Rattle.shop_engine.specs.declared.report.Ended.TheVariants as ended
-use Rattle.shop_engine.specs.declared.report.PointKind.TheVariants.{Plain}
 use Rattle.shop_engine.specs.declared.report.Point.{Point}
-use Rattle.shop_engine.specs.Replies.{last_words}
-use Rattle.shop_engine.specs.Rounds.{Round, Place, AreRounds, reply_of, settles_of, changes_of}
-use Rattle.shop_engine.specs.Tries.{Stays}
-use Rattle.shop_engine.specs.Workers.{Caller, Progress}
+use Rattle.shop_engine.specs.Steps.{Step, AreSteps, GivesUp, ANSWERS, plain_point, messages_of, points_of, replies_from, made_of, settles_of}
+use Rattle.shop_engine.specs.Staying.{Stays}
+use Rattle.shop_engine.specs.Workers.{Standing}
 
-abbrev pub plain_point : Point
-plain_point = record { kind = Plain; front = 0; moment = 0; call = 0; draw = 0; tries = 0 }
-
--- the clock gave these readings, one after another
-abbrev pub Ran : Option (List ℕ) → List ℕ → Option (List ℕ) → Type 0
-Ran old [] new = new ≡ old
-Ran old (reading ∷ readings) new = (next : Option (List ℕ)) × Tells old next reading × Ran next readings new
-
--- a refusal has a point too
-abbrev pub last_points : Stop → List Point
-last_points Between = []
-last_points Inside = []
-last_points (Refusing status) = plain_point ∷ []
-
--- how many settles these points took
-abbrev pub tries_of : List Point → ℕ
-tries_of points = sum_by (λ p. p.tries) points
-
--- how the messages stopped, where a connection's end says so
-abbrev pub stop_of : Ended → Option Stop
-stop_of ended.Closed = Some Between
-stop_of ended.Cut = Some Inside
-stop_of (ended.Refused status) = Some (Refusing status)
-stop_of ended.ReadFault = None
-stop_of ended.WriteFault = None
-stop_of ended.Memory = None
-
--- where a connection's three objects stand: what the source has left, what the sink holds and what the clock will read, each where it is known
+-- what the source has left and the sink holds, each where it is known
 pub record Streams : Type 0 where
   pub left : Option (List ℕ)
   pub held : Option (List ℕ)
-  pub clock : Option (List ℕ)
 
--- whose shop a seat is of
-abbrev pub place_of : Caller → Seat → Place
-place_of caller seat = record { opening = seat.opening; limit = seat.limit; caller = caller; latest = seat.latest }
+-- why a message is refused, by the status that its reading gives
+abbrev pub refusal_of : ℕ → Refusal
+refusal_of status =
+    if status == 413 then LargeBody else (if status == 431 then LargeHead else (if status == 501 then TransferEncoding else BadRequest))
 
--- a worker at a seat served a connection until its messages stopped so, and left these points
-pub record Served (caller : Caller) (before after : Progress) (seat seat' : Seat) (old new : Streams) (stop : Stop) (points : List Point) : Type 0 where
+-- what tells the refusal of a message, where one is told: a reply after which the connection ends, and a point
+unfoldable pub told_page : ℕ → List ℕ
+told_page status = reply (page_of (refusal_of status)) (record { close = true; bodiless = false })
+
+abbrev pub told_replies : Option ℕ → List (List ℕ)
+told_replies None = []
+told_replies (Some status) = told_page status ∷ []
+
+abbrev pub told_points : Option ℕ → List Point
+told_points None = []
+told_points (Some status) = plain_point ∷ []
+
+-- what is behind the messages, the refusal that was told of it, and what the source has left
+abbrev pub EndsAs : Ended → List ℕ → Option ℕ → Option (List ℕ) → Type 0
+EndsAs ended.Closed rest told left = StopsAt rest Between × IsAtEnd left × (told ≡ None)
+EndsAs ended.Cut rest told left = StopsAt rest Inside × IsAtEnd left × (told ≡ None)
+EndsAs (ended.Refused status) rest told left = StopsAt rest (Refusing status) × (told ≡ Some status)
+EndsAs ended.ReadFault rest told left = (StopsAt rest Between ⊎ StopsAt rest Inside) × (told ≡ None)
+EndsAs ended.WriteFault rest told left = (status : ℕ) → told ≡ Some status → StopsAt rest (Refusing status)
+EndsAs _ rest told left = told ≡ None
+
+-- none of the messages asks for the end, and one more may be answered
+pub record GoesOn (messages : List Message) : Type 0 where
+  pub stay : All (λ m. m.close ≡ false) messages
+  pub few : length messages < ANSWERS
+
+-- this message is the last one, and those before it go on
+pub record EndsWith (last : Message) (messages : List Message) : Type 0 where
+  pub before : List Message
+  pub are : messages ≡ before ++ last ∷ []
+  pub goes_on : GoesOn before
+
+-- which of the messages that were answered asks for the end, and how many there are
+abbrev pub LastsAs : Ended → Option ℕ → List Message → Type 0
+LastsAs ended.Asked told messages = (last : Message) × EndsWith last messages × (last.close ≡ true)
+LastsAs ended.Spent told messages = All (λ m. m.close ≡ false) messages × (length messages ≡ ANSWERS)
+LastsAs ended.WriteFault None messages = (last : Message) × EndsWith last messages
+LastsAs _ told messages = GoesOn messages
+
+-- all but the last of these was written whole, and of the last one only a front
+pub record IsCut (held held' : Option (List ℕ)) (replies : List (List ℕ)) : Type 0 where
+  pub whole : List (List ℕ)
+  pub last : List ℕ
+  pub count : ℕ
+  pub are : replies ≡ whole ++ last ∷ []
+  pub within : count < length last
+  pub written : Appends held held' (concat whole ++ take count last)
+
+-- these replies were written and nothing else, but where the sink failed
+abbrev pub Wrote : Ended → Option (List ℕ) → Option (List ℕ) → List (List ℕ) → Type 0
+Wrote ended.WriteFault held held' replies = IsCut held held' replies
+Wrote _ held held' replies = Appends held held' (concat replies)
+
+-- what came behind the last answer: nothing, but where memory ran out
+abbrev pub AfterAs : Ended → Standing → Standing → Type 0
+AfterAs ended.Memory mid new = GivesUp mid new
+AfterAs _ mid new = new ≡ mid
+
+-- a worker served a connection to this end, and left these points
+pub record Served (old new : Standing) (streams streams' : Streams) (end : Ended) (points : List Point) : Type 0 where
   pub given : List ℕ
-  pub rounds : List Round
-  -- the source gave these bytes, and has none left, but where a message was refused
-  pub taken : Consumes old.left new.left given
-  pub ended : IsDrained stop new.left
-  -- their messages ask for the requests of these rounds, in order, and stop so
-  pub cut : AreMessages given (map (λ r. r.request) rounds) stop
-  -- the clock was read once for each message
-  pub ran : Ran old.clock (map (λ r. r.reading) rounds) new.clock
-  -- the rounds follow one another, from the log seen before to the log seen now
-  pub each : AreRounds (place_of caller seat) before seat.seen rounds after seat'.seen
-  -- the log of each is a beginning of the log seen now
-  pub fronts : All (λ r. take (length r.seen) seat'.seen ≡ r.seen) rounds
-  -- a round has a point, in order, and a refusal one more
-  pub all : points ≡ map (λ r. r.point) rounds ++ last_points stop
-  -- each message was answered, in order, then a refusal was told, and nothing else was written
-  pub written : Appends old.held new.held (flat_map (reply_of seat.opening) rounds ++ last_words stop)
-  -- by the settles of these rounds the caller's entries grew by those of the points that changed rows, in order
-  pub stays : Stays seat seat' (changes_of seat'.seen points) (settles_of rounds) after.last
+  pub rest : List ℕ
+  pub told : Option ℕ
+  pub steps : List Step
+  pub mid : Standing
+  -- the source gave these bytes; they begin with the messages that were answered, and the end says what follows
+  pub taken : Consumes streams.left streams'.left given
+  pub begin : Begin given (messages_of steps) rest
+  pub ends : EndsAs end rest told streams'.left
+  pub lasts : LastsAs end told (messages_of steps)
+  -- each message was answered in a step, and the steps made these entries of the caller by so many settles
+  pub run : AreSteps 0 old steps mid
+  pub stays : Stays old.seat mid.seat (made_of steps) (settles_of steps) mid.progress.last
+  pub after : AfterAs end mid new
+  -- a step has a point, in order, and a refusal one more; the replies were written in the same order
+  pub all : points ≡ points_of steps ++ told_points told
+  pub written : Wrote end streams.held streams'.held (replies_from steps ++ told_replies told)

@@ -6,4 +6,5 @@ state_of i = record {
   store = i.store;
   caller = record { number = i.caller; seed = i.seed; scale = i.scale };
   progress = record { accepted = i.accepted; last = i.last };
+  reply = i.reply.bytes;
 }

@@ -1,5 +1,5 @@
 -- What contracts see of a worker.
-use Rattle.std.specs.Prelude.{◌≡◌, ℕ, length}
+use Rattle.std.specs.Prelude.{◌≡◌, ℕ, List, length, Option}
 use Rattle.shop_model.specs.Catalogues.{Catalogue, catalogue}
 use Rattle.shop_model.specs.Scales.{ScaleRow}
 use Rattle.shop_attempt.specs.Seats.{Seat, IsSeat}
@@ -15,10 +15,12 @@ pub record Progress : Type 0 where
   pub accepted : ℕ
   pub last : ℕ
 
+-- its store, its caller and progress, and the reply that it made last
 pub record WorkerState (St : Type 0) : Type 0 where
   pub store : St
   pub caller : Caller
   pub progress : Progress
+  pub reply : List ℕ
 
 abbrev pub at_first : Progress
 at_first = record { accepted = 0; last = 0 }
@@ -29,3 +31,15 @@ pub record IsPosted (seat : Seat) (index : Catalogue) (caller : Caller) : Type 0
   pub number : seat.caller ≡ caller.number
   pub named : index ≡ catalogue seat.opening
   pub scaled : caller.scale.items ≡ length seat.opening.items
+
+-- where a worker stands between two messages: its caller and progress, its seat, and what the clock will read, where it is known
+pub record Standing : Type 0 where
+  pub caller : Caller
+  pub progress : Progress
+  pub seat : Seat
+  pub clock : Option (List ℕ)
+
+-- by the meaning of its store
+abbrev pub standing : {St : Type 0} → (St → Seat) → WorkerState St → Option (List ℕ) → Standing
+standing seat_of worker clock =
+    record { caller = worker.caller; progress = worker.progress; seat = seat_of worker.store; clock = clock }

@@ -7,7 +7,7 @@ mod serve;
 mod tries;
 mod worker;
 
-pub use report::{Ended, Point, PointKind, Report};
-pub use serve::serve_connection;
+pub use report::{Answered, Ended, Point, PointKind, Report};
+pub use serve::{serve_connection, serve_message};
 pub use tries::TRIES;
 pub use worker::Worker;

@@ -1,5 +1,8 @@
+ghost use Rattle.std.specs.Prelude.{◌≡◌};
+ghost use Rattle.shop_engine.specs.Steps as spec;
+
 use shop_attempt::Conflict;
-use shop_text::Listed;
+use shop_text::{Listed, Text};
 
 /// What decided an answer.
 #[derive(Debug, Drop)]
@@ -32,6 +35,20 @@ pub struct Point {
     pub tries: u32,
 }
 
+/// The point of an answer that the message alone decides.
+pub(crate) fn plain_point() -> Point
+    ensures { result ≡ spec.plain_point }
+{
+    Point {
+        kind: PointKind::Plain,
+        front: 0,
+        moment: 0,
+        call: 0,
+        draw: 0,
+        tries: 0,
+    }
+}
+
 /// How a connection ended.
 #[derive(Clone, Copy, Debug, PartialEq, Eq)]
 pub enum Ended {
@@ -45,6 +62,19 @@ pub enum Ended {
     ReadFault,
     /// The sink failed.
     WriteFault,
+    /// Memory ran out.
+    Memory,
+    /// The last message that was answered asked for the end.
+    Asked,
+    /// As many messages were answered as a connection may have.
+    Spent,
+}
+
+/// What became of a message.
+#[derive(Debug, Drop)]
+pub enum Answered {
+    /// The bytes of the reply, and what it stands on.
+    Reply(Text, Point),
     /// Memory ran out.
     Memory,
 }

@@ -1,12 +1,15 @@
-ghost use Rattle.std.specs.Prelude.{◌≡◌, ◌≤◌, length};
-ghost use Rattle.shop_model.specs.Catalogues.{catalogue};
+ghost use Rattle.std.specs.Prelude.{◌≤◌, [], IfSome, IsNone};
 ghost use Rattle.shop_model.specs.Limits.{stamp_limit};
 ghost use Rattle.shop_attempt.specs.Marks.{KeepsMarks};
-ghost use Rattle.shop_engine.specs.Tries.{TriedAs, OutcomeAs};
+ghost use Rattle.shop_browse.specs.Attempts.{Suits};
+ghost use Rattle.shop_engine.specs.Staying.{StaysWithin};
+ghost use Rattle.shop_engine.specs.Tries.{TriedAs, IsAnswer};
 
+use crate::replies::refusal_reply;
+use crate::report::PointKind;
 use shop_attempt::{Conflict, Settle, Store};
 use shop_browse::{Ask, Attempted};
-use shop_model::Request;
+use shop_model::{Refusal, Request};
 use shop_order::attempt;
 use shop_pages::{Form, Reply};
 use shop_text::Listed;
@@ -15,28 +18,21 @@ use std::alloc::Global;
 /// How often a request is tried.
 pub const TRIES: u32 = 8;
 
-/// What came of one try. A front tells how many changes its page is shown after.
+/// What came of one try.
 #[derive(Debug, Drop)]
 pub(crate) enum Tried {
-    /// The reply shows the tables.
-    Shown(u64),
-    /// The reply shows a change, the last of so many.
-    Changed(u64),
-    /// The log has this many changes, and takes no more.
-    Full(u64),
+    /// This decided, at this front, and the reply is made.
+    Settled(PointKind, u64),
     Again(Conflict),
     Memory,
 }
 
-/// What came of a request's tries.
+/// What decided a request, at which front, and how many tries it took. The reply is made.
 #[derive(Debug, Drop)]
-pub(crate) enum Outcome {
-    Shown { front: u64, tries: u32 },
-    Changed { front: u64, tries: u32 },
-    Full { front: u64, tries: u32 },
-    /// Each of eight tries met a conflict.
-    Busy(Listed<Conflict>),
-    Memory,
+pub(crate) struct Outcome {
+    pub(crate) kind: PointKind,
+    pub(crate) front: u64,
+    pub(crate) tries: u32,
 }
 
 /// Reads what the request is about, makes room for its reply, settles it, and finishes the reply.
@@ -48,10 +44,10 @@ fn try_once<St: Store>(
     form: Form,
     reply: &mut Reply,
 ) -> Tried
-    requires index { ask.now.index.now ≡ catalogue (St.seat store.old).opening }
-    requires scale { ask.now.scale.now.items ≡ length (St.seat store.old).opening.items }
+    requires suits { Suits ask.now (St.seat store.old) }
     requires moment { ask.now.moment ≤ stamp_limit }
-    ensures tried { TriedAs (St.seat store.old) (St.seat store.new) request.now ask.now.moment ask.now.draw form reply.new.bytes result }
+    ensures tried { TriedAs (St.seat store.old) (St.seat store.new)
+        (record { request = request.now; moment = ask.now.moment; draw = ask.now.draw }) form reply.new.bytes result }
     ensures marks { KeepsMarks (St.marked store.old) (St.marked store.new) (St.seat store.old) (St.seat store.new) }
 {
     match attempt(alloc, store, ask, request) {
@@ -64,13 +60,16 @@ fn try_once<St: Store>(
                 Settle::Done(drawn) => {
                     reply.finish(&draft, &drawn, form);
                     if changes {
-                        Tried::Changed(drawn.front)
+                        Tried::Settled(PointKind::Change, drawn.front)
                     } else {
-                        Tried::Shown(drawn.front)
+                        Tried::Settled(PointKind::At, drawn.front)
                     }
                 }
                 Settle::Stale(conflict) => Tried::Again(conflict),
-                Settle::Full(size) => Tried::Full(size),
+                Settle::Full(size) => match refusal_reply(alloc, reply, Refusal::FullLog, form) {
+                    Ok(()) => Tried::Settled(PointKind::Full, size),
+                    Err(_) => Tried::Memory,
+                },
                 Settle::Memory => Tried::Memory,
             }
         }
@@ -82,7 +81,7 @@ fn try_once<St: Store>(
     }
 }
 
-/// Tries a request until it is settled, eight times at most.
+/// Tries a request until it is decided, eight times at most. There is no outcome where memory ran out.
 pub(crate) fn try_all<St: Store>(
     alloc: Global,
     store: &mut St,
@@ -90,27 +89,35 @@ pub(crate) fn try_all<St: Store>(
     request: &Request,
     form: Form,
     reply: &mut Reply,
-) -> Outcome
-    requires index { ask.now.index.now ≡ catalogue (St.seat store.old).opening }
-    requires scale { ask.now.scale.now.items ≡ length (St.seat store.old).opening.items }
+) -> Option<Outcome>
+    requires suits { Suits ask.now (St.seat store.old) }
     requires moment { ask.now.moment ≤ stamp_limit }
-    ensures outcome { OutcomeAs (St.seat store.old) (St.seat store.new) request.now ask.now.moment ask.now.draw form reply.new.bytes result }
+    ensures answer { IfSome result (IsAnswer (St.seat store.old) (St.seat store.new)
+        (record { request = request.now; moment = ask.now.moment; draw = ask.now.draw }) form reply.new.bytes) }
+    ensures memory { IsNone result → StaysWithin (St.seat store.old) (St.seat store.new) [] 8 ask.now.moment }
     ensures marks { KeepsMarks (St.marked store.old) (St.marked store.new) (St.seat store.old) (St.seat store.new) }
 {
     let mut conflicts = Listed::new(alloc);
     for tried in 0..TRIES {
-        let tries = tried + 1;
         match try_once(alloc, store, ask, request, form, reply) {
-            Tried::Shown(front) => return Outcome::Shown { front, tries },
-            Tried::Changed(front) => return Outcome::Changed { front, tries },
-            Tried::Full(front) => return Outcome::Full { front, tries },
+            Tried::Settled(kind, front) => {
+                let tries = tried + 1;
+                return Some(Outcome { kind, front, tries });
+            }
             Tried::Again(conflict) => {
                 let Ok(()) = conflicts.push(conflict) else {
-                    return Outcome::Memory;
+                    return None;
                 };
             }
-            Tried::Memory => return Outcome::Memory,
+            Tried::Memory => return None,
         }
     }
-    Outcome::Busy(conflicts)
+    let Ok(()) = refusal_reply(alloc, reply, Refusal::RowsKeptChanging, form) else {
+        return None;
+    };
+    Some(Outcome {
+        kind: PointKind::Busy(conflicts),
+        front: 0,
+        tries: TRIES,
+    })
 }

@@ -1,27 +1,38 @@
-ghost use Rattle.std.specs.Prelude.{◌≡◌, IfOk};
+ghost use Rattle.std.specs.Prelude.{◌≡◌, IfOk, []};
 ghost use Rattle.std.specs.Arc.{arc_value};
+ghost use Rattle.shop_engine.specs.Steps as spec;
 ghost use Rattle.shop_engine.specs.Workers.{IsPosted, at_first};
 
+use crate::replies::refusal_reply;
+use crate::report::{Point, plain_point};
+use crate::tries::try_all;
 use shop_attempt::Store;
-use shop_model::Scale;
-use shop_pages::Reply;
+use shop_browse::Ask;
+use shop_edges::Clock;
+use shop_http::{Asked, Message, Routes, request};
+use shop_model::{Refusal, Request, STAMP_LIMIT, Scale, word};
+use shop_pages::{Form, Reply};
 use shop_search::Index;
 use shop_text::Memory;
 use std::alloc::Global;
 use std::marker::Model;
 use std::sync::Arc;
 
+/// The table of drawn words whose rows are the callers'.
+const WORKERS: u64 = 16;
+
 /// Serves the requests of one caller from its seat at a shop, over one connection after another.
 #[derive(Drop)]
 pub struct Worker<St: Store> {
     pub(crate) store: St,
     pub(crate) index: Arc<Index, Global>,
+    pub(crate) routes: Routes,
     pub(crate) caller: u32,
     pub(crate) seed: u32,
     pub(crate) scale: Scale,
     pub(crate) accepted: u64,
     pub(crate) last: u64,
-    /// The reply that is being made. Its room serves one request after another.
+    /// The reply that was made last. Its room serves one request after another.
     pub(crate) reply: Reply,
 }
 
@@ -40,7 +51,34 @@ impl<St: Store> Model for Worker<St> {
     ghost invariant = { λ i. IsPosted (St.seat i.store) (arc_value i.index) (record { number = i.caller; seed = i.seed; scale = i.scale }) × (i.last ≤ stamp_limit) };
 }
 
+/// The form of the reply to a message, behind which there is no other or there may be.
+fn form_of(message: &Message, last: bool) -> Form
+    ensures { result ≡ spec.form_of message.now last }
+{
+    Form {
+        close: message.close || last,
+        bodiless: message.method.as_str() == "HEAD",
+    }
+}
+
+/// An accepted request: its moment, its number among the caller's, and its word.
+#[derive(Clone, Copy, Debug)]
+struct Accepted {
+    moment: u64,
+    call: u64,
+    draw: u32,
+}
+
 impl<St: Store> Worker<St> {
+    ghost use Rattle.std.specs.Prelude.{◌≡◌, ◌≤◌, [], IfOk, IfSome, IsNone, OnOk};
+    ghost use Rattle.shop_model.specs.Limits.{stamp_limit};
+    ghost use Rattle.shop_model.specs.Refusals.{page_of};
+    ghost use Rattle.shop_edges.specs.Causes.{count_up};
+    ghost use Rattle.shop_attempt.specs.Marks.{KeepsMarks};
+    ghost use Rattle.shop_pages.specs.Replies as replies;
+    ghost use Rattle.shop_engine.specs.Steps.{Answers, AnswersRequest, GivesUp, after_one, draw_of, moment_of};
+    ghost use Rattle.shop_engine.specs.Workers.{IsPosted, at_first, standing};
+
     /// A worker that has served no request. Its words are drawn by this seed and scale.
     pub fn new(
         alloc: Global,
@@ -57,9 +95,11 @@ impl<St: Store> Worker<St> {
           store = store;
           caller = record { number = caller; seed = seed; scale = scale };
           progress = at_first;
+          reply = [];
         }) }
     {
         Ok(Worker {
+            routes: Routes::new(alloc)?,
             reply: Reply::new(alloc)?,
             store,
             index,
@@ -78,6 +118,7 @@ impl<St: Store> Worker<St> {
         let Worker {
             store,
             index: _,
+            routes: _,
             caller: _,
             seed: _,
             scale: _,
@@ -86,5 +127,103 @@ impl<St: Store> Worker<St> {
             reply: _,
         } = self;
         store
+    }
+
+    /// The reply that was made last.
+    pub fn reply(&self) -> &[u8]
+        ensures { result.now ≡ self.now.reply }
+    {
+        self.reply.bytes()
+    }
+
+    /// Answers a message, for the last time on its connection or not: makes the reply, and tells its
+    /// point. There is none where memory ran out.
+    pub(crate) fn answer<C: Clock>(
+        &mut self,
+        alloc: Global,
+        message: &Message,
+        last: bool,
+        clock: &mut C,
+    ) -> Option<Point>
+        ensures answers { IfSome result (λ point. Answers last (standing St.seat self.old (C.readings clock.old)) (standing St.seat self.new (C.readings clock.new))
+            message.now point self.new.reply) }
+        ensures memory { IsNone result → GivesUp (standing St.seat self.old (C.readings clock.old)) (standing St.seat self.new (C.readings clock.new)) }
+        ensures caller { self.new.caller ≡ self.old.caller }
+        ensures marks { KeepsMarks (St.marked self.old.store) (St.marked self.new.store) (St.seat self.old.store) (St.seat self.new.store) }
+    {
+        let form = form_of(message, last);
+        match request(alloc, &self.routes, message) {
+            Asked::Request(request) => self.answer_request(alloc, &request, form, clock),
+            Asked::Refuse(refusal) => match self.refuse(alloc, refusal.told(), form) {
+                Ok(()) => Some(plain_point()),
+                Err(Memory) => None,
+            },
+            Asked::Memory => None,
+        }
+    }
+
+    /// Answers a request in this form.
+    fn answer_request<C: Clock>(
+        &mut self,
+        alloc: Global,
+        request: &Request,
+        form: Form,
+        clock: &mut C,
+    ) -> Option<Point>
+        ensures answers { IfSome result (λ point. AnswersRequest form (standing St.seat self.old (C.readings clock.old)) (standing St.seat self.new (C.readings clock.new))
+            request.now point self.new.reply) }
+        ensures memory { IsNone result → GivesUp (standing St.seat self.old (C.readings clock.old)) (standing St.seat self.new (C.readings clock.new)) }
+        ensures caller { self.new.caller ≡ self.old.caller }
+        ensures marks { KeepsMarks (St.marked self.old.store) (St.marked self.new.store) (St.seat self.old.store) (St.seat self.new.store) }
+    {
+        let accepted = self.accept(clock.now());
+        let ask = Ask {
+            scale: &self.scale,
+            index: &self.index,
+            moment: accepted.moment,
+            draw: accepted.draw,
+        };
+        let (store, reply) = (&mut self.store, &mut self.reply);
+        let outcome = try_all(alloc, store, &ask, request, form, reply)?;
+        Some(Point {
+            kind: outcome.kind,
+            front: outcome.front,
+            moment: accepted.moment,
+            call: accepted.call,
+            draw: accepted.draw,
+            tries: outcome.tries,
+        })
+    }
+
+    /// Takes note of one more request at a reading of the clock.
+    fn accept(&mut self, reading: u64) -> Accepted
+        ensures call { result.call ≡ count_up self.old.progress.accepted }
+        ensures moment { result.moment ≡ moment_of self.old.progress.last reading }
+        ensures bound { result.moment ≤ stamp_limit }
+        ensures draw { result.draw ≡ draw_of self.old.caller (count_up self.old.progress.accepted) }
+        ensures worker { self.new ≡ record { store = self.old.store; caller = self.old.caller; progress = after_one self.old.progress reading; reply = self.old.reply } }
+    {
+        let moment = self.last.max(reading.min(STAMP_LIMIT));
+        let call = self.accepted.saturating_add(1);
+        self.last = moment;
+        self.accepted = call;
+        Accepted {
+            moment,
+            call,
+            draw: word(self.seed, &self.scale, WORKERS, self.caller, call - 1),
+        }
+    }
+
+    /// Makes the reply around the page of a refusal.
+    pub(crate) fn refuse(
+        &mut self,
+        alloc: Global,
+        refusal: Refusal,
+        form: Form,
+    ) -> Result<(), Memory>
+        ensures reply { OnOk result (self.new.reply ≡ replies.reply (page_of refusal) form) }
+        ensures worker { self.new ≡ record { store = self.old.store; caller = self.old.caller; progress = self.old.progress; reply = self.new.reply } }
+    {
+        refusal_reply(alloc, &mut self.reply, refusal, form)
     }
 }

@@ -1,9 +1,12 @@
 //! How connections and sessions end.
 use crate::streams::{Streams, clock_of, request, sink_of, source_of, whole};
-use crate::workers::{asked, count_in, kind_of, served};
-use shop_app::{Status, first_worker, run_alone};
+use crate::workers::{asked, count_in, desk_worker, kind_of, served};
+use http::Method;
+use shop_app::{Status, run_alone};
+use shop_book::Solo;
 use shop_edges::BytesOut;
-use shop_engine::{Ended, Point};
+use shop_engine::{Answered, Ended, Point, Worker, serve_message};
+use shop_message::Message;
 use shop_text::{Memory, Text};
 use std::alloc::Global;
 use std::test::Fail;
@@ -23,7 +26,9 @@ fn filled(alloc: Global, len: usize) -> Result<Text, Memory> {
 fn are_plain(points: &[Point], end: Ended) -> bool {
     match points {
         [] => matches!(end, Ended::Closed | Ended::Cut),
-        [point] => end == Ended::Refused(501) && kind_of(point) == ("plain", 0, 0),
+        [point] => {
+            matches!(end, Ended::Closed | Ended::Refused(431)) && kind_of(point) == ("plain", 0, 0)
+        }
         _ => false,
     }
 }
@@ -35,7 +40,7 @@ fn ends_so(alloc: Global, input: &[u8], end: Ended) -> Result<bool, Memory> {
             read_piece,
             ..whole(input)
         };
-        let mut worker = first_worker(alloc)?;
+        let mut worker = desk_worker(alloc)?;
         let (report, _) = served(alloc, &mut worker, streams, &[1_000])?;
         if report.end != end || !are_plain(report.points.as_slice(), end) {
             return Ok(false);
@@ -56,9 +61,9 @@ fn a_connection_ends_as_its_input_does(rt: HostRuntime) -> Result<(), Fail> {
         (b"\r\n\n\r", Ended::Closed),
         (b"GET /pro", Ended::Cut),
         (shorter.bytes(), Ended::Cut),
-        (long.bytes(), Ended::Refused(501)),
-        (too_large.bytes(), Ended::Refused(501)),
-        (no_number.bytes(), Ended::Refused(501)),
+        (long.bytes(), Ended::Refused(431)),
+        (too_large.bytes(), Ended::Closed),
+        (no_number.bytes(), Ended::Closed),
     ] {
         assert!(rt; ends_so(alloc, input, end)?, "for {end:?}");
     }
@@ -68,13 +73,13 @@ fn a_connection_ends_as_its_input_does(rt: HostRuntime) -> Result<(), Fail> {
 #[test]
 fn a_refused_quantity_changes_no_cart(rt: HostRuntime) -> Result<(), Fail> {
     let alloc = rt.alloc();
-    let mut worker = first_worker(alloc)?;
+    let mut worker = desk_worker(alloc)?;
     let targets = [
         b"/shopping_cart?qty_46=999".as_slice(),
         b"/shopping_cart?cart=1&qty_46=1000",
     ];
     let (refused, _) = asked(alloc, &mut worker, &targets, &[1_000])?;
-    assert_eq!(rt; refused.end, Ended::Refused(501));
+    assert_eq!(rt; refused.end, Ended::Closed);
     let kept = b"/shopping_cart?cart=1".as_slice();
     let (shown, sink) = asked(alloc, &mut worker, &[kept], &[1_000])?;
     assert_eq!(rt; shown.end, Ended::Closed);
@@ -128,5 +133,45 @@ fn a_session_tells_a_write_fault(rt: HostRuntime) -> Result<(), Fail> {
     assert_eq!(rt; (status, status.code()), (Status::WriteFault, 4));
     assert_eq!(rt; sink.bytes(), b"H".as_slice());
     assert_eq!(rt; faults.bytes(), b"tpcw: write fault\n".as_slice());
+    Ok(())
+}
+
+/// The reply to one message, with its point.
+fn answered(
+    alloc: Global,
+    worker: &mut Worker<Solo>,
+    target: &[u8],
+    last: bool,
+) -> Result<(Text, Point), Fail> {
+    let message = Message {
+        method: Method::GET,
+        target: Text::copy(alloc, target)?,
+        body: Text::new(alloc),
+        close: false,
+    };
+    let mut clock = clock_of(alloc, &[1_000])?;
+    match serve_message(alloc, worker, &message, last, &mut clock) {
+        Answered::Reply(reply, point) => Ok((reply, point)),
+        Answered::Memory => Err("no memory".into()),
+    }
+}
+
+#[test]
+fn one_message_is_answered_alone(rt: HostRuntime) -> Result<(), Fail> {
+    let alloc = rt.alloc();
+    let mut worker = desk_worker(alloc)?;
+    let target = b"/product_detail?item=1".as_slice();
+    let (first, point) = answered(alloc, &mut worker, target, false)?;
+    assert_eq!(rt; kind_of(&point), ("at", 0, 1));
+    assert_eq!(rt;
+        count_in(first.bytes(), b"Content-Length: 477\r\n\r\n<html>"),
+        1
+    );
+    let (last, point) = answered(alloc, &mut worker, b"/home?c=x", true)?;
+    assert_eq!(rt; kind_of(&point), ("plain", 0, 0));
+    assert_eq!(rt;
+        count_in(last.bytes(), b"Content-Length: 91\r\nConnection: close"),
+        1
+    );
     Ok(())
 }

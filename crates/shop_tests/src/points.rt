@@ -1,7 +1,6 @@
 //! The points of answers, at the desk with seed 0. Call n of caller 1 draws 16245 + 13 (n - 1).
 use crate::streams::{Streams, request, whole};
-use crate::workers::{asked, call_of, kind_of, served, worker_over};
-use shop_app::first_worker;
+use crate::workers::{asked, call_of, desk_worker, kind_of, served, worker_over};
 use shop_engine::{Ended, Point};
 use shop_model::Scale;
 use std::test::Fail;
@@ -33,7 +32,7 @@ fn is_first(points: &[Point]) -> bool {
 fn readings_are_settled_at_once(rt: HostRuntime) -> Result<(), Fail> {
     let alloc = rt.alloc();
     for target in readings() {
-        let mut worker = first_worker(alloc)?;
+        let mut worker = desk_worker(alloc)?;
         let (report, _) = asked(alloc, &mut worker, &[target], &[1_000])?;
         assert!(rt; is_first(report.points.as_slice()), "for {target:?}");
     }
@@ -50,7 +49,7 @@ fn pieces_change_no_point(rt: HostRuntime) -> Result<(), Fail> {
             write_piece,
             ..whole(input.bytes())
         };
-        let mut worker = first_worker(alloc)?;
+        let mut worker = desk_worker(alloc)?;
         let (report, _) = served(alloc, &mut worker, streams, &[1_000])?;
         assert_eq!(rt; report.end, Ended::Closed);
         assert!(rt;
@@ -64,7 +63,7 @@ fn pieces_change_no_point(rt: HostRuntime) -> Result<(), Fail> {
 #[test]
 fn no_moment_is_below_an_earlier_one(rt: HostRuntime) -> Result<(), Fail> {
     let alloc = rt.alloc();
-    let mut worker = first_worker(alloc)?;
+    let mut worker = desk_worker(alloc)?;
     let targets = [
         b"/product_detail?item=101".as_slice(),
         b"/product_detail?item=0",

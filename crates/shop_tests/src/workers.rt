@@ -4,6 +4,7 @@ ghost use Rattle.shop_book.specs.Openings.{most_entries};
 
 use crate::streams::{Streams, clock_of, request, sink_of, source_of, whole};
 use memchr::memmem::{find, find_iter};
+use shop_app::first_worker;
 use shop_book::{Book, Solo};
 use shop_edges::BytesOut;
 use shop_engine::{Point, PointKind, Report, Worker, serve_connection};
@@ -11,6 +12,7 @@ use shop_model::Scale;
 use shop_populate::populate;
 use shop_search::Index;
 use shop_text::{Memory, Text};
+use shop_words::Session;
 use std::alloc::Global;
 use std::sync::Arc;
 
@@ -24,6 +26,12 @@ pub(crate) fn worker_over(alloc: Global, scale: Scale, limit: u64) -> Result<Wor
     let index = Arc::new(alloc, index)?;
     let book = Book::open(alloc, tables, limit)?;
     Worker::new(alloc, Solo::new(book), 1, 0, scale, index)
+}
+
+/// The same of the desk, as the word `session` alone has it.
+pub(crate) fn desk_worker(alloc: Global) -> Result<Worker<Solo>, Memory> {
+    let (scale, seed) = (Scale::desk(), 0);
+    first_worker(alloc, Session { scale, seed })
 }
 
 /// What comes of a connection over these streams, at these readings of the clock.

@@ -1,57 +1,60 @@
-use Rattle.std.proofs.Common.{◌+◌, ap, refl, sym, subst, inl}
-use Rattle.shop_engine.specs.Rounds.{changes_of}
-use Rattle.shop_engine.specs.Served.{tries_of}
-use Rattle.shop_engine.specs.Tries.{StaysWithin}
-use Rattle.shop_engine.specs.Workers.{WorkerState}
+use Rattle.std.proofs.Common.{◌≡◌, refl, arith, [], ◌+◌, ◌==◌, length, ap, ◌∙◌}
 use Rattle.shop_attempt.proofs.Marks.{keeps_self, keeps_then}
-use Rattle.shop_engine.proofs.ConnectionLemmas.{Serves-request, Served-stopped, SoFar-ends, SoFar-broken, nothing_met, whole_answer}
+use Rattle.shop_edges.proofs.Known.{Consumes-nothing}
+use Rattle.shop_engine.proofs.ConnectionLemmas.{nothing_met, nothing_begun, still_standing, one_point, SoFar-message, Served-closed, Served-inside, Served-broken, Served-memory, Served-spent, Served-message, Served-refusal}
+use Rattle.shop_engine.specs.Steps.{ANSWERS}
 use Rattle.shop_engine.proofs.serve.serve_all.Goals as goal
 
-pub loop-request-init : goal.loop-request-init
-loop-request-init g c = (nothing_met _ _ _ _ _ _ _ _ c.in-Ok.ensures c.requires, keeps_self _ _)
+pub loop-alloc-init : goal.loop-alloc-init
+loop-alloc-init g c = record {
+  so_far = nothing_met _ _ _ _ c.in-Ok.ensures c.requires;
+  few = omega (arith, ap length c.requires);
+  caller = refl;
+  reads = omega arith;
+  writes = omega arith;
+  marks = keeps_self _ _;
+}
 
-pub returns-in-Some-clause-stays : goal.returns-in-Some-clause-stays
-returns-in-Some-clause-stays g c =
-    SoFar-broken c.in-Some.end _ c.loop-request.worker.caller _ c.loop-request.worker.progress c.serve_request-ended.new.worker.progress _ (g.St.Store.seat c.loop-request.worker.store) (g.St.Store.seat c.serve_request-ended.new.worker.store) _ _ _
-    c.loop-request.points.items c.serve_request-ended.new.points.items c.in-Request.request _ _ c.loop-request.invariant.0.so_far c.loop-request.invariant.0.same
-    c.in-Some.ensures.last c.in-Some.ensures.answered c.in-Some.ensures.memory
+pub returns-in_default-clause-served : goal.returns-in_default-clause-served
+returns-in_default-clause-served g c = Served-memory _ _ _ _ _ [] _ _ [] (nothing_met _ _ [] _ refl c.requires) (omega (arith, ap length c.requires)) (Consumes-nothing _) (nothing_begun _)
 
-pub loop-request-preserved-in_default-ended : goal.loop-request-preserved-in_default-ended
-loop-request-preserved-in_default-ended g c = (
-  Serves-request _ c.loop-request.worker.caller _ _ c.loop-request.worker.progress _ _ (g.St.Store.seat c.loop-request.worker.store) _ _ _ _ _ _ _ _ _ _ _ c.loop-request.points.items _ c.in-Request.request _ _ _
-      c.loop-request.invariant.0 c.in-Request.ensures.next (whole_answer _ _ (c.in_default-ended.ensures.answered (λ same. absurd cc)) refl) c.in_default-ended.ensures.caller c.in-Request.ensures.later c.in_default-ended.ensures.writes,
-  keeps_then _ _ _ _ _ _ c.loop-request.invariant.1 c.in_default-ended.ensures.marks,
-)
+pub returns-in-End-clause-served : goal.returns-in-End-clause-served
+returns-in-End-clause-served g c = Served-closed _ _ _ _ _ _ _ _ c.loop-alloc.invariant.so_far (omega (arith, c.len.ensures, c.loop-alloc-test.true)) c.in-End.ensures.next
 
-pub loop-request-preserved : goal.loop-request-preserved
-loop-request-preserved g c = (
-  Serves-request _ c.loop-request.worker.caller _ _ c.loop-request.worker.progress _ _ (g.St.Store.seat c.loop-request.worker.store) _ _ _ _ _ _ _ _ _ _ _ c.loop-request.points.items _ c.in-Request.request _ _ _
-      c.loop-request.invariant.0 c.in-Request.ensures.next (whole_answer _ _ (c.in_default-ended.ensures.answered (λ same. absurd cc)) refl) c.in_default-ended.ensures.caller c.in-Request.ensures.later c.in_default-ended.ensures.writes,
-  keeps_then _ _ _ _ _ _ c.loop-request.invariant.1 c.in_default-ended.ensures.marks,
-)
+pub returns-in-Cut-clause-served : goal.returns-in-Cut-clause-served
+returns-in-Cut-clause-served g c = Served-inside _ _ _ _ _ _ _ _ c.loop-alloc.invariant.so_far (omega (arith, c.len.ensures, c.loop-alloc-test.true)) c.in-Cut.ensures.next
 
-pub returns-in-Stopped-clause-served : goal.returns-in-Stopped-clause-served
-returns-in-Stopped-clause-served g c =
-    Served-stopped _ _ c.loop-request.worker.caller _ c.loop-request.worker.progress _ _ (g.St.Store.seat c.loop-request.worker.store) _ _ _ _ _ _ _ _ c.loop-request.points.items _ _ _ c.in-Stopped.stop
-    c.loop-request.invariant.0 c.in-Stopped.ensures.next (ap (λ (w : WorkerState g.row.St.Denot). w.progress) c.finish.ensures.worker)
-    (ap (λ (w : WorkerState g.row.St.Denot). g.St.Store.seat w.store) c.finish.ensures.worker) c.finish.ensures.finished
+pub returns-in-Bad-clause-served : goal.returns-in-Bad-clause-served
+returns-in-Bad-clause-served g c =
+    Served-refusal c.refuse.result _ _ _ _ _ _ _ _ _ _ _ _ c.loop-alloc.invariant.so_far (omega (arith, c.len.ensures, c.loop-alloc-test.true)) c.in-Bad.ensures.next c.refuse.ensures.refusal
+    (still_standing g.St.Store.seat c.loop-alloc.worker c.refuse.new.worker _ c.refuse.ensures.worker)
 
-pub returns-in-Stopped-clause-stays : goal.returns-in-Stopped-clause-stays
-returns-in-Stopped-clause-stays g c =
-    subst
-    (λ (w : WorkerState g.row.St.Denot). StaysWithin (g.St.Store.seat c.args.worker.now.store) (g.St.Store.seat w.store) (changes_of (g.St.Store.seat w.store).seen c.finish.new.points.items) (tries_of c.finish.new.points.items + 8) w.progress.last)
-    (sym c.finish.ensures.worker)
-    (SoFar-ends _ _ _ _ _ _ _ _ c.loop-request.points.items _ c.loop-request.invariant.0.so_far c.finish.ensures.points)
+pub returns-in-ReadFault-clause-served : goal.returns-in-ReadFault-clause-served
+returns-in-ReadFault-clause-served g c = Served-broken _ _ _ _ _ _ _ _ c.loop-alloc.invariant.so_far (omega (arith, c.len.ensures, c.loop-alloc-test.true)) c.in-ReadFault.ensures.next
 
-pub returns-in-Failed-clause-stays : goal.returns-in-Failed-clause-stays
-returns-in-Failed-clause-stays g c = SoFar-ends _ _ _ _ _ _ _ _ c.loop-request.points.items _ c.loop-request.invariant.0.so_far (inl refl)
+pub returns-in-Memory-clause-served : goal.returns-in-Memory-clause-served
+returns-in-Memory-clause-served g c =
+    Served-memory _ _ _ _ _ _ _ _ c.in-Memory.ensures.next.piece c.loop-alloc.invariant.so_far (omega (arith, c.len.ensures, c.loop-alloc-test.true)) c.in-Memory.ensures.next.taken (nothing_begun _)
 
-pub returns-in-Memory-clause-stays : goal.returns-in-Memory-clause-stays
-returns-in-Memory-clause-stays g c = SoFar-ends _ _ _ _ _ _ _ _ c.loop-request.points.items _ c.loop-request.invariant.0.so_far (inl refl)
+pub returns-in-Some-clause-served : goal.returns-in-Some-clause-served
+returns-in-Some-clause-served g c =
+    let count : c.len-in-loop-alloc.result ≡ length c.loop-alloc.points.items = omega (arith, c.len-in-loop-alloc.ensures) in
+    Served-message c.in-Some.end _ _ _ _ _ _ _ _ _ _ _ _ _ c.loop-alloc.invariant.so_far (omega (arith, c.len.ensures, c.loop-alloc-test.true))
+    (ap (λ n. (n + 1) == ANSWERS) count) c.in-Message.ensures.next c.in-Some.ensures.message
 
-pub loop-request-preserved-in_default-ended-2 : goal.loop-request-preserved-in_default-ended-2
-loop-request-preserved-in_default-ended-2 g c = (
-  Serves-request _ c.loop-request.worker.caller _ _ c.loop-request.worker.progress _ _ (g.St.Store.seat c.loop-request.worker.store) _ _ _ _ _ _ _ _ _ _ _ c.loop-request.points.items _ c.in-Request.request _ _ _
-      c.loop-request.invariant.0 c.in-Request.ensures.next (whole_answer _ _ (c.in_default-ended.ensures.answered (λ same. absurd cc)) refl) c.in_default-ended.ensures.caller c.in-Request.ensures.later c.in_default-ended.ensures.writes,
-  keeps_then _ _ _ _ _ _ c.loop-request.invariant.1 c.in_default-ended.ensures.marks,
-)
+pub loop-alloc-preserved : goal.loop-alloc-preserved
+loop-alloc-preserved g c =
+    let answered = c.in_default-serve_one.ensures.message in
+    let count : c.len-in-loop-alloc.result ≡ length c.loop-alloc.points.items = omega (arith, c.len-in-loop-alloc.ensures) in
+    record {
+      so_far = SoFar-message _ _ _ _ _ _ _ _ _ _ _ _ _ c.loop-alloc.invariant.so_far (ap (λ n. (n + 1) == ANSWERS) count) c.in-Message.ensures.next answered;
+      few = omega (arith, c.len.ensures, c.loop-alloc-test.true, one_point _ _ _ _ _ answered);
+      caller = c.serve_one.ensures.caller ∙ c.loop-alloc.invariant.caller;
+      reads = omega (arith, c.loop-alloc.invariant.reads, c.in-Message.ensures.later);
+      writes = omega (arith, c.loop-alloc.invariant.writes, c.serve_one.ensures.writes);
+      marks = keeps_then _ _ _ _ _ _ c.loop-alloc.invariant.marks c.serve_one.ensures.marks;
+    }
+
+pub returns-clause-served : goal.returns-clause-served
+returns-clause-served g c =
+    Served-spent _ _ _ _ _ _ c.loop-alloc.invariant.so_far (omega (arith, c.len.ensures, c.loop-alloc.invariant.few, c.loop-alloc-test.false))
