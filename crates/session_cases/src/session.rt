@@ -36,16 +36,18 @@ impl Streams {
         let alloc = rt.alloc();
         let mut input = Vec::new(alloc);
         for part in case.asks.split_whitespace() {
-            if part.starts_with('/') {
-                let request = format!(in alloc; "GET {part} HTTP/1.1\r\n\r\n")?;
-                input.extend_from_slice(request.as_bytes())?;
+            let (name, count) = repeated(part)?;
+            let bytes = if name.starts_with('/') {
+                request(alloc, name)?
             } else {
-                input.extend_from_slice(&file(rt, folder, part)?)?;
-            }
+                file(rt, folder, name)?
+            };
+            add(&mut input, &bytes, count)?;
         }
         let mut output = Vec::new(alloc);
         for part in case.answers.split_whitespace() {
-            output.extend_from_slice(&file(rt, folder, part)?)?;
+            let (name, count) = repeated(part)?;
+            add(&mut output, &file(rt, folder, name)?, count)?;
         }
         let mut told = case.told.as_bytes().to_vec(alloc)?;
         if !told.is_empty() {
@@ -57,6 +59,28 @@ impl Streams {
             told,
         })
     }
+}
+
+/// What a part names, and how often it stands there: once, or as often as a number behind `*` says.
+fn repeated(part: &str) -> Result<(&str, usize)> {
+    match part.split_once('*') {
+        None => Ok((part, 1)),
+        Some((name, count)) => Ok((name, count.parse::<usize>()?)),
+    }
+}
+
+/// The request of a target.
+fn request(alloc: Global, target: &str) -> Result<Vec<u8>> {
+    let request = format!(in alloc; "GET {target} HTTP/1.1\r\n\r\n")?;
+    Ok(request.as_bytes().to_vec(alloc)?)
+}
+
+/// Adds some bytes so often.
+fn add(all: &mut Vec<u8>, bytes: &[u8], count: usize) -> Result<()> {
+    for _ in 0..count {
+        all.extend_from_slice(bytes)?;
+    }
+    Ok(())
 }
 
 /// The bytes of a file.
