@@ -3,6 +3,8 @@ use Rattle.std.proofs.Common.{◌≡◌, ℕ, ◌+◌, ◌<◌, ◌≤◌, inl, 
 use Rattle.std.proofs.lemmas.List.{take-append-le, drop-append-le, drop-drop, length-drop}
 use Rattle.httparse.specs.Grammar.{RequestHead, ReadsRequest}
 use Rattle.shop_message.specs.declared.messages.Message.{Message}
+use Rattle.shop_model.specs.declared.refusal.Refusal.{Refusal}
+use Rattle.shop_model.specs.declared.refusal.Refusal.TheVariants.{LargeHead}
 use Rattle.shop_message.specs.Looks.{TakesFirst, IsUnready, LeavesPart, WholeAt, PartAt, RefusedAt}
 use Rattle.shop_message.specs.Messages.{HEAD_LIMIT, BeginsWithHead, BeginsWith, IsRefused, StandsFor, after_line_ends, head_len, message_from}
 use Rattle.shop_message.proofs.HeadLemmas.{head_len-within, head_len-front}
@@ -92,16 +94,16 @@ first-at bytes rest len total message is at short whole = record {
     within = head_len-within rest len at
 
 -- so many bytes, and no head among them
-pub endless-at : (bytes rest : List ℕ) → rest ≡ after_line_ends bytes → head_len rest ≡ None → HEAD_LIMIT ≤ length rest → StandsFor bytes rest × IsRefused (after_line_ends bytes) 431
-endless-at bytes rest is none many = (same-at bytes rest is, subst (λ xs. IsRefused xs 431) is (inl (inl (none, many), refl)))
+pub endless-at : (bytes rest : List ℕ) → rest ≡ after_line_ends bytes → head_len rest ≡ None → HEAD_LIMIT ≤ length rest → StandsFor bytes rest × IsRefused (after_line_ends bytes) LargeHead
+endless-at bytes rest is none many = (same-at bytes rest is, subst (λ xs. IsRefused xs LargeHead) is (inl (inl (none, many), refl)))
 
-pub long-at : (bytes rest : List ℕ) (len : ℕ) → rest ≡ after_line_ends bytes → head_len rest ≡ Some len → HEAD_LIMIT < len → StandsFor bytes rest × IsRefused (after_line_ends bytes) 431
-long-at bytes rest len is at long = (same-at bytes rest is, subst (λ xs. IsRefused xs 431) is (inl (inr (len, at, inl long), refl)))
+pub long-at : (bytes rest : List ℕ) (len : ℕ) → rest ≡ after_line_ends bytes → head_len rest ≡ Some len → HEAD_LIMIT < len → StandsFor bytes rest × IsRefused (after_line_ends bytes) LargeHead
+long-at bytes rest len is at long = (same-at bytes rest is, subst (λ xs. IsRefused xs LargeHead) is (inl (inr (len, at, inl long), refl)))
 
-pub refused-at : (bytes rest : List ℕ) (len status : ℕ) → rest ≡ after_line_ends bytes → head_len rest ≡ Some len → len ≤ HEAD_LIMIT → RefusedAt rest len status → StandsFor bytes rest × IsRefused (after_line_ends bytes) status
-refused-at bytes rest len status is at short refused = (same-at bytes rest is, subst (λ xs. IsRefused xs status) is (here refused))
+pub refused-at : (bytes rest : List ℕ) (len : ℕ) (refusal : Refusal) → rest ≡ after_line_ends bytes → head_len rest ≡ Some len → len ≤ HEAD_LIMIT → RefusedAt rest len refusal → StandsFor bytes rest × IsRefused (after_line_ends bytes) refusal
+refused-at bytes rest len refusal is at short refused = (same-at bytes rest is, subst (λ xs. IsRefused xs refusal) is (here refused))
   where
-    here : RefusedAt rest len status → IsRefused rest status
+    here : RefusedAt rest len refusal → IsRefused rest refusal
     here (inl (many, same)) = inl (inr (len, at, inr many), same)
     here (inr (inl (broken, same))) = inr (inl (record { len = len; begins = record { at = at; short = short; few = broken.few }; none = broken.none }, same))
     here (inr (inr unframed)) = inr (inr (record { len = len; head = unframed.head; begins = record { begins = record { at = at; short = short; few = unframed.few }; reads = unframed.reads }; frame = unframed.frame }))

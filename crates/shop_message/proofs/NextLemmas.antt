@@ -3,6 +3,7 @@ use Rattle.std.proofs.Common.{◌≡◌, ℕ, ◌<◌, ⊎_elim, inl, inr, List,
 use Rattle.std.specs.declared.option.Option.{Option}
 use Rattle.std.specs.Io.KnownBytes.{IsAtEnd}
 use Rattle.shop_edges.proofs.Known.{Consumes-more}
+use Rattle.shop_model.specs.declared.refusal.Refusal.{Refusal}
 use Rattle.shop_message.specs.Looks.{IsUnready, LeavesPart}
 use Rattle.shop_message.specs.Messages.{IsRefused, Between, Inside, Refusing, StandsFor, after_line_ends}
 use Rattle.shop_message.specs.Nexts.{Gathers, Stops, Breaks, Adds}
@@ -26,9 +27,9 @@ Gathers-same left left' before after held so_far same = record { piece = so_far.
 all_bytes : (left left' : Option (List ℕ)) (before after : List ℕ) (so_far : Gathers left left' before after) → after_line_ends (before ++ so_far.piece) ≡ after_line_ends after
 all_bytes left left' before after so_far = ap after_line_ends (sym (append-nil (before ++ so_far.piece))) ∙ so_far.same [] ∙ ap after_line_ends (append-nil after)
 
-pub Stops-refused : (left left' : Option (List ℕ)) (before after held : List ℕ) (status : ℕ) → Gathers left left' before after → StandsFor after held × IsRefused (after_line_ends after) status
-    → Stops left left' before held (Refusing status)
-Stops-refused left left' before after held status so_far (same, refused) = record {
+pub Stops-refused : (left left' : Option (List ℕ)) (before after held : List ℕ) (refusal : Refusal) → Gathers left left' before after → StandsFor after held × IsRefused (after_line_ends after) refusal
+    → Stops left left' before held (Refusing refusal)
+Stops-refused left left' before after held refusal so_far (same, refused) = record {
   gathers = record { piece = so_far.piece; taken = so_far.taken; same = λ more. so_far.same more ∙ same more };
   none = rw (all_bytes left left' before after so_far) refused;
   ended = tt;

@@ -1,6 +1,8 @@
 -- What a look at the front of the bytes says of the messages of all the bytes.
 use Rattle.std.specs.Prelude.{◌≡◌, ℕ, ◌+◌, ◌<◌, ◌≤◌, ◌⊎◌, List, [], ◌++◌, length, take, drop}
 use Rattle.httparse.specs.Grammar.{RequestHead, ReadsRequest}
+use Rattle.shop_model.specs.declared.refusal.Refusal.{Refusal}
+use Rattle.shop_model.specs.declared.refusal.Refusal.TheVariants.{BadRequest, LargeHead}
 use Rattle.shop_message.specs.declared.frames.Frame.TheVariants.{Body, Refused}
 use Rattle.shop_message.specs.declared.found.Found.{Found}
 use Rattle.shop_message.specs.declared.found.Found.TheVariants as found
@@ -30,7 +32,7 @@ pub record LeavesPart (before after : List ℕ) (wanted : ℕ) : Type 0 where
 -- a message is taken, or refused, or left in parts
 abbrev pub IsLook : List ℕ → List ℕ → Look → Type 0
 IsLook before after (look.Message message) = TakesFirst before after message
-IsLook before after (look.Refused status) = StandsFor before after × IsRefused (after_line_ends before) status
+IsLook before after (look.Refused refusal) = StandsFor before after × IsRefused (after_line_ends before) refusal
 IsLook before after (look.Part wanted) = LeavesPart before after wanted
 IsLook before after look.Memory = StandsFor before after
 
@@ -56,26 +58,26 @@ pub record PartAt (bytes : List ℕ) (len total : ℕ) : Type 0 where
   pub part : length (drop len bytes) < size
   pub total_is : total ≡ len + size
 
--- its fields are refused with this status
-pub record UnframedAt (bytes : List ℕ) (len status : ℕ) : Type 0 where
+-- its fields are refused so
+pub record UnframedAt (bytes : List ℕ) (len : ℕ) (refusal : Refusal) : Type 0 where
   pub head : RequestHead
   pub few : line_feeds (take len bytes) ≤ LINES_LIMIT
   pub reads : ReadsRequest (take len bytes) head []
-  pub frame : frame_of (fields_of head) ≡ Refused status
+  pub frame : frame_of (fields_of head) ≡ Refused refusal
 
 -- it is no head of the grammar
 pub record BrokenAt (bytes : List ℕ) (len : ℕ) : Type 0 where
   pub few : line_feeds (take len bytes) ≤ LINES_LIMIT
   pub none : (head : RequestHead) → ¬ (ReadsRequest (take len bytes) head [])
 
--- why a head of this length is refused, with the status that says so
-abbrev pub RefusedAt : List ℕ → ℕ → ℕ → Type 0
-RefusedAt bytes len status =
-    ((LINES_LIMIT < line_feeds (take len bytes)) × (status ≡ 431)) ⊎ (BrokenAt bytes len × (status ≡ 400)) ⊎ UnframedAt bytes len status
+-- why a head of this length is refused, and the refusal that says so
+abbrev pub RefusedAt : List ℕ → ℕ → Refusal → Type 0
+RefusedAt bytes len refusal =
+    ((LINES_LIMIT < line_feeds (take len bytes)) × (refusal ≡ LargeHead)) ⊎ (BrokenAt bytes len × (refusal ≡ BadRequest)) ⊎ UnframedAt bytes len refusal
 
 -- what a head of this length, and the bytes behind it, come to
 abbrev pub IsFound : List ℕ → ℕ → Found → Type 0
 IsFound bytes len (found.Whole message total) = WholeAt bytes len message total
-IsFound bytes len (found.Refused status) = RefusedAt bytes len status
+IsFound bytes len (found.Refused refusal) = RefusedAt bytes len refusal
 IsFound bytes len (found.Part total) = PartAt bytes len total
 IsFound bytes len found.Memory = Unit {0}

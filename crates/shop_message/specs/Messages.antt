@@ -3,6 +3,8 @@ use Rattle.std.specs.Prelude.{◌≡◌, ℕ, ◌+◌, ◌<◌, ◌≤◌, ◌||
 use Rattle.std.specs.List.{starts_with}
 use Rattle.std.specs.Option.{option_map, option_or}
 use Rattle.httparse.specs.Grammar.{RequestHead, ReadsRequest}
+use Rattle.shop_model.specs.declared.refusal.Refusal.{Refusal}
+use Rattle.shop_model.specs.declared.refusal.Refusal.TheVariants.{BadRequest, LargeHead}
 use Rattle.shop_message.specs.declared.frames.Frame.TheVariants.{Body, Refused}
 use Rattle.shop_message.specs.declared.messages.Message.{Message}
 use Rattle.shop_message.specs.Heads.{fields_of, frame_of, asks_close}
@@ -100,28 +102,28 @@ pub record IsBroken (bytes : List ℕ) : Type 0 where
   pub begins : BeginsWithHead bytes len
   pub none : (head : RequestHead) → ¬ (ReadsRequest (take len bytes) head [])
 
--- a head whose fields are refused with this status, since no body is known by them
-pub record IsUnframed (bytes : List ℕ) (status : ℕ) : Type 0 where
+-- a head whose fields are refused so, since no body is known by them
+pub record IsUnframed (bytes : List ℕ) (refusal : Refusal) : Type 0 where
   pub len : ℕ
   pub head : RequestHead
   pub begins : BeginsWith bytes len head
-  pub frame : frame_of (fields_of head) ≡ Refused status
+  pub frame : frame_of (fields_of head) ≡ Refused refusal
 
--- why a message is refused, with the status that says so
-abbrev pub IsRefused : List ℕ → ℕ → Type 0
-IsRefused bytes status =
-    (IsOversized bytes × (status ≡ 431)) ⊎ (IsBroken bytes × (status ≡ 400)) ⊎ IsUnframed bytes status
+-- why a message is refused, and the refusal that says so
+abbrev pub IsRefused : List ℕ → Refusal → Type 0
+IsRefused bytes refusal =
+    (IsOversized bytes × (refusal ≡ LargeHead)) ⊎ (IsBroken bytes × (refusal ≡ BadRequest)) ⊎ IsUnframed bytes refusal
 
--- how messages stop: the bytes end between two of them or inside one, or one is refused with a status
+-- how messages stop: the bytes end between two of them or inside one, or one is refused
 pub data Stop : Type 0 where
   Between Inside : Stop
-  Refusing : ℕ → Stop
+  Refusing : Refusal → Stop
 
 -- no message follows, and this is why
 abbrev pub StopsAt : List ℕ → Stop → Type 0
 StopsAt bytes Between = after_line_ends bytes ≡ []
 StopsAt bytes Inside = IsPart (after_line_ends bytes)
-StopsAt bytes (Refusing status) = IsRefused (after_line_ends bytes) status
+StopsAt bytes (Refusing refusal) = IsRefused (after_line_ends bytes) refusal
 
 -- the bytes begin with these messages, in order, and this rest follows them
 abbrev pub Begin : List ℕ → List Message → List ℕ → Type 0

@@ -24,7 +24,7 @@ pub record GivesMessage (left left' : Option (List ℕ)) (before after : List �
 abbrev pub IsDrained : Stop → Option (List ℕ) → Type 0
 IsDrained Between left = IsAtEnd left
 IsDrained Inside left = IsAtEnd left
-IsDrained (Refusing status) left = Unit {0}
+IsDrained (Refusing refusal) left = Unit {0}
 
 -- what is held stands for all the bytes, and these have no message but stop so
 pub record Stops (left left' : Option (List ℕ)) (before after : List ℕ) (stop : Stop) : Type 0 where
@@ -42,7 +42,7 @@ abbrev pub IsNext : Option (List ℕ) → Option (List ℕ) → List ℕ → Lis
 IsNext left left' before after (next.Message message) = GivesMessage left left' before after message
 IsNext left left' before after next.End = Stops left left' before after Between
 IsNext left left' before after next.Cut = Stops left left' before after Inside
-IsNext left left' before after (next.Bad status) = Stops left left' before after (Refusing status)
+IsNext left left' before after (next.Bad refusal) = Stops left left' before after (Refusing refusal)
 IsNext left left' before after next.ReadFault = Breaks left left' before after
 IsNext left left' before after next.Memory = Gathers left left' before after
 

@@ -12,6 +12,7 @@ use crate::heads::{asks_close, whole_head};
 use crate::messages::Message;
 use http::method::{Method, MethodError};
 use httparse::spans::{HeaderSpan, RequestSpans};
+use shop_model::Refusal;
 use shop_text::{Memory, Text};
 use std::alloc::Global;
 
@@ -23,8 +24,8 @@ const LINES_LIMIT: usize = 66;
 pub(crate) enum Found {
     /// A message of so many bytes.
     Whole(Message, usize),
-    /// It is refused with this status.
-    Refused(u16),
+    /// It is refused.
+    Refused(Refusal),
     /// Its body is not there yet: it is whole with so many bytes.
     Part(usize),
     Memory,
@@ -42,15 +43,15 @@ pub(crate) fn found_at(
     ensures found { IsFound bytes.now head.len result }
 {
     if head.lines > LINES_LIMIT {
-        return Found::Refused(431);
+        return Found::Refused(Refusal::LargeHead);
     }
     let (front, rest) = bytes.split_at(head.len);
     let Some(parts) = whole_head(front, fields) else {
-        return Found::Refused(400);
+        return Found::Refused(Refusal::BadRequest);
     };
     let size = match frame_of(front, &fields[..parts.headers]) {
         Frame::Body(size) => size,
-        Frame::Refused(status) => return Found::Refused(status),
+        Frame::Refused(refusal) => return Found::Refused(refusal),
     };
     if rest.len() < size {
         return Found::Part(head.len + size);

@@ -7,6 +7,7 @@ use crate::buffer::Buffer;
 use crate::found::Found;
 use http::Method;
 use shop_edges::{Got, Source};
+use shop_model::Refusal;
 use shop_text::Text;
 use std::alloc::Global;
 
@@ -34,8 +35,8 @@ pub enum Next {
     End,
     /// The source ended inside a message.
     Cut,
-    /// A message is refused with this status, and no other is read.
-    Bad(u16),
+    /// A message is refused, and no other is read.
+    Bad(Refusal),
     /// The source failed.
     ReadFault,
     Memory,
@@ -45,8 +46,8 @@ pub enum Next {
 #[derive(Debug, Drop)]
 enum Look {
     Message(Message),
-    /// A message that is refused with this status.
-    Refused(u16),
+    /// A message that is refused.
+    Refused(Refusal),
     /// A part of a message, or nothing; it may be whole with so many bytes.
     Part(usize),
     Memory,
@@ -69,7 +70,7 @@ pub fn next_message<S: Source>(alloc: Global, source: &mut S, buffer: &mut Buffe
     loop {
         let wanted = match look_at(alloc, buffer) {
             Look::Message(message) => return Next::Message(message),
-            Look::Refused(status) => return Next::Bad(status),
+            Look::Refused(refusal) => return Next::Bad(refusal),
             Look::Part(wanted) => wanted,
             Look::Memory => return Next::Memory,
         };
@@ -118,18 +119,18 @@ fn look_at(alloc: Global, buffer: &mut Buffer) -> Look
         return if buffer.len() < HEAD_LIMIT {
             Look::Part(buffer.len() + 1)
         } else {
-            Look::Refused(431)
+            Look::Refused(Refusal::LargeHead)
         };
     };
     if head.len > HEAD_LIMIT {
-        return Look::Refused(431);
+        return Look::Refused(Refusal::LargeHead);
     }
     match buffer.found(alloc, head) {
         Found::Whole(message, size) => {
             buffer.consume(size);
             Look::Message(message)
         }
-        Found::Refused(status) => Look::Refused(status),
+        Found::Refused(refusal) => Look::Refused(refusal),
         Found::Part(wanted) => Look::Part(wanted),
         Found::Memory => Look::Memory,
     }

@@ -79,16 +79,16 @@ fn what_is_no_message_is_told(rt: HostRuntime) -> Result<(), Fail> {
         ("\r\n\n", "End"),
         ("G", "Cut"),
         ("G / HTTP/1.1\nContent-Length: 2\n\nx", "Cut"),
-        ("G\n\n", "Bad(400)"),
-        ("G / HTTP/1.1\nContent-Length: +5\n\n", "Bad(400)"),
+        ("G\n\n", "Bad(BadRequest)"),
+        ("G / HTTP/1.1\nContent-Length: +5\n\n", "Bad(BadRequest)"),
         (
             "G / HTTP/1.1\nContent-Length: 1\nContent-Length: 1\n\nx",
-            "Bad(400)",
+            "Bad(BadRequest)",
         ),
-        ("G / HTTP/1.1\nContent-Length: 16385\n\n", "Bad(413)"),
+        ("G / HTTP/1.1\nContent-Length: 16385\n\n", "Bad(LargeBody)"),
         (
             "G / HTTP/1.1\nContent-Length: x\nTransfer-Encoding:\n\n",
-            "Bad(501)",
+            "Bad(TransferEncoding)",
         ),
     ] {
         let next = first(alloc, bytes.as_bytes())?;

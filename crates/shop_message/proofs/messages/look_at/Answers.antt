@@ -20,7 +20,7 @@ returns-then-head-gt-HEAD_LIMIT-clause-look c =
 pub returns-in-Refused-clause-look : goal.returns-in-Refused-clause-look
 returns-in-Refused-clause-look c =
     rw c.found.ensures.same
-    (refused-at _ c.head.new.self c.in-Some.head.len c.in-Refused.status (c.head.ensures.same ∙ c.skip_line_ends.ensures.rest)
+    (refused-at _ c.head.new.self c.in-Some.head.len c.in-Refused.refusal (c.head.ensures.same ∙ c.skip_line_ends.ensures.rest)
     (ap head_len c.head.ensures.same ∙ c.in-Some.ensures.head.at) (omega arith) c.in-Refused.ensures.found)
 
 pub consume-requires : goal.consume-requires
