@@ -1,3 +1,4 @@
 pub mod Dates
 pub mod Escapes
 pub mod Extends
+pub mod Plain

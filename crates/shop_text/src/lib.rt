@@ -4,21 +4,25 @@
 //! A push that is refused for want of memory leaves the text as it was.
 #![tactic(auto)]
 
+mod caption;
 mod days;
 mod fold;
 mod listed;
 mod markup;
 mod memory;
 mod money;
+mod shared;
 mod syllables;
 mod text;
 
+pub use caption::Caption;
 pub use days::{day_bytes, day_text};
 pub use fold::{fold_begins, fold_eq};
 pub use listed::Listed;
-pub use markup::escape;
+pub use markup::{entity, escape};
 pub use memory::Memory;
 pub use money::cents_text;
+pub use shared::Shared;
 pub use syllables::{digsyl, digsyl_lower, syllable};
 pub use text::Text;
 

@@ -5,8 +5,8 @@ ghost use Rattle.shop_text.specs.Extends.{Extends};
 use crate::{Memory, Text};
 use std::alloc::Global;
 
-/// The entity for a byte that does not stand for itself.
-fn entity(byte: u8) -> Option<&'static [u8]>
+/// The entity for a byte that does not stand for itself in a page.
+pub fn entity(byte: u8) -> Option<&'static [u8]>
     ensures value { MatchOption result (spec.escape_byte byte ≡ byte ∷ []) (λ name. spec.escape_byte byte ≡ name.now) }
     ensures long { IfSome result (λ name. 0 < length name.now) }
 {

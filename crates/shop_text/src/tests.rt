@@ -113,3 +113,35 @@ fn a_list_keeps_its_order(rt: HostRuntime) -> Result<(), Fail> {
     assert_eq!(rt; again.as_slice(), [3, 1, 2].as_slice());
     Ok(())
 }
+
+#[test]
+fn captions_as_they_stand_in_a_page(rt: HostRuntime) -> Result<(), Fail> {
+    let alloc = rt.alloc();
+    let cases = [
+        ("", "", true),
+        ("plain 'text'", "plain 'text'", true),
+        ("fish & <chips>", "fish &amp; &lt;chips&gt;", false),
+        ("ends in \"", "ends in &quot;", false),
+    ];
+    for (bytes, want, plain) in cases {
+        let caption = Caption::copy(alloc, bytes.as_bytes())?;
+        let mut text = Text::copy(alloc, b"By ")?;
+        text.push_caption(&caption)?;
+        assert_eq!(rt; text.bytes().strip_prefix(b"By "), Some(want.as_bytes()));
+        assert_eq!(rt; caption.is_plain(), plain);
+        assert!(rt; caption == Caption::of(Text::copy(alloc, bytes.as_bytes())?));
+        assert_eq!(rt; caption.into_text().bytes(), bytes.as_bytes());
+    }
+    Ok(())
+}
+
+#[test]
+fn a_value_outlives_its_first_owner(rt: HostRuntime) -> Result<(), Fail> {
+    let alloc = rt.alloc();
+    let first = Shared::new(alloc, Text::copy(alloc, b"one")?)?;
+    let second = first.share()?;
+    assert_eq!(rt; first.get().bytes(), second.get().bytes());
+    drop(first);
+    assert_eq!(rt; second.get().bytes(), b"one".as_slice());
+    Ok(())
+}
