@@ -1,7 +1,7 @@
 use Rattle.std.proofs.Common.{◌∙◌, ap}
 use Rattle.shop_book.specs.Books.{BookValue}
-use Rattle.shop_tests.proofs.Posting.{posted}
-use Rattle.shop_tests.proofs.workers.worker_over.Goals as goal
+use Rattle.shop_answers.proofs.Posting.{posted}
+use Rattle.shop_answers.proofs.shops.worker.Goals as goal
 
 pub new-requires-3 : goal.new-requires-3
 new-requires-3 c =
