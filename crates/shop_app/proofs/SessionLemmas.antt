@@ -1,5 +1,6 @@
 -- The status of a session by the end of its connection.
 use Rattle.std.proofs.Common.{◌≡◌, ℕ, inl, inr, List, [], length, map, Option, subst, refl, sym, ap, ◌∙◌, arith}
+use Rattle.std.specs.Prelude.{flat_map}
 use Rattle.std.proofs.lemmas.List.FromFn.{length-map-range_with_len}
 use Rattle.shop_edges.specs.Causes.{Rose}
 use Rattle.shop_model.specs.declared.tables.Tables.{Tables}
@@ -15,7 +16,7 @@ use Rattle.shop_engine.specs.declared.report.Ended.{Ended}
 use Rattle.shop_engine.specs.declared.report.Ended.TheVariants as ended
 use Rattle.shop_engine.specs.declared.report.Point.{Point}
 use Rattle.shop_engine.specs.Served.{Served}
-use Rattle.shop_engine.specs.Steps.{made_of}
+use Rattle.shop_engine.specs.Steps.{Step}
 use Rattle.shop_engine.specs.Workers.{IsPosted, Standing, WorkerState, at_first, standing}
 use Rattle.shop_words.specs.declared.command.Session.{Session}
 use Rattle.shop_app.specs.Session.{IsFirst, IsSession, ServedTo, Run, first_caller, first_seat, first_standing}
@@ -35,7 +36,7 @@ module _ (session : Session) (before after : Standing) (old new : Run) (points :
   served_to end given =
       let served : Served (first_standing session old.clock) after old.streams new.streams end points = rw is_first at given in
       let alone : IsAlone (first_standing session old.clock) = record { stamp = 0; latest = refl; within = omega arith } in
-      let log : after.seat.seen ≡ made_of served.steps = log_made (first_standing session old.clock) after old.streams new.streams end points served alone in
+      let log : after.seat.seen ≡ flat_map (λ (s : Step). s.made) served.steps = log_made (first_standing session old.clock) after old.streams new.streams end points served alone in
       record {
         points = points;
         after = after;

@@ -13,7 +13,7 @@ use Rattle.shop_engine.specs.declared.report.Point.{Point}
 use Rattle.shop_engine.specs.declared.report.PointKind.{PointKind}
 use Rattle.shop_engine.specs.declared.report.PointKind.TheVariants.{Plain, At, Change, Busy, Full}
 use Rattle.shop_engine.specs.Served.{Served, Streams}
-use Rattle.shop_engine.specs.Steps.{plain_point, made_of}
+use Rattle.shop_engine.specs.Steps.{plain_point}
 use Rattle.shop_engine.specs.Workers.{Caller, Standing, WorkerState, at_first}
 use Rattle.shop_words.specs.declared.command.Command.{Command}
 use Rattle.shop_words.specs.declared.command.Command.TheVariants as command
@@ -91,7 +91,7 @@ pub record ServedTo (session : Session) (old new : Run) (end : Ended) : Type 0 w
   pub clock : after.clock ≡ new.clock
   pub alone : All (λ p. (p ≡ plain_point) ⊎ IsAtOnce p) points
   pub lawful : IsLawful (populated session.seed session.scale) after.seat.seen
-  pub log : after.seat.seen ≡ made_of served.steps
+  pub log : after.seat.seen ≡ flat_map (λ s. s.made) served.steps
   pub stamps : map (λ e. e.stamp) after.seat.seen ≡ moments_of points
 
 -- what the status of a session says; where memory runs out before there is a worker, nothing is read or written

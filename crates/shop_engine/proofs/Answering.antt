@@ -1,11 +1,12 @@
 -- How what came of a request makes a step.
-use Rattle.std.proofs.Common.{◌≡◌, ℕ, ◌+◌, Bool, List, [], ◌∷◌, ◌++◌, length, Option, Ok, inl, refl, sym, ◌∙◌, ap, subst, arith}
+use Rattle.std.proofs.Common.{◌≡◌, ℕ, ◌+◌, min, max, Bool, List, [], ◌∷◌, ◌++◌, length, Option, Ok, inl, refl, sym, ◌∙◌, ap, subst, arith}
 use Rattle.shop_edges.specs.Causes.{count_up}
 use Rattle.shop_edges.specs.Clocks.{Tells}
 use Rattle.shop_message.specs.declared.messages.Message.{Message}
 use Rattle.shop_model.specs.declared.requests.Request.{Request}
 use Rattle.shop_model.specs.declared.tables.Tables.{Tables}
 use Rattle.shop_model.specs.Catalogues.{Catalogue, catalogue}
+use Rattle.shop_model.specs.Limits.{stamp_limit}
 use Rattle.shop_history.specs.Lawful.{IsLawful}
 use Rattle.shop_history.proofs.Goods.{sound_throughout}
 use Rattle.shop_attempt.specs.Seats.{Seat, Follows, IsSeat}
@@ -15,9 +16,9 @@ use Rattle.shop_engine.specs.declared.report.Point.{Point}
 use Rattle.shop_engine.specs.declared.tries.Outcome.{Outcome}
 use Rattle.shop_engine.specs.Connections.{Adds}
 use Rattle.shop_engine.specs.Decided.{IsDecided}
-use Rattle.shop_engine.specs.Staying.{StaysWithin}
-use Rattle.shop_engine.specs.Steps.{Accepts, Answers, AnswersRequest, GivesUp, IsAnswered, IsStepFor, Step, form_of, moment_of, after_one, draw_of}
-use Rattle.shop_engine.specs.Tries.{IsAnswer}
+use Rattle.shop_engine.specs.Staying.{Stays}
+use Rattle.shop_engine.specs.Steps.{Accepts, Answers, AnswersRequest, GivesUp, IsAnswered, IsStepFor, Step, form_of, draw_of}
+use Rattle.shop_engine.specs.Tries.{IsAnswer, StaysWithin, point_of}
 use Rattle.shop_engine.specs.Workers.{Caller, Progress, Standing, WorkerState, IsPosted, standing}
 
 -- the caller is still posted at the seat
@@ -35,34 +36,44 @@ lawful seat valid =
     record { legal = valid.legal; sound = sound_throughout seat.opening (seat.limit + 1) valid.good seat.seen valid.legal (omega (arith, valid.short)) }
 
 -- a worker accepted a request, and then its store went on
-module _ {St : Type 0} (seat_of : St → Seat) (old inside new : WorkerState St) (clock clock' : Option (List ℕ)) (reading moment : ℕ)
-    (accepted : inside ≡ record { store = old.store; caller = old.caller; progress = after_one old.progress reading; reply = old.reply })
-    (told : Tells clock clock' reading) (moment_is : moment ≡ moment_of old.progress.last reading) (caller : new.caller ≡ inside.caller) (progress : new.progress ≡ inside.progress) where
-  progress_is : new.progress ≡ after_one old.progress reading
+module _ {St : Type 0} (seat_of : St → Seat) (old inside new : WorkerState St) (clock clock' : Option (List ℕ)) (reading moment call : ℕ)
+    (accepted : inside ≡ record { store = old.store; caller = old.caller; progress = record { accepted = call; last = moment }; reply = old.reply })
+    (told : Tells clock clock' reading) (call_is : call ≡ count_up old.progress.accepted) (moment_is : moment ≡ max old.progress.last (min reading stamp_limit))
+    (caller : new.caller ≡ inside.caller) (progress : new.progress ≡ inside.progress) where
+  progress_is : new.progress ≡ record { accepted = call; last = moment }
   progress_is = progress ∙ ap (λ (w : WorkerState St). w.progress) accepted
 
   same_seat : seat_of inside.store ≡ seat_of old.store
   same_seat = ap (λ (w : WorkerState St). seat_of w.store) accepted
 
-  last_is : moment ≡ new.progress.last
-  last_is = moment_is ∙ sym (ap (λ (p : Progress). p.last) progress_is)
+  call_now : new.progress.accepted ≡ call
+  call_now = ap (λ (p : Progress). p.accepted) progress_is
+
+  last_now : new.progress.last ≡ moment
+  last_now = ap (λ (p : Progress). p.last) progress_is
 
   accepts : Accepts (standing seat_of old clock) (standing seat_of new clock')
-  accepts = record { reading = reading; told = told; progress = progress_is; caller = caller ∙ ap (λ (w : WorkerState St). w.caller) accepted }
+  accepts = record {
+    reading = reading;
+    told = told;
+    accepted = call_now ∙ call_is;
+    last = last_now ∙ moment_is;
+    caller = caller ∙ ap (λ (w : WorkerState St). w.caller) accepted;
+  }
 
-  pub answers_is : (request : Request) (form : Form) (call draw : ℕ) (outcome : Outcome) → call ≡ count_up old.progress.accepted → draw ≡ draw_of old.caller (count_up old.progress.accepted)
+  pub answers_is : (request : Request) (form : Form) (draw : ℕ) (outcome : Outcome) → draw ≡ draw_of old.caller call
       → IsAnswer (seat_of inside.store) (seat_of new.store) (record { request = request; moment = moment; draw = draw }) form new.reply outcome
-      → AnswersRequest form (standing seat_of old clock) (standing seat_of new clock') request
-      (record { kind = outcome.kind; front = outcome.front; moment = moment; call = call; draw = draw; tries = outcome.tries }) new.reply
-  answers_is request form call draw outcome call_is draw_is answer =
-      let number : count_up old.progress.accepted ≡ new.progress.accepted = sym (ap (λ (p : Progress). p.accepted) progress_is) in (
+      → AnswersRequest form (standing seat_of old clock) (standing seat_of new clock') request (point_of (record { request = request; moment = moment; draw = draw }) outcome call) new.reply
+  answers_is request form draw outcome draw_is answer =
+      let point = point_of (record { request = request; moment = moment; draw = draw }) outcome call in (
         answer.made,
         λ message. record {
           accepts = accepts;
-          call = call_is ∙ number;
-          moment = last_is;
-          draw = draw_is ∙ ap (draw_of old.caller) number;
-          decided = subst (λ (s : Seat). IsDecided s (seat_of new.store) (record { request = request; moment = moment; draw = draw }) outcome answer.made) same_seat answer.decided;
+          call = sym call_now;
+          moment = sym last_now;
+          draw = draw_is ∙ ap (draw_of old.caller) (sym call_now);
+          page = answer.page;
+          decided = subst (λ (s : Seat). IsDecided s (seat_of new.store) request point answer.made answer.page) same_seat (answer.decided call);
           reply = answer.bytes_are;
         },
       )
@@ -70,7 +81,11 @@ module _ {St : Type 0} (seat_of : St → Seat) (old inside new : WorkerState St)
   pub gives_up : StaysWithin (seat_of inside.store) (seat_of new.store) [] 8 moment → GivesUp (standing seat_of old clock) (standing seat_of new clock')
   gives_up within = record {
     accepts = inl accepts;
-    within = subst (λ (s : Seat). StaysWithin s (seat_of new.store) [] 8 new.progress.last) same_seat (subst (λ m. StaysWithin (seat_of inside.store) (seat_of new.store) [] 8 m) last_is within);
+    settles = within.made;
+    few = within.few;
+    stays =
+        subst (λ (s : Seat). Stays s (seat_of new.store) [] within.made new.progress.last) same_seat
+        (subst (λ m. Stays (seat_of inside.store) (seat_of new.store) [] within.made m) (sym last_now) within.stays);
   }
 
 -- what was asked for is answered in the form of its message

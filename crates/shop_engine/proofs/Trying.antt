@@ -1,5 +1,5 @@
 -- One try: what its settle shows.
-use Rattle.std.proofs.Common.{◌≡◌, ◌≢◌, ℕ, ◌+◌, ◌-◌, ◌≤◌, max, true, false, eqb, List, [], ◌∷◌, ◌++◌, length, Option, Some, None, IsSome, is_some, slice_get, refl, sym, ◌∙◌, ap, subst, arith, append-nil, length-append}
+use Rattle.std.proofs.Common.{◌≡◌, ◌≢◌, ℕ, ◌+◌, ◌-◌, ◌≤◌, max, true, false, eqb, List, [], ◌∷◌, ◌++◌, length, Option, Some, None, IsSome, is_some, slice_get, refl, sym, ◌∙◌, ap, subst, arith, append-nil, append_assoc, length-append}
 use Rattle.std.proofs.lemmas.Bool.{eq-eqb, cond-true}
 use Rattle.std.proofs.lemmas.List.{take-append-le, take_all}
 use Rattle.std.proofs.lemmas.List.Elements.{filter-append}
@@ -44,11 +44,10 @@ use Rattle.shop_pages.specs.Replies.{reply}
 use Rattle.shop_browse.specs.Attempts.{IsReadFor, AreReadFor, IsAttempt, IsDraftOf, IsReady, IsContradiction, Becomes}
 use Rattle.shop_browse.specs.Footprints.{InFootprint}
 use Rattle.shop_engine.specs.declared.report.PointKind.TheVariants.{At, Change, Full as FullKind}
-use Rattle.shop_engine.specs.Decided.{Asking, IsTry, reply_of_page}
-use Rattle.shop_engine.specs.Staying.{Stays, StaysWithin, StampRose}
-use Rattle.shop_engine.specs.Tries.{IsAnswer, IsAgain}
+use Rattle.shop_engine.specs.Staying.{Stays}
+use Rattle.shop_engine.specs.Tries.{Asking, IsAnswer, IsAgain, StaysWithin}
 use Rattle.shop_engine.proofs.Footprints.{footprint_later}
-use Rattle.shop_engine.proofs.Staying.{stamp_kept, stamp_raised, stays_looked, within_of}
+use Rattle.shop_engine.proofs.Staying.{StampRose, stamp_kept, stamp_raised, stays_looked, within_of}
 
 -- an attempt and its settle, behind whose log found these entries of the caller stand
 
@@ -70,11 +69,9 @@ stays_found start old new found entries moment looked follows rose is_found seen
       ∙ ap (λ (l : List Entry). l ++ entries_of old.caller entries) (is_found.mine ∙ looked.mine)
       ∙ ap (λ (l : List Entry). entries_of start.caller start.seen ++ l) own_are;
   own = own ∙ ap (λ (l : List Entry). l ++ entries) looked.own;
-  settled = record {
-    rose = omega (arith, rose.rose, looked.settles);
-    kept = omega (arith, rose.kept, looked.settles);
-    most = omega (arith, rose.once, looked.settles);
-  };
+  rose = omega (arith, rose.rose, looked.settles);
+  kept = omega (arith, rose.kept, looked.settles);
+  most = omega (arith, rose.once, looked.settles);
   greatest = omega (arith, greatest, looked.greatest);
   stamp = subst (λ o. StampRose o new.latest moment) looked.latest stamp;
   alone = λ told.
@@ -113,10 +110,6 @@ fixed_is : (stamp : ℕ) (ids : Ids) (draft : Draft) (page : Page) → draft ≡
 unfolding filled
 fixed_is stamp ids draft page is = ap (filled stamp ids) is
 
--- the first try is one
-first_try : (latest : Option ℕ) → IsTry latest 1
-first_try latest = record { some = omega arith; few = omega arith; alone = λ told. refl }
-
 -- a settle that was done without a change
 
 pub shown_is : (start old new : Seat) (asking : Asking) (attempt : Attempt) (draft : Draft) (drawn : Drawn) (form : Form) (bytes : List ℕ) → Looked start old → Follows old new → IsSeat new
@@ -130,18 +123,19 @@ shown_is start old new asking attempt draft drawn form bytes looked follows seat
     let shown = drafts t (agrees_found old new new.seen attempt follows seat was.accepted.is_found.grows (extends_self new.seen) ready.attempts.faithful was.accepted.fresh) in
     record {
       made = [];
-      decided = record {
+      page = shown.page;
+      decided = λ call. record {
         stays =
             stays_found start old new new.seen [] asking.moment looked follows rose was.accepted.is_found (sym (append-nil new.seen)) (entries_none old.caller) (was.own ∙ sym (append-nil old.own))
             (omega (arith, was.accepted.greatest, ready.attempts.at))
             (stamp_raised old.latest new.latest asking.moment (was.accepted.latest ∙ ap (raised old.latest) ready.attempts.at));
-        tries = first_try start.latest;
-        front = was.accepted.front;
-        cause = (subst IsSome (sym shown.shows) refl, refl);
+        some = omega arith;
+        few = omega arith;
+        alone = λ told. refl;
+        cause = (refl, was.accepted.front);
+        shows = shown.shows;
       };
-      bytes_are =
-          bytes_are ∙ ap (λ (page : Page). reply page form) (fixed_is drawn.stamp drawn.ids draft shown.page shown.draft_is)
-          ∙ ap (λ (o : Option Page). reply_of_page o form) (sym shown.shows);
+      bytes_are = bytes_are ∙ ap (λ (page : Page). reply page form) (fixed_is drawn.stamp drawn.ids draft shown.page shown.draft_is);
     }
 
 -- a settle that was done as a change
@@ -181,36 +175,40 @@ changed_is start old new asking attempt draft drawn form bytes looked follows se
     ∙ ap (new_ids t) (ap (tables new.opening) was.seen ∙ tables_push new.opening was.before was.entry ∙ ap (λ a. (play t was.entry.stamp a).tables) was.does) in
     let filled_is : filled drawn.stamp drawn.ids draft ≡ (play t was.entry.stamp was.entry.act).page
     = ap (λ s. filled s drawn.ids draft) (sym was.stamp) ∙ ap (λ i. filled was.entry.stamp i draft) ids_are ∙ becomes.page_is ∙ ap (λ a. (play t was.entry.stamp a).page) (sym was.does) in
-    let page : page_at new.opening new.seen (length new.seen) ≡ Some (play t was.entry.stamp was.entry.act).page
+    let shows : page_at new.opening new.seen (length new.seen) ≡ Some (play t was.entry.stamp was.entry.act).page
     = ap (λ (log : List Entry). page_at new.opening log (length log)) was.seen ∙ last_page new.opening was.before was.entry (length (was.before ++ was.entry ∷ [])) refl in
     let caller : was.entry.caller ≡ old.caller = was.caller ∙ follows.caller in
+    let begins_found : Extends start.seen was.before = extends_trans start.seen old.seen was.before looked.follows.grows accepted.is_found.grows in
     record {
       made = was.entry ∷ [];
-      decided = record {
+      page = (play t was.entry.stamp was.entry.act).page;
+      decided = λ call. record {
         stays =
             stays_found start old new was.before (was.entry ∷ []) asking.moment looked follows rose accepted.is_found was.seen (entries_one old.caller was.entry caller) was.own
             (omega (arith, accepted.greatest, ready.attempts.at))
             (stamp_raised old.latest new.latest asking.moment (accepted.latest ∙ ap (raised old.latest) ready.attempts.at));
-        tries = first_try start.latest;
-        front = accepted.front;
-        cause = record {
-          before = was.before;
-          entry = was.entry;
-          made_is = refl;
-          grows = extends_trans start.seen old.seen was.before looked.follows.grows accepted.is_found.grows;
-          seen = was.seen;
-          caller = was.caller;
-          does = subst (IsActOf asking.request asking.draw) (sym was.does) drafts.0;
-          stamp = record {
+        some = omega arith;
+        few = omega arith;
+        alone = λ told. refl;
+        cause = (
+          record {
+            between = begins_found.rest;
+            entry = was.entry;
+            made_is = refl;
+            seen = was.seen ∙ ap (λ (log : List Entry). log ++ was.entry ∷ []) begins_found.is ∙ append_assoc start.seen begins_found.rest (was.entry ∷ []);
+            caller = was.caller;
+            does = subst (IsActOf asking.request asking.draw) (sym was.does) drafts.0;
             later = omega (arith, accepted.moment, ready.attempts.at, was.stamp);
             exact = λ told same.
                 was.stamp
                 ∙ exact_stamp start.latest new.latest asking.moment drawn.stamp (λ is. accepted.told (subst IsSome (sym looked.latest) is))
                 (accepted.latest ∙ ap (raised old.latest) ready.attempts.at ∙ ap (λ o. raised o asking.moment) looked.latest) told same;
-          };
-        };
+          },
+          accepted.front,
+        );
+        shows = shows;
       };
-      bytes_are = bytes_are ∙ ap (λ (shown : Page). reply shown form) filled_is ∙ ap (λ o. reply_of_page o form) (sym page);
+      bytes_are = bytes_are ∙ ap (λ (page : Page). reply page form) filled_is;
     }
 
 -- a settle that found the log full
@@ -235,10 +233,12 @@ full_is start old new asking attempt draft size form bytes looked follows seat r
     let drafts : IsDraftOf old.opening asking.request asking.draw attempt.reads draft (Some some.0) = subst (IsDraftOf old.opening asking.request asking.draw attempt.reads draft) some.1 ready.drafts in
     record {
       made = [];
-      decided = record {
+      page = page_of FullLog;
+      decided = λ call. record {
         stays = stays_refused start old new asking.moment looked follows rose settled.0.refused;
-        tries = first_try start.latest;
-        front = settled.1;
+        some = omega arith;
+        few = omega arith;
+        alone = λ told. refl;
         cause = (
           record {
             limit = sym settled.1 ∙ settled.2;
@@ -246,7 +246,9 @@ full_is start old new asking attempt draft size form bytes looked follows seat r
             passes = ap (check t) (sym drafts.0.does) ∙ passes_there old.opening attempt.reads some.0 attempt.writes t 0 makes agrees (omega arith);
           },
           refl,
+          settled.1,
         );
+        shows = refl;
       };
       bytes_are = bytes_are;
     }
@@ -299,7 +301,8 @@ again_is start old new asking attempt conflict looked follows rose made settled 
     let stale = stale_in start old new asking.request asking.draw attempt.reads conflict looked follows settled.0.found made.reads settled.1 in
     record {
       stays = stays_refused start old new asking.moment looked follows rose settled.0;
-      conflict_is = record { met = record { conflicts = both.0; footprint = stale.footprint }; above = both.1; since = stale.since };
+      met = record { conflicts = both.0; footprint = stale.footprint; above = both.1 };
+      since = stale.since;
       others = stale.others;
     }
 

@@ -1,5 +1,5 @@
 -- What the parts of a connection do.
-use Rattle.std.specs.Prelude.{◌≡◌, ℕ, Bool, true, false, List, [], ◌∷◌, ◌++◌, All, Option, Some, None}
+use Rattle.std.specs.Prelude.{◌≡◌, ℕ, Bool, true, false, List, [], ◌∷◌, ◌++◌, map, All, Option, Some, None}
 use Rattle.std.specs.List.{concat}
 use Rattle.std.specs.Io.KnownBytes.{Appends, Consumes}
 use Rattle.shop_edges.specs.Streams.{AppendsFront}
@@ -9,7 +9,7 @@ use Rattle.shop_engine.specs.declared.report.Ended.{Ended}
 use Rattle.shop_engine.specs.declared.report.Ended.TheVariants as ended
 use Rattle.shop_engine.specs.declared.report.Point.{Point}
 use Rattle.shop_engine.specs.Served.{Streams, told_page}
-use Rattle.shop_engine.specs.Steps.{Step, IsStep, AreSteps, GivesUp, plain_point, messages_of, points_of, replies_from}
+use Rattle.shop_engine.specs.Steps.{Step, IsStep, AreSteps, GivesUp, plain_point}
 use Rattle.shop_engine.specs.Workers.{Standing}
 
 -- what a connection puts out: its points, and what the sink holds
@@ -57,8 +57,8 @@ pub record Came (left left' : Option (List ℕ)) (unread : List ℕ) (messages :
 -- what a connection has met so far: its messages were answered, and none of them asks for the end
 pub record SoFar (old now : Standing) (streams streams' : Streams) (unread : List ℕ) (points : List Point) : Type 0 where
   pub steps : List Step
-  pub came : Came streams.left streams'.left unread (messages_of steps)
-  pub stay : All (λ m. m.close ≡ false) (messages_of steps)
+  pub came : Came streams.left streams'.left unread (map (λ s. s.message) steps)
+  pub stay : All (λ m. m.close ≡ false) (map (λ s. s.message) steps)
   pub run : AreSteps 0 old steps now
-  pub all : points ≡ points_of steps
-  pub written : Appends streams.held streams'.held (concat (replies_from steps))
+  pub all : points ≡ map (λ s. s.point) steps
+  pub written : Appends streams.held streams'.held (concat (map (λ s. s.reply) steps))

@@ -1,6 +1,5 @@
 -- What decides the answer to a request, by the kind of its point.
-use Rattle.std.specs.Prelude.{◌≡◌, ℕ, ◌<◌, ◌≤◌, max, List, [], ◌∷◌, ◌++◌, length, All, Option, Some, None, IsSome, true}
-use Rattle.shop_log.specs.Histories.{Extends}
+use Rattle.std.specs.Prelude.{◌≡◌, ℕ, ◌<◌, ◌≤◌, max, List, [], ◌∷◌, ◌++◌, length, All, AllPairs, Option, Some, None, IsSome, true}
 use Rattle.shop_model.specs.declared.page.Page.{Page}
 use Rattle.shop_model.specs.declared.refusal.Refusal.TheVariants.{RowsKeptChanging, FullLog}
 use Rattle.shop_model.specs.declared.requests.Request.{Request}
@@ -13,111 +12,68 @@ use Rattle.shop_history.specs.Logs.{tables, page_at}
 use Rattle.shop_attempt.specs.declared.attempts.Conflict.{Conflict}
 use Rattle.shop_attempt.specs.Reads.{IsConflict}
 use Rattle.shop_attempt.specs.Seats.{Seat}
-use Rattle.shop_pages.specs.declared.reply.Form.{Form}
-use Rattle.shop_pages.specs.Replies.{reply}
 use Rattle.shop_browse.specs.Footprints.{InFootprint}
+use Rattle.shop_engine.specs.declared.report.Point.{Point}
 use Rattle.shop_engine.specs.declared.report.PointKind.{PointKind}
 use Rattle.shop_engine.specs.declared.report.PointKind.TheVariants.{Plain, At, Change, Busy, Full}
-use Rattle.shop_engine.specs.declared.tries.Outcome.{Outcome}
 use Rattle.shop_engine.specs.Staying.{Stays}
 
--- a request, its moment, and the word that was drawn for it
-pub record Asking : Type 0 where
-  pub request : Request
-  pub moment : ℕ
-  pub draw : ℕ
-
--- one of eight tries, and the first where the caller is the only one
-pub record IsTry (latest : Option ℕ) (tries : ℕ) : Type 0 where
-  pub some : 1 ≤ tries
-  pub few : tries ≤ 8
-  pub alone : IsSome latest → tries ≡ 1
-
--- the page that the tables after the log seen show, where there is one
-abbrev pub page_now : Seat → Asking → Option Page
-page_now new asking = show (tables new.opening new.seen) asking.request asking.draw
-
--- the stamp of a change is no less than its moment, and where the caller is the only one, the larger of
--- the latest stamp before and the moment
-pub record IsStampOf (latest : Option ℕ) (moment stamp : ℕ) : Type 0 where
-  pub later : moment ≤ stamp
-  pub exact : (told : ℕ) → latest ≡ Some told → stamp ≡ max told moment
-
--- a change: its entry is the caller's, behind all that was seen before, and the last of the log seen
-pub record IsChanged (old new : Seat) (asking : Asking) (made : List Entry) : Type 0 where
-  pub before : List Entry
+-- a change: its entry is the caller's, with the request's act, and the last of the log seen, behind all that was seen
+-- before and what came between; its stamp is no less than its moment, and where the caller is the only one, the
+-- larger of the latest stamp before and the moment
+pub record IsChanged (old new : Seat) (request : Request) (point : Point) (made : List Entry) : Type 0 where
+  pub between : List Entry
   pub entry : Entry
   pub made_is : made ≡ entry ∷ []
-  pub grows : Extends old.seen before
-  pub seen : new.seen ≡ before ++ entry ∷ []
+  pub seen : new.seen ≡ old.seen ++ (between ++ made)
   pub caller : entry.caller ≡ new.caller
-  pub does : IsActOf asking.request asking.draw entry.act
-  pub stamp : IsStampOf old.latest asking.moment entry.stamp
+  pub does : IsActOf request point.draw entry.act
+  pub later : point.moment ≤ entry.stamp
+  pub exact : (told : ℕ) → old.latest ≡ Some told → entry.stamp ≡ max told point.moment
 
--- conflicts rise from a log's length, and end within another's
-abbrev pub Rise : ℕ → List Conflict → ℕ → Type 0
-Rise start [] top = start ≤ top
-Rise start (conflict ∷ conflicts) top = (start < conflict.found) × Rise conflict.found conflicts top
+-- a conflict in a row that the request may read, whose change is another caller's, behind all that was seen before
+pub record IsMet (old new : Seat) (request : Request) (draw : ℕ) (conflict : Conflict) : Type 0 where
+  pub conflicts : IsConflict new.opening new.seen new.caller conflict
+  pub footprint : InFootprint new.opening new.seen request draw conflict.key
+  pub above : length old.seen < conflict.found
 
--- what was found once is read, or something later, where the same row is read again
-abbrev pub ReadsOn : List Conflict → Type 0
-ReadsOn [] = Unit {0}
-ReadsOn (conflict ∷ conflicts) =
-    All (λ later. later.key ≡ conflict.key → conflict.found ≤ later.read) conflicts × ReadsOn conflicts
-
--- a conflict in a row that the request may read, whose change is another caller's
-pub record IsMet (seat : Seat) (asking : Asking) (conflict : Conflict) : Type 0 where
-  pub conflicts : IsConflict seat.opening seat.seen seat.caller conflict
-  pub footprint : InFootprint seat.opening seat.seen asking.request asking.draw conflict.key
-
--- so many tries met conflicts, one after another, above the log seen before
-pub record AreMet (old new : Seat) (asking : Asking) (conflicts : List Conflict) : Type 0 where
-  pub each : All (IsMet new asking) conflicts
-  pub rise : Rise (length old.seen) conflicts (length new.seen)
-  pub on : ReadsOn conflicts
-
--- rows kept changing: each of eight tries met a conflict, which none can where the caller is the only one
-pub record IsBusy (old new : Seat) (asking : Asking) (tries : ℕ) (conflicts : List Conflict) : Type 0 where
+-- rows kept changing: each of eight tries met a conflict, whose change is later than those before it, and which
+-- read what was found before, or something later, where the same row was read again
+pub record IsBusy (old new : Seat) (request : Request) (point : Point) (conflicts : List Conflict) : Type 0 where
+  pub tries : point.tries ≡ 8
   pub eight : length conflicts ≡ 8
-  pub tried : tries ≡ 8
-  pub met : AreMet old new asking conflicts
-  pub others : IsSome old.latest → ⊥
+  pub met : All (IsMet old new request point.draw) conflicts
+  pub rise : AllPairs (λ first later. first.found < later.found) conflicts
+  pub again : AllPairs (λ first later. later.key ≡ first.key → first.found ≤ later.read) conflicts
 
 -- the log has as many entries as it may have, and nothing else refuses the change
-pub record IsFull (new : Seat) (asking : Asking) : Type 0 where
+pub record IsFull (new : Seat) (request : Request) : Type 0 where
   pub limit : length new.seen ≡ new.limit
-  pub changes : is_changing asking.request ≡ true
-  pub passes : check (tables new.opening new.seen) asking.request ≡ None
+  pub changes : is_changing request ≡ true
+  pub passes : check (tables new.opening new.seen) request ≡ None
 
--- what decided, after so many tries that made these entries
-abbrev pub CauseAs : Seat → Seat → Asking → ℕ → List Entry → PointKind → Type 0
-CauseAs old new asking tries made At = IsSome (page_now new asking) × (made ≡ [])
-CauseAs old new asking tries made Change = IsChanged old new asking made
-CauseAs old new asking tries made (Busy conflicts) = IsBusy old new asking tries conflicts × (made ≡ [])
-CauseAs old new asking tries made Full = IsFull new asking × (made ≡ [])
-CauseAs old new asking tries made Plain = ⊥
+-- what decided, the entries made, and the front: the length of the log seen, but for rows that kept changing
+abbrev pub CauseAs : Seat → Seat → Request → Point → List Entry → PointKind → Type 0
+CauseAs old new request point made At = (made ≡ []) × (point.front ≡ length new.seen)
+CauseAs old new request point made Change = IsChanged old new request point made × (point.front ≡ length new.seen)
+CauseAs old new request point made (Busy conflicts) = IsBusy old new request point conflicts × (made ≡ []) × (point.front ≡ 0)
+CauseAs old new request point made Full = IsFull new request × (made ≡ []) × (point.front ≡ length new.seen)
+CauseAs old new request point made Plain = ⊥
 
--- the front is the length of the log seen, but for rows that kept changing
-abbrev pub front_as : List Entry → PointKind → ℕ
-front_as seen (Busy conflicts) = 0
-front_as seen _ = length seen
+-- the page of the answer: what the tables after the log seen show, the page of the last entry, or that of a refusal
+abbrev pub page_as : Seat → Request → ℕ → PointKind → Option Page
+page_as new request draw At = show (tables new.opening new.seen) request draw
+page_as new request draw Change = page_at new.opening new.seen (length new.seen)
+page_as new request draw (Busy conflicts) = Some (page_of RowsKeptChanging)
+page_as new request draw Full = Some (page_of FullLog)
+page_as new request draw Plain = None
 
--- a request was decided between two views of a seat, and made these entries
-pub record IsDecided (old new : Seat) (asking : Asking) (outcome : Outcome) (made : List Entry) : Type 0 where
-  pub stays : Stays old new made outcome.tries asking.moment
-  pub tries : IsTry old.latest outcome.tries
-  pub front : outcome.front ≡ front_as new.seen outcome.kind
-  pub cause : CauseAs old new asking outcome.tries made outcome.kind
-
--- the page of the answer, by the kind
-abbrev pub page_as : Seat → Asking → PointKind → Option Page
-page_as new asking At = page_now new asking
-page_as new asking Change = page_at new.opening new.seen (length new.seen)
-page_as new asking (Busy conflicts) = Some (page_of RowsKeptChanging)
-page_as new asking Full = Some (page_of FullLog)
-page_as new asking Plain = None
-
--- the reply around a page, where there is one
-abbrev pub reply_of_page : Option Page → Form → List ℕ
-reply_of_page None form = []
-reply_of_page (Some page) form = reply page form
+-- a request was decided between two views of a seat, by one of eight tries, and the first where the caller is the
+-- only one: there is a page, and this is it
+pub record IsDecided (old new : Seat) (request : Request) (point : Point) (made : List Entry) (page : Page) : Type 0 where
+  pub stays : Stays old new made point.tries point.moment
+  pub some : 1 ≤ point.tries
+  pub few : point.tries ≤ 8
+  pub alone : IsSome old.latest → point.tries ≡ 1
+  pub cause : CauseAs old new request point made point.kind
+  pub shows : page_as new request point.draw point.kind ≡ Some page

@@ -1,10 +1,10 @@
 -- Answering one message after another.
-use Rattle.std.specs.Prelude.{◌≡◌, ◌==◌, ◌||◌, ℕ, ◌+◌, ◌-◌, ◌⊎◌, Bool, min, max, List, [], ◌∷◌, map, sum_by, Result, Ok, Err, codes}
-use Rattle.std.specs.List.{flat_map}
+use Rattle.std.specs.Prelude.{◌≡◌, ◌==◌, ◌||◌, ℕ, ◌+◌, ◌-◌, ◌≤◌, ◌⊎◌, Bool, min, max, List, [], ◌∷◌, Result, Ok, Err, codes}
 use Rattle.std.specs.Str.{bytes_eq}
 use Rattle.shop_edges.specs.Causes.{count_up}
 use Rattle.shop_edges.specs.Clocks.{Tells}
 use Rattle.shop_message.specs.declared.messages.Message.{Message}
+use Rattle.shop_model.specs.declared.page.Page.{Page}
 use Rattle.shop_model.specs.declared.requests.Request.{Request}
 use Rattle.shop_model.specs.Limits.{stamp_limit}
 use Rattle.shop_model.specs.Refusals.{page_of}
@@ -18,10 +18,9 @@ use Rattle.shop_engine.specs.declared.report.Answered.{Answered}
 use Rattle.shop_engine.specs.declared.report.Answered.TheVariants as answered
 use Rattle.shop_engine.specs.declared.report.Point.{Point}
 use Rattle.shop_engine.specs.declared.report.PointKind.TheVariants.{Plain}
-use Rattle.shop_engine.specs.declared.tries.Outcome.{Outcome}
-use Rattle.shop_engine.specs.Decided.{Asking, IsDecided, page_as, reply_of_page}
-use Rattle.shop_engine.specs.Staying.{StaysWithin}
-use Rattle.shop_engine.specs.Workers.{Caller, Progress, Standing}
+use Rattle.shop_engine.specs.Decided.{IsDecided}
+use Rattle.shop_engine.specs.Staying.{Stays}
+use Rattle.shop_engine.specs.Workers.{Caller, Standing}
 
 -- a message, its point, the entries that it made, and the reply
 pub record Step : Type 0 where
@@ -34,14 +33,6 @@ pub record Step : Type 0 where
 abbrev pub ANSWERS : ℕ
 ANSWERS = 1000
 
--- the moment of a request: never before the last one, and within what a date can show
-abbrev pub moment_of : ℕ → ℕ → ℕ
-moment_of last reading = max last (min reading stamp_limit)
-
--- the progress after one more request, at a reading of the clock
-abbrev pub after_one : Progress → ℕ → Progress
-after_one progress reading = record { accepted = count_up progress.accepted; last = moment_of progress.last reading }
-
 -- the table of drawn words that belongs to workers; a row of it is a caller's
 abbrev pub WORKERS : ℕ
 WORKERS = 16
@@ -50,28 +41,25 @@ WORKERS = 16
 abbrev pub draw_of : Caller → ℕ → ℕ
 draw_of caller call = word caller.seed caller.scale WORKERS caller.number (call - 1)
 
--- the clock was read once, for one more request of the same caller
+-- the clock was read once, for one more request of the same caller, whose moment is never before the last one, and
+-- within what a date can show
 pub record Accepts (from to : Standing) : Type 0 where
   pub reading : ℕ
   pub told : Tells from.clock to.clock reading
-  pub progress : to.progress ≡ after_one from.progress reading
+  pub accepted : to.progress.accepted ≡ count_up from.progress.accepted
+  pub last : to.progress.last ≡ max from.progress.last (min reading stamp_limit)
   pub caller : to.caller ≡ from.caller
 
--- what a point says of its request, and of what came of it
-abbrev pub asking_of : Request → Point → Asking
-asking_of request point = record { request = request; moment = point.moment; draw = point.draw }
-
-abbrev pub outcome_of : Point → Outcome
-outcome_of point = record { kind = point.kind; front = point.front; tries = point.tries }
-
--- a request was answered: its point has the next call, its moment and its word, and tells what decided
+-- a request was answered: its point has the next call, its moment and its word, and tells what decided; the reply is
+-- around the page
 pub record IsAnswered (form : Form) (from : Standing) (step : Step) (to : Standing) (request : Request) : Type 0 where
   pub accepts : Accepts from to
   pub call : step.point.call ≡ to.progress.accepted
   pub moment : step.point.moment ≡ to.progress.last
   pub draw : step.point.draw ≡ draw_of from.caller to.progress.accepted
-  pub decided : IsDecided from.seat to.seat (asking_of request step.point) (outcome_of step.point) step.made
-  pub reply : step.reply ≡ reply_of_page (page_as to.seat (asking_of request step.point) step.point.kind) form
+  pub page : Page
+  pub decided : IsDecided from.seat to.seat request step.point step.made page
+  pub reply : step.reply ≡ reply page form
 
 abbrev pub plain_point : Point
 plain_point = record { kind = Plain; front = 0; moment = 0; call = 0; draw = 0; tries = 0 }
@@ -103,26 +91,12 @@ AreSteps answers from [] to = to ≡ from
 AreSteps answers from (step ∷ steps) to =
     (next : Standing) × IsStep ((answers + 1) == ANSWERS) from step next × AreSteps (answers + 1) next steps to
 
-abbrev pub messages_of : List Step → List Message
-messages_of steps = map (λ s. s.message) steps
-
-abbrev pub points_of : List Step → List Point
-points_of steps = map (λ s. s.point) steps
-
-abbrev pub replies_from : List Step → List (List ℕ)
-replies_from steps = map (λ s. s.reply) steps
-
--- the entries that they made, in order, and how many settles they took
-abbrev pub made_of : List Step → List Entry
-made_of steps = flat_map (λ s. s.made) steps
-
-abbrev pub settles_of : List Step → ℕ
-settles_of steps = sum_by (λ s. s.point.tries) steps
-
--- memory ran out before an answer: a request was accepted, or none was, and its settles made no entry
+-- memory ran out before an answer: a request was accepted, or none was, and its settles, eight at most, made no entry
 pub record GivesUp (from to : Standing) : Type 0 where
   pub accepts : Accepts from to ⊎ (to ≡ from)
-  pub within : StaysWithin from.seat to.seat [] 8 to.progress.last
+  pub settles : ℕ
+  pub few : settles ≤ 8
+  pub stays : Stays from.seat to.seat [] settles to.progress.last
 
 -- a request was answered by this point and this reply, whatever message asked for it
 abbrev pub AnswersRequest : Form → Standing → Standing → Request → Point → List ℕ → Type 0

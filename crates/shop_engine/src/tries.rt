@@ -2,8 +2,7 @@ ghost use Rattle.std.specs.Prelude.{◌≤◌, [], IfSome, IsNone};
 ghost use Rattle.shop_model.specs.Limits.{stamp_limit};
 ghost use Rattle.shop_attempt.specs.Marks.{KeepsMarks};
 ghost use Rattle.shop_browse.specs.Attempts.{Suits};
-ghost use Rattle.shop_engine.specs.Staying.{StaysWithin};
-ghost use Rattle.shop_engine.specs.Tries.{TriedAs, IsAnswer};
+ghost use Rattle.shop_engine.specs.Tries.{TriedAs, IsAnswer, StaysWithin};
 
 use crate::replies::refusal_reply;
 use crate::report::PointKind;

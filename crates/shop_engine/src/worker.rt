@@ -70,13 +70,13 @@ struct Accepted {
 }
 
 impl<St: Store> Worker<St> {
-    ghost use Rattle.std.specs.Prelude.{◌≡◌, ◌≤◌, [], IfOk, IfSome, IsNone, OnOk};
+    ghost use Rattle.std.specs.Prelude.{◌≡◌, ◌≤◌, min, max, [], IfOk, IfSome, IsNone, OnOk};
     ghost use Rattle.shop_model.specs.Limits.{stamp_limit};
     ghost use Rattle.shop_model.specs.Refusals.{page_of};
     ghost use Rattle.shop_edges.specs.Causes.{count_up};
     ghost use Rattle.shop_attempt.specs.Marks.{KeepsMarks};
     ghost use Rattle.shop_pages.specs.Replies as replies;
-    ghost use Rattle.shop_engine.specs.Steps.{Answers, AnswersRequest, GivesUp, after_one, draw_of, moment_of};
+    ghost use Rattle.shop_engine.specs.Steps.{Answers, AnswersRequest, GivesUp, draw_of};
     ghost use Rattle.shop_engine.specs.Workers.{IsPosted, at_first, standing};
 
     /// A worker that has served no request. Its words are drawn by this seed and scale.
@@ -198,10 +198,10 @@ impl<St: Store> Worker<St> {
     /// Takes note of one more request at a reading of the clock.
     fn accept(&mut self, reading: u64) -> Accepted
         ensures call { result.call ≡ count_up self.old.progress.accepted }
-        ensures moment { result.moment ≡ moment_of self.old.progress.last reading }
+        ensures moment { result.moment ≡ max self.old.progress.last (min reading stamp_limit) }
         ensures bound { result.moment ≤ stamp_limit }
-        ensures draw { result.draw ≡ draw_of self.old.caller (count_up self.old.progress.accepted) }
-        ensures worker { self.new ≡ record { store = self.old.store; caller = self.old.caller; progress = after_one self.old.progress reading; reply = self.old.reply } }
+        ensures draw { result.draw ≡ draw_of self.old.caller result.call }
+        ensures worker { self.new ≡ record { store = self.old.store; caller = self.old.caller; progress = record { accepted = result.call; last = result.moment }; reply = self.old.reply } }
     {
         let moment = self.last.max(reading.min(STAMP_LIMIT));
         let call = self.accepted.saturating_add(1);

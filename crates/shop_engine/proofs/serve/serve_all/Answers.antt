@@ -16,25 +16,25 @@ loop-alloc-init g c = record {
 }
 
 pub returns-in_default-clause-served : goal.returns-in_default-clause-served
-returns-in_default-clause-served g c = Served-memory _ _ _ _ _ [] _ _ [] (nothing_met _ _ [] _ refl c.requires) (omega (arith, ap length c.requires)) (Consumes-nothing _) (nothing_begun _)
+returns-in_default-clause-served g c = Served-memory _ _ _ _ [] _ (nothing_met _ _ [] _ refl c.requires) _ _ [] (omega (arith, ap length c.requires)) (Consumes-nothing _) (nothing_begun _)
 
 pub returns-in-End-clause-served : goal.returns-in-End-clause-served
-returns-in-End-clause-served g c = Served-closed _ _ _ _ _ _ _ _ c.loop-alloc.invariant.so_far (omega (arith, c.len.ensures, c.loop-alloc-test.true)) c.in-End.ensures.next
+returns-in-End-clause-served g c = Served-closed _ _ _ _ _ _ c.loop-alloc.invariant.so_far _ _ (omega (arith, c.len.ensures, c.loop-alloc-test.true)) c.in-End.ensures.next
 
 pub returns-in-Cut-clause-served : goal.returns-in-Cut-clause-served
-returns-in-Cut-clause-served g c = Served-inside _ _ _ _ _ _ _ _ c.loop-alloc.invariant.so_far (omega (arith, c.len.ensures, c.loop-alloc-test.true)) c.in-Cut.ensures.next
+returns-in-Cut-clause-served g c = Served-inside _ _ _ _ _ _ c.loop-alloc.invariant.so_far _ _ (omega (arith, c.len.ensures, c.loop-alloc-test.true)) c.in-Cut.ensures.next
 
 pub returns-in-Bad-clause-served : goal.returns-in-Bad-clause-served
 returns-in-Bad-clause-served g c =
-    Served-refusal c.refuse.result _ _ _ _ _ _ _ _ _ _ _ _ c.loop-alloc.invariant.so_far (omega (arith, c.len.ensures, c.loop-alloc-test.true)) c.in-Bad.ensures.next c.refuse.ensures.refusal
+    Served-refusal _ _ _ _ _ _ c.loop-alloc.invariant.so_far c.refuse.result _ _ _ _ _ _ (omega (arith, c.len.ensures, c.loop-alloc-test.true)) c.in-Bad.ensures.next c.refuse.ensures.refusal
     (still_standing g.St.Store.seat c.loop-alloc.worker c.refuse.new.worker _ c.refuse.ensures.worker)
 
 pub returns-in-ReadFault-clause-served : goal.returns-in-ReadFault-clause-served
-returns-in-ReadFault-clause-served g c = Served-broken _ _ _ _ _ _ _ _ c.loop-alloc.invariant.so_far (omega (arith, c.len.ensures, c.loop-alloc-test.true)) c.in-ReadFault.ensures.next
+returns-in-ReadFault-clause-served g c = Served-broken _ _ _ _ _ _ c.loop-alloc.invariant.so_far _ _ (omega (arith, c.len.ensures, c.loop-alloc-test.true)) c.in-ReadFault.ensures.next
 
 pub returns-in-Memory-clause-served : goal.returns-in-Memory-clause-served
 returns-in-Memory-clause-served g c =
-    Served-memory _ _ _ _ _ _ _ _ c.in-Memory.ensures.next.piece c.loop-alloc.invariant.so_far (omega (arith, c.len.ensures, c.loop-alloc-test.true)) c.in-Memory.ensures.next.taken (nothing_begun _)
+    Served-memory _ _ _ _ _ _ c.loop-alloc.invariant.so_far _ _ c.in-Memory.ensures.next.piece (omega (arith, c.len.ensures, c.loop-alloc-test.true)) c.in-Memory.ensures.next.taken (nothing_begun _)
 
 pub returns-in-Some-clause-served : goal.returns-in-Some-clause-served
 returns-in-Some-clause-served g c =
