@@ -1,0 +1,71 @@
+-- Bytes that are written over others, and a head that is written right before a text.
+use Rattle.std.proofs.Common.{◌≡◌, ℕ, ◌+◌, ◌≤◌, List, [], ◌++◌, length, take, drop, arith, refl, sym, ◌∙◌, append_assoc, length-append, length-take, length-drop}
+use Rattle.std.proofs.lemmas.List.{length-take-le, take-append-le, drop-append-le, take-append-drop, drop_all}
+use Rattle.std.proofs.Math.Seq.{take-append_seam, drop-append_seam}
+
+-- the bytes with others in place of those from a place on
+abbrev pub over : List ℕ → List ℕ → ℕ → List ℕ
+over bytes more start = take start bytes ++ more ++ drop (start + length more) bytes
+
+length-over : (bytes more : List ℕ) (start : ℕ) → start + length more ≤ length bytes → length (over bytes more start) ≡ length bytes
+length-over bytes more start fits =
+    omega (
+      arith,
+      length-append (take start bytes ++ more) (drop (start + length more) bytes),
+      length-append (take start bytes) more,
+      length-take-le start bytes (omega arith),
+      length-drop (start + length more) bytes,
+    )
+
+over-append : (front rest more : List ℕ) (start : ℕ) → start + length more ≤ length front
+    → over (front ++ rest) more start ≡ over front more start ++ rest
+over-append front rest more start fits =
+    rw (take-append-le start front rest (omega arith), drop-append-le (start + length more) front rest fits)
+    (sym (append_assoc (take start front ++ more) (drop (start + length more) front) rest))
+
+-- what is written among the first bytes leaves the others
+pub over_taken : (bytes more : List ℕ) (start at : ℕ) → start + length more ≤ at → at ≤ length bytes
+    → take at (over bytes more start) ≡ over (take at bytes) more start
+over_taken bytes more start at fits within =
+    let front = take at bytes in
+    let long : length front ≡ at = length-take-le at bytes within in
+    let inner : start + length more ≤ length front = omega (arith, long) in
+    let whole = rw (take-append-drop at bytes) at (over-append front (drop at bytes) more start inner) in
+    let size : length (over front more start) ≡ at = length-over front more start inner ∙ long in
+    rw whole (rw size at (take-append_seam (over front more start) (drop at bytes)))
+
+front_len : (bytes head : List ℕ) (start room : ℕ) → start + length head ≡ room → room ≤ length bytes
+    → length (take start bytes ++ head) ≡ room
+front_len bytes head start room ends fits =
+    omega (arith, length-append (take start bytes) head, length-take-le start bytes (omega arith))
+
+-- a head that ends where the text begins
+pub head_is : (bytes head : List ℕ) (start room : ℕ) → start + length head ≡ room → room ≤ length bytes
+    → drop start (take room (over bytes head start)) ≡ head
+head_is bytes head start room ends fits =
+    let front = take start bytes in
+    let whole : take room (over bytes head start) ≡ front ++ head =
+    rw (front_len bytes head start room ends fits) at (take-append_seam (front ++ head) (drop (start + length head) bytes)) in
+    let behind : drop start (front ++ head) ≡ head =
+    rw (length-take-le start bytes (omega arith)) at (drop-append_seam front head) in
+    rw whole behind
+
+-- leaves the text
+pub text_is : (bytes head : List ℕ) (start room : ℕ) → start + length head ≡ room → room ≤ length bytes
+    → drop room (over bytes head start) ≡ drop room bytes
+text_is bytes head start room ends fits =
+    let rest = drop (start + length head) bytes in
+    let behind : drop room (over bytes head start) ≡ rest =
+    rw (front_len bytes head start room ends fits) at (drop-append_seam (take start bytes ++ head) rest) in
+    let same : rest ≡ drop room bytes = rw ends refl in
+    behind ∙ same
+
+-- both are the bytes from the head's start on
+pub both_are : (bytes : List ℕ) (start room : ℕ) → start ≤ room → room ≤ length bytes
+    → drop start bytes ≡ drop start (take room bytes) ++ drop room bytes
+both_are bytes start room le fits =
+    rw (take-append-drop room bytes) at
+    (drop-append-le start (take room bytes) (drop room bytes) (omega (arith, length-take-le room bytes fits)))
+
+pub none_behind : (bytes : List ℕ) (room : ℕ) → drop room (take room bytes) ≡ []
+none_behind bytes room = drop_all room (take room bytes) (omega (arith, length-take room bytes))

@@ -1,0 +1,4 @@
+pub mod PageTexts
+mod Heads
+mod Splices
+mod UserTexts

@@ -1,0 +1,5 @@
+pub mod Outs
+pub mod Drawing
+pub mod Templates
+pub mod Links
+pub mod Pages

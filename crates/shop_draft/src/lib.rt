@@ -1,0 +1,26 @@
+//! The page of a request, written in place before its settle: its text, with gaps for what the settle
+//! draws, and words that add to it what pages are made of.
+//!
+//! A word that is refused for want of memory leaves a page that was only added to; `begin` drops it.
+#![tactic(auto)]
+
+mod blocks;
+mod draft;
+mod flat;
+mod forms;
+mod holes;
+mod ids;
+mod links;
+mod out;
+mod tables;
+mod template;
+mod words;
+
+pub use draft::{Draft, refusal};
+pub use holes::Hole;
+pub use ids::{Id, PageIds};
+pub use out::Out;
+pub use template::{Gap, HEAD_ROOM, Template};
+
+#[cfg(test)]
+mod tests;

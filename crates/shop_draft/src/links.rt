@@ -1,0 +1,191 @@
+//! Links, and the ids that a page hands on.
+ghost use Rattle.std.specs.Prelude.{◌≡◌, ◌++◌, OnOk, codes};
+ghost use Rattle.std.specs.List.{flat_map};
+ghost use Rattle.shop_text.specs.Texts.{escape};
+ghost use Rattle.shop_model.specs.Lines.{line_label};
+ghost use Rattle.shop_model.specs.PageText.{block_line};
+ghost use Rattle.shop_model.specs.Targets as spec;
+ghost use Rattle.shop_draft.specs.Drawing.{ids_at, maybe_at};
+ghost use Rattle.shop_draft.specs.Links.{marked, link_front};
+ghost use Rattle.shop_draft.specs.Templates.{Adds};
+
+use crate::{Id, PageIds, Template};
+use shop_model::Subject;
+use shop_text::{Caption, Memory};
+
+impl Template {
+    /// Adds an id behind its mark, where there is one.
+    #[inline(always)]
+    fn marked(&mut self, mark: &[u8], id: Option<Id>) -> Result<(), Memory>
+        ensures { OnOk result (Adds self.old self.new (λ drawn. marked mark.now (maybe_at drawn id))) }
+    {
+        match id {
+            None => {}
+            Some(id) => self.id(mark, id)?,
+        }
+        Ok(())
+    }
+
+    /// Adds the ids as the first parameters of a target.
+    #[tactic(auto, using(shop_text::proofs::Plain::escape_append), unfolding(shop_model::specs::Targets::pairs, shop_model::specs::Targets::id_fields))]
+    fn first_ids(&mut self, ids: PageIds) -> Result<(), Memory>
+        ensures { OnOk result (Adds self.old self.new (λ drawn. escape (spec.pairs (codes "?") (spec.id_fields (ids_at drawn ids))))) }
+    {
+        match ids.c {
+            None => self.marked(b"?cart=", ids.cart)?,
+            Some(c) => {
+                self.id(b"?c=", c)?;
+                self.marked(b"&amp;cart=", ids.cart)?;
+            }
+        }
+        Ok(())
+    }
+
+    /// Adds the ids behind other parameters of a target.
+    #[tactic(auto, using(shop_text::proofs::Plain::escape_append), unfolding(shop_model::specs::Targets::pairs, shop_model::specs::Targets::id_fields))]
+    fn more_ids(&mut self, ids: PageIds) -> Result<(), Memory>
+        ensures { OnOk result (Adds self.old self.new (λ drawn. escape (spec.pairs (codes "&") (spec.id_fields (ids_at drawn ids))))) }
+    {
+        self.marked(b"&amp;c=", ids.c)?;
+        self.marked(b"&amp;cart=", ids.cart)?;
+        Ok(())
+    }
+
+    /// A link with no parameters but the ids; path and label are plain.
+    #[tactic(auto, using(shop_text::proofs::Plain::escape_append), unfolding(shop_model::specs::PageText::block_text))]
+    #[inline(always)]
+    pub fn plain_link(&mut self, path: &[u8], ids: PageIds, label: &[u8]) -> Result<(), Memory>
+        requires path { escape path.now ≡ path.now }
+        requires label { escape label.now ≡ label.now }
+        ensures { OnOk result (Adds self.old self.new (λ drawn. block_line (spec.plain_link path.now (ids_at drawn ids) label.now))) }
+    {
+        self.put(b"<a href=\"")?;
+        self.put(path)?;
+        self.first_ids(ids)?;
+        self.put(b"\">")?;
+        self.put(label)?;
+        self.put(b"</a>\n")?;
+        Ok(())
+    }
+
+    /// A link about an item up to its label; the path is plain.
+    #[tactic(auto, using(shop_text::proofs::Plain::escape_append), unfolding(shop_model::specs::Targets::pairs, crate::specs::Links::link_front))]
+    #[inline(always)]
+    fn item_front(&mut self, path: &[u8], item: u32, ids: PageIds) -> Result<(), Memory>
+        requires path { escape path.now ≡ path.now }
+        ensures { OnOk result (Adds self.old self.new (λ drawn. link_front (spec.item_target path.now item (ids_at drawn ids)))) }
+    {
+        self.put(b"<a href=\"")?;
+        self.put(path)?;
+        self.number(b"?item=", u64::from(item))?;
+        self.more_ids(ids)?;
+        self.put(b"\">")?;
+        Ok(())
+    }
+
+    /// A link about an item; path and label are plain.
+    #[tactic(auto, unfolding(shop_model::specs::PageText::block_text, crate::specs::Links::link_front))]
+    #[inline(always)]
+    pub fn item_link(
+        &mut self,
+        path: &[u8],
+        item: u32,
+        ids: PageIds,
+        label: &[u8],
+    ) -> Result<(), Memory>
+        requires path { escape path.now ≡ path.now }
+        requires label { escape label.now ≡ label.now }
+        ensures { OnOk result (Adds self.old self.new (λ drawn. block_line (spec.item_link path.now item (ids_at drawn ids) label.now))) }
+    {
+        self.item_front(path, item, ids)?;
+        self.put(label)?;
+        self.put(b"</a>\n")?;
+        Ok(())
+    }
+
+    /// A link about an item, labelled with its title; the path is plain.
+    #[tactic(auto, unfolding(shop_model::specs::PageText::block_text, crate::specs::Links::link_front))]
+    pub fn title_link(
+        &mut self,
+        path: &[u8],
+        item: u32,
+        ids: PageIds,
+        title: &Caption,
+    ) -> Result<(), Memory>
+        requires path { escape path.now ≡ path.now }
+        ensures { OnOk result (Adds self.old self.new (λ drawn. block_line (spec.item_link path.now item (ids_at drawn ids) title.now))) }
+    {
+        self.item_front(path, item, ids)?;
+        self.text(b"", title)?;
+        self.put(b"</a>\n")?;
+        Ok(())
+    }
+
+    /// A link about an item, labelled with its title and the names of its author; the path is plain.
+    #[tactic(auto, using(shop_text::proofs::Plain::escape_append), unfolding(shop_model::specs::PageText::block_text, shop_model::specs::Lines::line_label, crate::specs::Links::link_front))]
+    pub fn author_link(
+        &mut self,
+        path: &[u8],
+        item: u32,
+        ids: PageIds,
+        title: &Caption,
+        first: &Caption,
+        last: &Caption,
+    ) -> Result<(), Memory>
+        requires path { escape path.now ≡ path.now }
+        ensures { OnOk result (Adds self.old self.new (λ drawn. block_line
+            (spec.item_link path.now item (ids_at drawn ids) (line_label title.now first.now last.now)))) }
+    {
+        self.item_front(path, item, ids)?;
+        self.text(b"", title)?;
+        self.text(b" by ", first)?;
+        self.text(b" ", last)?;
+        self.put(b"</a>\n")?;
+        Ok(())
+    }
+
+    /// A link about a subject up to its label; the path is plain.
+    #[tactic(auto, using(shop_text::proofs::Plain::escape_append), unfolding(shop_model::specs::Targets::pairs, crate::specs::Links::link_front))]
+    #[inline(always)]
+    fn subject_front(&mut self, path: &[u8], subject: Subject, ids: PageIds) -> Result<(), Memory>
+        requires path { escape path.now ≡ path.now }
+        ensures { OnOk result (Adds self.old self.new (λ drawn. link_front (spec.subject_target path.now subject (ids_at drawn ids)))) }
+    {
+        self.put(b"<a href=\"")?;
+        self.put(path)?;
+        self.escaped(b"?subject=", subject.name())?;
+        self.more_ids(ids)?;
+        self.put(b"\">")?;
+        Ok(())
+    }
+
+    /// A link about a subject, whose name ends the label; path and label are plain.
+    #[tactic(auto, using(shop_text::proofs::Plain::escape_append), unfolding(shop_model::specs::PageText::block_text, crate::specs::Links::link_front))]
+    pub fn subject_link(
+        &mut self,
+        path: &[u8],
+        subject: Subject,
+        ids: PageIds,
+        label: &[u8],
+    ) -> Result<(), Memory>
+        requires path { escape path.now ≡ path.now }
+        requires label { escape label.now ≡ label.now }
+        ensures { OnOk result (Adds self.old self.new (λ drawn. block_line (spec.subject_link path.now subject (ids_at drawn ids) label.now))) }
+    {
+        self.subject_front(path, subject, ids)?;
+        self.escaped(label, subject.name())?;
+        self.put(b"</a>\n")?;
+        Ok(())
+    }
+
+    /// The links that end each page.
+    #[tactic(auto, unfolding(shop_model::specs::Targets::nav))]
+    pub fn nav(&mut self, ids: PageIds) -> Result<(), Memory>
+        ensures { OnOk result (Adds self.old self.new (λ drawn. flat_map block_line (spec.nav (ids_at drawn ids)))) }
+    {
+        self.plain_link(b"/home", ids, b"Home")?;
+        self.plain_link(b"/search_request", ids, b"Search")?;
+        self.plain_link(b"/shopping_cart", ids, b"Cart")?;
+        Ok(())
+    }
+}

@@ -1,0 +1,151 @@
+//! Markup, and behind it a value.
+ghost use Rattle.std.specs.Prelude.{◌≡◌, ◌≤◌, ◌++◌, OnOk, decimal};
+ghost use Rattle.shop_text.specs.Texts.{escape, cents_text, day_text};
+ghost use Rattle.shop_draft.specs.Drawing.{id_at, hole_text};
+ghost use Rattle.shop_draft.specs.Templates.{Adds, Says};
+
+use crate::{Hole, Id, Template};
+use itoa::Buffer;
+use shop_text::{Caption, Memory, day_bytes, entity};
+
+impl Template {
+    /// Adds bytes as they stand in a page: whole runs of plain bytes, and an entity for each other byte.
+    #[inline(never)]
+    fn put_escaped(&mut self, bytes: &[u8]) -> Result<(), Memory>
+        ensures { OnOk result (Says self.old self.new (escape bytes.now)) }
+    {
+        let mut start = 0;
+        for (at, byte) in bytes.iter().enumerate() {
+            if let Some(name) = entity(*byte) {
+                self.put(&bytes[start..at])?;
+                self.put(name)?;
+                start = at + 1;
+            }
+        }
+        self.put(&bytes[start..])?;
+        Ok(())
+    }
+
+    /// Adds a text as it stands in a page.
+    #[inline(always)]
+    fn put_caption(&mut self, caption: &Caption) -> Result<(), Memory>
+        ensures { OnOk result (Says self.old self.new (escape caption.now)) }
+    {
+        if caption.is_plain() {
+            self.put(caption.bytes())?;
+        } else {
+            self.put_escaped(caption.bytes())?;
+        }
+        Ok(())
+    }
+
+    /// Adds the digits of a number.
+    #[tactic(auto, using(shop_text::proofs::Plain::plain_decimal))]
+    #[inline(never)]
+    fn put_number(&mut self, number: u64) -> Result<(), Memory>
+        ensures { OnOk result (Says self.old self.new (escape (decimal number))) }
+    {
+        let mut buffer = Buffer::new();
+        self.put(buffer.format(number).as_bytes())?;
+        Ok(())
+    }
+
+    /// Adds an amount in cents.
+    #[tactic(auto, using(shop_text::proofs::Plain::plain_cents))]
+    #[inline(never)]
+    fn put_cents(&mut self, cents: u64) -> Result<(), Memory>
+        ensures { OnOk result (Says self.old self.new (escape (cents_text cents))) }
+    {
+        let mut buffer = Buffer::new();
+        let rest = (cents % 100) as u8;
+        self.put(buffer.format(cents / 100).as_bytes())?;
+        self.put(&[b'.', b'0' + rest / 10, b'0' + rest % 10])?;
+        Ok(())
+    }
+
+    /// Markup as it stands, and behind it a text.
+    #[inline(always)]
+    pub fn text(&mut self, front: &[u8], text: &Caption) -> Result<(), Memory>
+        ensures { OnOk result (Says self.old self.new (front.now ++ escape text.now)) }
+    {
+        self.put(front)?;
+        self.put_caption(text)?;
+        Ok(())
+    }
+
+    /// Markup as it stands, and behind it bytes.
+    #[inline(always)]
+    pub fn escaped(&mut self, front: &[u8], bytes: &[u8]) -> Result<(), Memory>
+        ensures { OnOk result (Says self.old self.new (front.now ++ escape bytes.now)) }
+    {
+        self.put(front)?;
+        self.put_escaped(bytes)?;
+        Ok(())
+    }
+
+    /// Markup as it stands, and behind it a number.
+    #[inline(always)]
+    pub fn number(&mut self, front: &[u8], number: u64) -> Result<(), Memory>
+        ensures { OnOk result (Says self.old self.new (front.now ++ escape (decimal number))) }
+    {
+        self.put(front)?;
+        self.put_number(number)?;
+        Ok(())
+    }
+
+    /// Markup as it stands, and behind it an amount in cents.
+    #[inline(always)]
+    pub fn money(&mut self, front: &[u8], cents: u64) -> Result<(), Memory>
+        ensures { OnOk result (Says self.old self.new (front.now ++ escape (cents_text cents))) }
+    {
+        self.put(front)?;
+        self.put_cents(cents)?;
+        Ok(())
+    }
+
+    /// Markup as it stands, and behind it a day counted from 1970-01-01, up to 9999-12-31.
+    #[inline(always)]
+    pub fn day(&mut self, front: &[u8], day: u32) -> Result<(), Memory>
+        requires { day ≤ 2_932_896 }
+        ensures { OnOk result (Says self.old self.new (front.now ++ escape (day_text day))) }
+    {
+        self.put(front)?;
+        self.put(&day_bytes(day))?;
+        Ok(())
+    }
+
+    /// Markup as it stands, and behind it what a settle draws.
+    #[inline(always)]
+    pub fn hole(&mut self, front: &[u8], hole: Hole) -> Result<(), Memory>
+        ensures { OnOk result (Adds self.old self.new (λ drawn. front.now ++ hole_text drawn hole)) }
+    {
+        self.put(front)?;
+        self.put_gap(hole)?;
+        Ok(())
+    }
+
+    /// Adds the digits of an id, or a hole for them.
+    #[tactic(auto, unfolding(crate::specs::Drawing::hole_text))]
+    #[inline(always)]
+    fn put_id(&mut self, id: Id) -> Result<(), Memory>
+        ensures { OnOk result (Adds self.old self.new (λ drawn. escape (decimal (id_at drawn id)))) }
+    {
+        match id {
+            Id::Known(id) => self.put_number(u64::from(id))?,
+            Id::NewCart => self.put_gap(Hole::CartId)?,
+            Id::NewCustomer => self.put_gap(Hole::CustomerId)?,
+            Id::NewOrder => self.put_gap(Hole::OrderId)?,
+        }
+        Ok(())
+    }
+
+    /// Markup as it stands, and behind it an id, or a hole for it.
+    #[inline(always)]
+    pub fn id(&mut self, front: &[u8], id: Id) -> Result<(), Memory>
+        ensures { OnOk result (Adds self.old self.new (λ drawn. front.now ++ escape (decimal (id_at drawn id)))) }
+    {
+        self.put(front)?;
+        self.put_id(id)?;
+        Ok(())
+    }
+}
