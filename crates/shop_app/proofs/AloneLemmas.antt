@@ -4,6 +4,7 @@ use Rattle.std.specs.Prelude.{All, flat_map, option_map, option_to_list}
 use Rattle.std.proofs.lemmas.List.{map-append}
 use Rattle.std.proofs.lemmas.List.Concat.{flat_map-append}
 use Rattle.std.proofs.lemmas.List.Elements.{All-cons, All-nil, All-append}
+use Rattle.shop_model.specs.declared.refusal.Refusal.{Refusal as Refused}
 use Rattle.shop_model.specs.declared.requests.Request.{Request}
 use Rattle.shop_history.specs.declared.acts.Entry.{Entry}
 use Rattle.shop_http.specs.declared.requests.Refusal.{Refusal}
@@ -56,9 +57,9 @@ steps_once answers from to (step ∷ steps) (next, is, are) alone =
     All-cons IsQuick step.point (map (λ (s : Step). s.point) steps) (quick _ from next step (asked step.message) is alone)
     (steps_once (answers + 1) next to steps are (alone_next _ from next step (asked step.message) is alone))
 
-told_once : (told : Option ℕ) → All IsQuick (option_to_list (option_map (λ _. plain_point) told))
+told_once : (told : Option Refused) → All IsQuick (option_to_list (option_map (λ _. plain_point) told))
 told_once None = All-nil IsQuick
-told_once (Some status) = All-cons IsQuick plain_point [] (inl refl) (All-nil IsQuick)
+told_once (Some refusal) = All-cons IsQuick plain_point [] (inl refl) (All-nil IsQuick)
 
 -- the stamps of changes are their moments
 
@@ -86,9 +87,9 @@ stamps_made answers from to (step ∷ steps) (next, is, are) alone =
     ∙ ap (λ (l : List ℕ). moment_as step.point.moment step.point.kind ++ l)
     (stamps_made (answers + 1) next to steps are (alone_next _ from next step (asked step.message) is alone))
 
-moments_told : (told : Option ℕ) → moments_of (option_to_list (option_map (λ _. plain_point) told)) ≡ []
+moments_told : (told : Option Refused) → moments_of (option_to_list (option_map (λ _. plain_point) told)) ≡ []
 moments_told None = refl
-moments_told (Some status) = refl
+moments_told (Some refusal) = refl
 
 -- what came behind the last answer left the tables and the log
 

@@ -14,6 +14,7 @@ use Rattle.shop_message.specs.declared.messages.Message.{Message}
 use Rattle.shop_message.specs.Messages.{Between, Inside, Refusing}
 use Rattle.shop_message.specs.Nexts.{GivesMessage, Stops, Breaks}
 use Rattle.shop_message.proofs.BeginLemmas.{HaveCome-none, HaveCome-begin, HaveCome-message}
+use Rattle.shop_model.specs.declared.refusal.Refusal.{Refusal as Refused}
 use Rattle.shop_model.specs.declared.requests.Request.{Request}
 use Rattle.shop_attempt.specs.Seats.{Seat}
 use Rattle.shop_http.specs.declared.requests.Refusal.{Refusal}
@@ -120,7 +121,7 @@ last_message (first ∷ messages) all = last_one first messages
 
 -- a connection that ends behind its last answer
 module _ (old now : Standing) (streams streams' : Streams) (unread : List ℕ) (points : List Point) (so_far : SoFar old now streams streams' unread points) where
-  served : (new : Standing) (end : Ended) (piece : List ℕ) (before : List Message) (last : Option Message) (told : Option ℕ) (points' : List Point) (left' held' : Option (List ℕ))
+  served : (new : Standing) (end : Ended) (piece : List ℕ) (before : List Message) (last : Option Message) (told : Option Refused) (points' : List Point) (left' held' : Option (List ℕ))
       → messages_of so_far.steps ≡ before ++ option_to_list last → All (λ m. m.close ≡ false) before → length before < ANSWERS
       → Consumes streams'.left left' piece → EndsAs end before last told (unread ++ piece) left' → (new ≡ now) ⊎ ((end ≡ ended.Memory) × GivesUp now new)
       → points' ≡ points ++ option_to_list (option_map (λ _. plain_point) told) → Wrote end streams'.held held' (option_to_list (option_map told_page told))
@@ -147,7 +148,7 @@ module _ (old now : Standing) (streams streams' : Streams) (unread : List ℕ) (
   }
 
   -- where one message more may be answered
-  behind : (new : Standing) (end : Ended) (piece : List ℕ) (told : Option ℕ) (points' : List Point) (left' held' : Option (List ℕ)) → length points < 1000
+  behind : (new : Standing) (end : Ended) (piece : List ℕ) (told : Option Refused) (points' : List Point) (left' held' : Option (List ℕ)) → length points < 1000
       → Consumes streams'.left left' piece → EndsAs end (messages_of so_far.steps) None told (unread ++ piece) left' → (new ≡ now) ⊎ ((end ≡ ended.Memory) × GivesUp now new)
       → points' ≡ points ++ option_to_list (option_map (λ _. plain_point) told) → Wrote end streams'.held held' (option_to_list (option_map told_page told))
       → Served old new streams (record { left = left'; held = held' }) end points'
@@ -188,17 +189,17 @@ module _ (old now : Standing) (streams streams' : Streams) (unread : List ℕ) (
       (Consumes-nothing streams'.left) (stay.1, number) (inl refl) (sym (append-nil points)) (Appends-nothing streams'.held)
 
   -- at a refusal, which leaves the worker where it stands
-  pub Served-refusal : (end : Ended) (new : Standing) (after : List ℕ) (points' : List Point) (left' held' : Option (List ℕ)) (status : ℕ) → length points < 1000
-      → Stops streams'.left left' unread after (Refusing status) → RefusalAs status (record { points = points; held = streams'.held }) (record { points = points'; held = held' }) end → new ≡ now
+  pub Served-refusal : (end : Ended) (new : Standing) (after : List ℕ) (points' : List Point) (left' held' : Option (List ℕ)) (refusal : Refused) → length points < 1000
+      → Stops streams'.left left' unread after (Refusing refusal) → RefusalAs refusal (record { points = points; held = streams'.held }) (record { points = points'; held = held' }) end → new ≡ now
       → Served old new streams (record { left = left'; held = held' }) end points'
-  Served-refusal (ended.Refused number) new after points' left' held' status few stops (is, added, written) same =
-      behind new (ended.Refused number) stops.gathers.piece (Some status) points' left' held' few stops.gathers.taken (stops.none, is) (inl same) added (whole-one streams'.held held' _ written)
-  Served-refusal ended.WriteFault new after points' left' held' status few stops (added, front) same =
-      behind new ended.WriteFault stops.gathers.piece (Some status) points' left' held' few stops.gathers.taken stops.none (inl same) added (cut-one streams'.held held' _ front)
-  Served-refusal ended.Memory new after points' left' held' status few stops none same =
+  Served-refusal (ended.Refused status) new after points' left' held' refusal few stops (is, added, written) same =
+      behind new (ended.Refused status) stops.gathers.piece (Some refusal) points' left' held' few stops.gathers.taken (stops.none, is) (inl same) added (whole-one streams'.held held' _ written)
+  Served-refusal ended.WriteFault new after points' left' held' refusal few stops (added, front) same =
+      behind new ended.WriteFault stops.gathers.piece (Some refusal) points' left' held' few stops.gathers.taken stops.none (inl same) added (cut-one streams'.held held' _ front)
+  Served-refusal ended.Memory new after points' left' held' refusal few stops none same =
       rw (ap (λ (o : Output). o.points) none, ap (λ (o : Output). o.held) none)
       (Served-memory new left' stops.gathers.piece few stops.gathers.taken (left_alone now new same))
-  Served-refusal _ new after points' left' held' status few stops is same = absurd is
+  Served-refusal _ new after points' left' held' refusal few stops is same = absurd is
 
 -- one message more
 

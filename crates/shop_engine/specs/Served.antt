@@ -1,10 +1,9 @@
 -- What one connection met, and what it left.
-use Rattle.std.specs.Prelude.{◌≡◌, ◌==◌, ℕ, ◌+◌, ◌<◌, ◌⊎◌, List, [], ◌∷◌, ◌++◌, length, take, map, flat_map, sum_by, All, Option, Some, None, option_map, option_to_list, true, false, if◌then◌else◌}
+use Rattle.std.specs.Prelude.{◌≡◌, ℕ, ◌+◌, ◌<◌, ◌⊎◌, List, [], ◌∷◌, ◌++◌, length, take, map, flat_map, sum_by, All, Option, Some, None, option_map, option_to_list, true, false}
 use Rattle.std.specs.List.{concat}
 use Rattle.std.specs.Io.KnownBytes.{Appends, Consumes, IsAtEnd}
 use Rattle.shop_model.specs.declared.refusal.Refusal.{Refusal}
-use Rattle.shop_model.specs.declared.refusal.Refusal.TheVariants.{BadRequest, LargeBody, LargeHead, TransferEncoding}
-use Rattle.shop_model.specs.Refusals.{page_of}
+use Rattle.shop_model.specs.Refusals.{page_of, status_of}
 use Rattle.shop_pages.specs.Replies.{reply}
 use Rattle.shop_message.specs.declared.messages.Message.{Message}
 use Rattle.shop_message.specs.Messages.{Begin, Between, Inside, Refusing, StopsAt}
@@ -20,22 +19,17 @@ pub record Streams : Type 0 where
   pub left : Option (List ℕ)
   pub held : Option (List ℕ)
 
--- why a message is refused, by the status that its reading gives
-abbrev pub refusal_of : ℕ → Refusal
-refusal_of status =
-    if status == 413 then LargeBody else (if status == 431 then LargeHead else (if status == 501 then TransferEncoding else BadRequest))
-
 -- the reply that tells the refusal of a message, after which the connection ends
-unfoldable pub told_page : ℕ → List ℕ
-told_page status = reply (page_of (refusal_of status)) (record { close = true; bodiless = false })
+unfoldable pub told_page : Refusal → List ℕ
+told_page refusal = reply (page_of refusal) (record { close = true; bodiless = false })
 
 -- what each end says of the messages that the connection went on behind, of the last one, where it ended with its
 -- answer, of the refusal that was told behind the messages, of what else is there, and of what the source has left
-abbrev pub EndsAs : Ended → List Message → Option Message → Option ℕ → List ℕ → Option (List ℕ) → Type 0
+abbrev pub EndsAs : Ended → List Message → Option Message → Option Refusal → List ℕ → Option (List ℕ) → Type 0
 EndsAs ended.Closed before None None rest left = StopsAt rest Between × IsAtEnd left
 EndsAs ended.Cut before None None rest left = StopsAt rest Inside × IsAtEnd left
 EndsAs ended.ReadFault before None None rest left = StopsAt rest Between ⊎ StopsAt rest Inside
-EndsAs (ended.Refused status) before None (Some told) rest left = StopsAt rest (Refusing told) × (status ≡ told)
+EndsAs (ended.Refused status) before None (Some told) rest left = StopsAt rest (Refusing told) × (status ≡ status_of told)
 EndsAs ended.WriteFault before None (Some told) rest left = StopsAt rest (Refusing told)
 EndsAs ended.WriteFault before (Some last) None rest left = Unit {0}
 EndsAs ended.Asked before (Some last) None rest left = last.close ≡ true
@@ -56,7 +50,7 @@ pub record Served (old new : Standing) (streams streams' : Streams) (end : Ended
   pub steps : List Step
   pub before : List Message
   pub last : Option Message
-  pub told : Option ℕ
+  pub told : Option Refusal
   pub mid : Standing
   -- the source gave these bytes; they begin with the messages that were answered, of which none but the last asks for
   -- the end, and the end says what follows

@@ -1,7 +1,6 @@
 ghost use Rattle.std.specs.Prelude.{◌≡◌, OnOk};
 ghost use Rattle.shop_model.specs.Refusals.{page_of};
 ghost use Rattle.shop_pages.specs.Replies as replies;
-ghost use Rattle.shop_engine.specs.Served as spec;
 
 use shop_history::{Draft, Drawn, Ids};
 use shop_model::{Refusal, refusal_page};
@@ -34,16 +33,4 @@ pub(crate) fn refusal_reply(
     reply.reserve(&draft)?;
     reply.finish(&draft, &NOTHING, form);
     Ok(())
-}
-
-/// Why a message is refused, by the status that its reading gives.
-pub(crate) fn refused(status: u16) -> Refusal
-    ensures { result ≡ spec.refusal_of status }
-{
-    match status {
-        413 => Refusal::LargeBody,
-        431 => Refusal::LargeHead,
-        501 => Refusal::TransferEncoding,
-        _ => Refusal::BadRequest,
-    }
 }

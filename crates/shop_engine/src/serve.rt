@@ -8,12 +8,12 @@ ghost use Rattle.shop_engine.specs.Served.{Served};
 ghost use Rattle.shop_engine.specs.Steps.{AnsweredAs};
 ghost use Rattle.shop_engine.specs.Workers.{standing};
 
-use crate::replies::refused;
 use crate::report::{Answered, Ended, Point, Report, plain_point};
 use crate::worker::Worker;
 use shop_attempt::Store;
 use shop_edges::{Clock, Sink, Source, write_all};
 use shop_http::{Buffer, Message, Next, next_message};
+use shop_model::Refusal;
 use shop_pages::{Form, Reply};
 use shop_text::Listed;
 use std::alloc::Global;
@@ -127,7 +127,7 @@ fn serve_all<St: Store, S: Source, K: Sink, C: Clock>(
             Next::Message(message) => message,
             Next::End => return Ended::Closed,
             Next::Cut => return Ended::Cut,
-            Next::Bad(status) => return refuse(alloc, worker, sink, points, status),
+            Next::Bad(refusal) => return refuse(alloc, worker, sink, points, refusal),
             Next::ReadFault => return Ended::ReadFault,
             Next::Memory => return Ended::Memory,
         };
@@ -189,21 +189,21 @@ fn refuse<St: Store, K: Sink>(
     worker: &mut Worker<St>,
     sink: &mut K,
     points: &mut Vec<Point>,
-    status: u16,
+    refusal: Refusal,
 ) -> Ended
-    ensures refusal { RefusalAs status (record { points = points.old.items; held = K.held sink.old }) (record { points = points.new.items; held = K.held sink.new }) result }
+    ensures told { RefusalAs refusal (record { points = points.old.items; held = K.held sink.old }) (record { points = points.new.items; held = K.held sink.new }) result }
     ensures write_fault { result ≡ Ended.WriteFault → Rose (K.faults sink.old) (K.faults sink.new) }
     ensures writes { K.faults sink.old ≤ K.faults sink.new }
     ensures worker { worker.new ≡ record { store = worker.old.store; caller = worker.old.caller; progress = worker.old.progress; reply = worker.new.reply } }
 {
-    let Ok(()) = worker.refuse(alloc, refused(status), CLOSING) else {
+    let Ok(()) = worker.refuse(alloc, refusal, CLOSING) else {
         return Ended::Memory;
     };
     let Ok(()) = points.push(plain_point()) else {
         return Ended::Memory;
     };
     if write_all(sink, worker.reply()) {
-        return Ended::Refused(status);
+        return Ended::Refused(refusal.status());
     }
     Ended::WriteFault
 }

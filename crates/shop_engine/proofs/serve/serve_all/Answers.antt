@@ -26,7 +26,7 @@ returns-in-Cut-clause-served g c = Served-inside _ _ _ _ _ _ c.loop-alloc.invari
 
 pub returns-in-Bad-clause-served : goal.returns-in-Bad-clause-served
 returns-in-Bad-clause-served g c =
-    Served-refusal _ _ _ _ _ _ c.loop-alloc.invariant.so_far c.refuse.result _ _ _ _ _ _ (omega (arith, c.len.ensures, c.loop-alloc-test.true)) c.in-Bad.ensures.next c.refuse.ensures.refusal
+    Served-refusal _ _ _ _ _ _ c.loop-alloc.invariant.so_far c.refuse.result _ _ _ _ _ _ (omega (arith, c.len.ensures, c.loop-alloc-test.true)) c.in-Bad.ensures.next c.refuse.ensures.told
     (still_standing g.St.Store.seat c.loop-alloc.worker c.refuse.new.worker _ c.refuse.ensures.worker)
 
 pub returns-in-ReadFault-clause-served : goal.returns-in-ReadFault-clause-served
