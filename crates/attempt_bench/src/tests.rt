@@ -2,9 +2,10 @@
 ghost use Rattle.std.specs.Prelude.{◌≡◌};
 
 use crate::runs::Shop;
+use shop_browse::best_sellers::best_sellers;
 use shop_browse::home::home;
 use shop_browse::product_detail::product_detail;
-use shop_browse::rankings::{best_sellers, new_products};
+use shop_browse::new_products::new_products;
 use shop_browse::search_request::search_request;
 use shop_browse::search_results::search_results;
 use shop_browse::{Ask, Attempted};
@@ -39,48 +40,37 @@ fn ask_of<'a>(scale: &'a Scale, index: &'a Index) -> Ask<'a>
 fn at_home(alloc: Global) -> Result<Attempted, Memory> {
     let mut shop = Shop::open(alloc, Scale::desk())?;
     let ask = ask_of(&shop.scale, &shop.index);
-    home(alloc, &mut shop.store, &ask, &Home { ids: IDS })
+    Ok(home(alloc, &mut shop.store, &ask, &Home { ids: IDS }))
 }
 
 fn at_new_products(alloc: Global) -> Result<Attempted, Memory> {
     let mut shop = Shop::open(alloc, Scale::desk())?;
     let ask = ask_of(&shop.scale, &shop.index);
     let subject = Subject::NonFiction;
-    new_products(
-        alloc,
-        &mut shop.store,
-        &ask,
-        &NewProducts { subject, ids: IDS },
-    )
+    let asked = NewProducts { subject, ids: IDS };
+    Ok(new_products(alloc, &mut shop.store, &ask, &asked))
 }
 
 fn at_best_sellers(alloc: Global) -> Result<Attempted, Memory> {
     let mut shop = Shop::open(alloc, Scale::desk())?;
     let ask = ask_of(&shop.scale, &shop.index);
     let subject = Subject::NonFiction;
-    best_sellers(
-        alloc,
-        &mut shop.store,
-        &ask,
-        &BestSellers { subject, ids: IDS },
-    )
+    let asked = BestSellers { subject, ids: IDS };
+    Ok(best_sellers(alloc, &mut shop.store, &ask, &asked))
 }
 
 fn at_product_detail(alloc: Global) -> Result<Attempted, Memory> {
     let mut shop = Shop::open(alloc, Scale::desk())?;
     let ask = ask_of(&shop.scale, &shop.index);
-    product_detail(
-        alloc,
-        &mut shop.store,
-        &ask,
-        &ProductDetail { item: 1, ids: IDS },
-    )
+    let asked = ProductDetail { item: 1, ids: IDS };
+    Ok(product_detail(alloc, &mut shop.store, &ask, &asked))
 }
 
 fn at_search_request(alloc: Global) -> Result<Attempted, Memory> {
     let mut shop = Shop::open(alloc, Scale::desk())?;
     let ask = ask_of(&shop.scale, &shop.index);
-    search_request(alloc, &mut shop.store, &ask, &SearchRequest { ids: IDS })
+    let asked = SearchRequest { ids: IDS };
+    Ok(search_request(alloc, &mut shop.store, &ask, &asked))
 }
 
 fn at_search_results(alloc: Global) -> Result<Attempted, Memory> {
@@ -91,7 +81,7 @@ fn at_search_results(alloc: Global) -> Result<Attempted, Memory> {
         text: Text::copy(alloc, b"ALSE")?,
         ids: IDS,
     };
-    search_results(alloc, &mut shop.store, &ask, &asked)
+    Ok(search_results(alloc, &mut shop.store, &ask, &asked))
 }
 
 /// Whether an attempt shows a page with this title, by so many reads.

@@ -1,5 +1,6 @@
 -- What a seat means over a book that a rival changes too.
 use Rattle.std.specs.Prelude.{◌≡◌, ◌≢◌, ℕ, length, None, IsSome}
+use Rattle.shop_model.specs.Catalogues.{Catalogue, catalogue}
 use Rattle.shop_model.specs.Scales.{ScaleRow}
 use Rattle.shop_history.specs.Logs.{entries_of}
 use Rattle.shop_attempt.specs.Seats.{Seat}
@@ -10,9 +11,10 @@ pub record RivalledValue : Type 0 where
   pub solo : SoloValue
   pub changes : ℕ
 
--- caller 1 has the seat, and the scale is that of the opening tables
-pub record IsFitting (solo : SoloValue) (scale : ScaleRow) : Type 0 where
+-- caller 1 has the seat, and the index and the scale are those of the opening tables
+pub record IsFitting (solo : SoloValue) (index : Catalogue) (scale : ScaleRow) : Type 0 where
   pub caller : solo.visitor.caller ≡ 1
+  pub named : index ≡ catalogue solo.book.opening.tables
   pub scaled : scale.items ≡ length solo.book.opening.tables.items
 
 -- the same seat, of one caller among others

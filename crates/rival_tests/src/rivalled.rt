@@ -1,9 +1,12 @@
 ghost use Rattle.std.specs.Prelude.{◌≡◌, ◌≤◌, length};
+ghost use Rattle.std.specs.Arc.{arc_value};
+ghost use Rattle.shop_model.specs.Catalogues.{catalogue};
 ghost use Rattle.shop_model.specs.Limits.{stamp_limit};
 ghost use Rattle.shop_attempt.specs.Faithful.{Faithful};
 ghost use Rattle.shop_attempt.specs.Marks.{AreMarks, KeepsMarks};
 ghost use Rattle.shop_attempt.specs.Seats.{Follows, IsSeat, Looked};
 ghost use Rattle.shop_book.specs.Solos.{seated, seat_of, marks_of};
+ghost use Rattle.shop_browse.specs.Attempts.{Suits};
 ghost use Rattle.rival_tests.specs.Rivals.{IsFitting, LeavesOthers, among};
 
 use shop_attempt::{Attempt, Settle, Store};
@@ -11,7 +14,7 @@ use shop_book::{Book, Solo, Visitor};
 use shop_browse::{Ask, Attempted};
 use shop_history::{Key, Row};
 use shop_model::{CartRequest, IdsAsked, Scale};
-use shop_order::shopping_cart;
+use shop_order::shopping_cart::shopping_cart;
 use shop_search::Index;
 use shop_text::{Listed, Memory};
 use std::alloc::Global;
@@ -30,6 +33,7 @@ pub struct Rivalled {
 }
 
 impl Model for Rivalled {
+    ghost use Rattle.std.specs.Arc.{arc_value};
     ghost use Rattle.rival_tests.specs.Rivals.{RivalledValue, IsFitting};
 
     ghost Value = { RivalledValue };
@@ -38,7 +42,7 @@ impl Model for Rivalled {
 
     ghost view = { rivalled_of };
 
-    ghost invariant = { λ i. IsFitting i.solo i.scale };
+    ghost invariant = { λ i. IsFitting i.solo (arc_value i.index) i.scale };
 }
 
 impl Rivalled {
@@ -50,7 +54,8 @@ impl Rivalled {
         scale: Scale,
         changes: u32,
     ) -> Rivalled
-        requires { scale.items ≡ length book.opening.tables.items }
+        requires named { arc_value index ≡ catalogue book.opening.tables }
+        requires scaled { scale.items ≡ length book.opening.tables.items }
         ensures value { result ≡ record { solo = seated book 1; changes = changes } }
         ensures valid { IsSeat (among (seat_of result.solo)) }
         ensures marked { AreMarks (marks_of result.solo) (seat_of result.solo).seen }
@@ -103,6 +108,7 @@ impl Store for Rivalled {
 /// Caller 2's try at its change, at the seat of caller 1; how many changes it made.
 fn rival(alloc: Global, solo: &mut Solo, ask: &Ask) -> u32
     requires caller { solo.old.visitor.caller ≡ 1 }
+    requires index { ask.now.index.now ≡ catalogue solo.old.book.opening.tables }
     requires scale { ask.now.scale.now.items ≡ length solo.old.book.opening.tables.items }
     requires moment { ask.now.moment ≤ stamp_limit }
     ensures one { result ≤ 1 }
@@ -125,7 +131,7 @@ fn rival(alloc: Global, solo: &mut Solo, ask: &Ask) -> u32
 
 /// One more unit of item 2 into cart 1, by whoever has the seat; whether that was done.
 fn add_unit<St: Store>(alloc: Global, store: &mut St, ask: &Ask) -> bool
-    requires scale { ask.now.scale.now.items ≡ length (St.seat store.old).opening.items }
+    requires suits { Suits ask.now (St.seat store.old) }
     requires moment { ask.now.moment ≤ stamp_limit }
     ensures follows { Follows (St.seat store.old) (St.seat store.new) }
     ensures others { LeavesOthers (St.seat store.old) (St.seat store.new) }

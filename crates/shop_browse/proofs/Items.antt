@@ -20,9 +20,6 @@ use Rattle.shop_history.proofs.Kept.{kept, same_items}
 use Rattle.shop_history.proofs.Places.{IsThere, is_there}
 use Rattle.shop_attempt.specs.declared.attempts.ReadOf.{ReadOf}
 use Rattle.shop_attempt.specs.Seats.{Seat, IsSeat, Looked}
-use Rattle.shop_browse.specs.declared.attempted.Attempted.{Attempted}
-use Rattle.shop_browse.specs.Attempts.{AreReadFor, IsPageOf, AttemptedAs, attempt_of}
-use Rattle.shop_browse.proofs.Attempting.{attempted_of}
 
 -- the opening's number of items stays
 pub same_size : (t : Tables) (log : List Entry) → length (tables t log).items ≡ length t.items
@@ -54,12 +51,3 @@ same_label one other is = cc
 pub label_found : (t : Tables) (o : Option ItemRow) (x : ItemRow) (label : Label) → o ≡ Some x → shown (λ item. row.Label (label_of t item)) o ≡ row.Label label → label ≡ label_of t x
 label_found t o x label found is =
     sym (same_label (label_of t x) label (sym (ap (shown (λ item. row.Label (label_of t item))) found) ∙ is))
-
--- an attempt by the reads and the page of one
-pub attempted_from : (start now : Seat) (request : Request) (moment draw : ℕ) (c : Catalogue) (reads list : List ReadOf) (page : Option Page) (result : Attempted)
-    → result ≡ attempt_of list moment draw page → list ≡ reads → c ≡ catalogue start.opening → Looked start now → AreReadFor start now request draw reads → IsPageOf c request draw reads page
-    → AttemptedAs start now request moment draw result
-attempted_from start now request moment draw c reads list page result is same index looked are shows =
-    let all : AttemptedAs start now request moment draw (attempt_of reads moment draw page)
-    = attempted_of start now request moment draw c reads page (index ∙ ap catalogue (sym looked.follows.opening)) are shows in
-    subst (λ a. AttemptedAs start now request moment draw a) (ap (λ rs. attempt_of rs moment draw page) (sym same) ∙ sym is) all

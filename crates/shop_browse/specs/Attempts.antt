@@ -39,17 +39,6 @@ AreReadFor start now request draw [] = Unit {0}
 AreReadFor start now request draw (read ∷ reads) =
     IsReadFor start now request draw read × AreReadFor start now request draw reads
 
--- sound tables of this catalogue that show what was read
-pub record Fits (c : Catalogue) (t : Tables) (reads : List ReadOf) : Type 0 where
-  pub sound : Sound t
-  pub named : catalogue t ≡ c
-  pub shows : Shows t reads
-
--- the page is what the request shows in whichever tables fit the reads; there is none only where no tables do
-abbrev pub IsPageOf : Catalogue → Request → ℕ → List ReadOf → Option Page → Type 0
-IsPageOf c request draw reads (Some page) = (t : Tables) → Fits c t reads → show t request draw ≡ Some page
-IsPageOf c request draw reads None = (t : Tables) → Fits c t reads → ⊥
-
 -- a faithful attempt at this moment and with this word
 pub record IsAttempt (start now : Seat) (request : Request) (moment draw : ℕ) (attempt : Attempt) : Type 0 where
   pub at : attempt.moment ≡ moment
@@ -94,19 +83,3 @@ AttemptedAs start now request moment draw (Ready attempt draft) =
 AttemptedAs start now request moment draw (Contradiction attempt) =
     IsContradiction start now request moment draw attempt
 AttemptedAs start now request moment draw Memory = Unit {0}
-
--- an attempt that only reads
-abbrev pub reading : ℕ → ℕ → List ReadOf → Attempt
-reading moment draw reads = record { reads = reads; moment = moment; draw = draw; writes = None; act = None }
-
--- an attempt that only reads, with its page; without a page it is a contradiction
-abbrev pub attempt_of : List ReadOf → ℕ → ℕ → Option Page → Attempted
-attempt_of reads moment draw (Some page) = Ready (reading moment draw reads) (Fixed page)
-attempt_of reads moment draw None = Contradiction (reading moment draw reads)
-
--- the labels of these items were read, one after another, behind what was read before
-pub record AddsLabels (start now : Seat) (ids : List ℕ) (old new : List ReadOf) : Type 0 where
-  pub labels : List ReadOf
-  pub added : new ≡ old ++ labels
-  pub keys : map (λ r. r.key) labels ≡ map Label ids
-  pub since : AreReadSince start now labels

@@ -1,6 +1,9 @@
 pub mod Footprints
 pub mod Attempts
+pub mod Driver
+pub mod Labels
 pub mod Lists
-pub mod Products
-pub mod Promotions
-pub mod Homes
+pub mod Home
+pub mod ProductDetail
+pub mod SearchRequest
+pub mod SearchResults

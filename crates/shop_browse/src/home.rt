@@ -1,18 +1,17 @@
-ghost use Rattle.std.specs.Prelude.{◌≡◌, ◌++◌, ℕ, Some, None, IfOk, OnOk, option_copied, [], ◌∷◌};
-ghost use Rattle.shop_model.specs.declared.refusal.Refusal.TheVariants.{NoCustomer};
-ghost use Rattle.shop_model.specs.Refusals.{page_of};
+ghost use Rattle.std.specs.Prelude.{◌≡◌, ◌∷◌, [], ◌++◌, ◌≢◌, Some, IfOk, OnOk, option_copied};
+ghost use Rattle.shop_history.specs.declared.keys.Key.TheVariants as key_kinds;
 ghost use Rattle.shop_model.specs.Show as spec;
 ghost use Rattle.shop_attempt.specs.Marks.{Looks};
 ghost use Rattle.shop_browse.specs.Attempts.{AttemptedAs, Suits};
-ghost use Rattle.shop_browse.specs.Attempts.{attempt_of as attempt_of_lem};
-ghost use Rattle.shop_browse.specs.Homes.{IsGreeting, Greets};
-ghost use Rattle.shop_browse.specs.Promotions.{IsShownBy, promotion_reads};
+ghost use Rattle.shop_browse.specs.Driver.{IsWhole, AreSeen, IsNext};
+ghost use Rattle.shop_browse.specs.Home.{FollowsHome, IsWelcome, home_in, drawn_key as drawn_key_is};
+ghost use Rattle.shop_browse.specs.Labels.{FollowsLabels};
 
-use crate::attempted::attempt_of;
+use crate::driver::{Interaction, Next, attempt_by};
+use crate::labels::{labels_asked, push_promotion};
 use crate::links::{push_nav, subject_link};
-use crate::promotion::{Promotion, push_promotion, read_promotion};
 use crate::{Ask, Attempted};
-use shop_attempt::{ReadOf, Store, read};
+use shop_attempt::{ReadOf, Store};
 use shop_history::{Key, Row};
 use shop_model::{Block, Customer, Home, IdsAsked, Page, Refusal, Request, Subject, refusal_page};
 use shop_text::{Listed, Memory, Text};
@@ -64,158 +63,122 @@ fn push_subject_links(
     Ok(())
 }
 
-#[tactic(auto, unfolding(shop_model::specs::Show::home_page))]
-fn home_blocks(
+/// The page for a customer or for anyone, with a promotion by these labels.
+#[tactic(auto, unfolding(crate::specs::Home::home_in))]
+fn home_page(
     alloc: Global,
-    promotion: &Promotion,
     ids: IdsAsked,
     draw: u32,
     customer: Option<&Customer>,
-) -> Result<Option<Listed<Block>>, Memory>
-    ensures { IfOk result (IsShownBy promotion.now draw (λ t. (spec.home_page t ids draw (option_copied customer.entry)).blocks)) }
+    labels: &[ReadOf],
+) -> Result<Page, Memory>
+    ensures { IfOk result (λ page. page ≡ home_in ids draw (option_copied customer.entry) labels.now) }
 {
     let mut blocks = Listed::with_capacity(alloc, BLOCKS)?;
     blocks.push(Block::Heading(Text::copy(alloc, b"Welcome")?))?;
     push_greeting(alloc, &mut blocks, customer)?;
-    if !push_promotion(alloc, &mut blocks, promotion, ids)? {
-        return Ok(None);
-    }
+    push_promotion(alloc, &mut blocks, ids, labels)?;
     push_subject_links(alloc, &mut blocks, Subject::picked(draw), ids)?;
     push_nav(alloc, &mut blocks, ids)?;
-    Ok(Some(blocks))
+    Ok(Page {
+        status: 200,
+        title: Text::copy(alloc, b"Home")?,
+        blocks,
+    })
 }
 
-/// The page for a customer or for anyone; None where a row is of another kind than it was read for.
-#[tactic(auto, unfolding(shop_model::specs::Show::home_page))]
-fn home_page(
+/// The key of the item that the word draws.
+pub(crate) fn drawn_key(ask: &Ask) -> Key
+    ensures { result ≡ drawn_key_is ask.now }
+{
+    let scale = ask.scale;
+    Key::Item(1 + ask.draw % scale.items)
+}
+
+/// What is done next by the reads of the promotion, for a customer or for anyone.
+fn welcome(
     alloc: Global,
-    promotion: &Promotion,
+    ask: &Ask,
     ids: IdsAsked,
-    draw: u32,
     customer: Option<&Customer>,
-) -> Result<Option<Page>, Memory>
-    ensures { IfOk result (IsShownBy promotion.now draw (λ t. spec.home_page t ids draw (option_copied customer.entry))) }
+    round: u32,
+    reads: &[ReadOf],
+) -> Result<Next, Memory>
+    requires whole { IsWhole ask.now }
+    requires follows { FollowsLabels (drawn_key_is ask.now) round reads.now }
+    requires seen { AreSeen ask.now.index.now reads.now }
+    ensures { IfOk result (IsWelcome ids (option_copied customer.entry) ask.now round reads.now) }
 {
-    match home_blocks(alloc, promotion, ids, draw, customer)? {
-        None => Ok(None),
-        Some(blocks) => Ok(Some(Page {
-            status: 200,
-            title: Text::copy(alloc, b"Home")?,
-            blocks,
-        })),
+    match labels_asked(alloc, ask, drawn_key(ask), round, reads)? {
+        Some(keys) => Ok(Next::Read(keys)),
+        None => {
+            let page = home_page(alloc, ids, ask.draw, customer, &reads[1..])?;
+            Ok(Next::Show(page))
+        }
     }
 }
 
-/// One read.
-fn one_read(alloc: Global, read: ReadOf) -> Result<Listed<ReadOf>, Memory>
-    ensures { IfOk result (λ reads. reads ≡ read ∷ []) }
-{
-    let mut reads = Listed::with_capacity(alloc, 1)?;
-    reads.push(read)?;
-    Ok(reads)
-}
-
-/// No customer has the number.
-fn unknown(alloc: Global, ask: &Ask, known: ReadOf) -> Result<Attempted, Memory>
-    ensures { IfOk result (λ attempted. attempted ≡ attempt_of_lem (known ∷ []) ask.now.moment ask.now.draw (Some (page_of NoCustomer))) }
-{
-    let reads = one_read(alloc, known)?;
-    let page = refusal_page(alloc, Refusal::NoCustomer)?;
-    Ok(attempt_of(reads, ask, Some(page)))
-}
-
-/// The page for the customer in a row; another row has none.
-fn greeting_page(
+/// What is done next by what was read of the customer with a number, and then of the promotion.
+fn greet(
     alloc: Global,
-    promotion: &Promotion,
-    ids: IdsAsked,
-    draw: u32,
-    known: &Row,
-) -> Result<Option<Page>, Memory>
-    ensures { IfOk result (IsGreeting ids known.now promotion.now draw) }
-{
-    match known {
-        Row::Customer(customer) => home_page(alloc, promotion, ids, draw, Some(customer)),
-        _ => Ok(None),
-    }
-}
-
-/// What was read of a customer behind what was read of a promotion.
-fn both(known: ReadOf, promotion: Promotion) -> Result<Listed<ReadOf>, Memory>
-    ensures { IfOk result (λ reads. reads ≡ promotion_reads promotion ++ known ∷ []) }
-{
-    let mut reads = promotion.into_reads()?;
-    reads.push(known)?;
-    Ok(reads)
-}
-
-/// By what was read of the customer and of a promotion.
-fn greeted(
-    alloc: Global,
-    ask: &Ask,
-    ids: IdsAsked,
-    known: ReadOf,
-    promotion: Promotion,
-) -> Result<Attempted, Memory>
-    ensures { IfOk result (Greets ids known promotion ask.now.moment ask.now.draw) }
-{
-    let page = greeting_page(alloc, &promotion, ids, ask.draw, &known.row)?;
-    Ok(attempt_of(both(known, promotion)?, ask, page))
-}
-
-/// For anyone.
-fn welcome<St: Store>(
-    alloc: Global,
-    store: &mut St,
-    ask: &Ask,
-    asked: &Home,
-) -> Result<Attempted, Memory>
-    requires suits { Suits ask.now (St.seat store.old) }
-    requires anyone { asked.now.ids.c ≡ None }
-    ensures looks { Looks St.seat St.marked store.old store.new }
-    ensures attempted { IfOk result (AttemptedAs (St.seat store.old) (St.seat store.new) (Request.Home asked.now) ask.now.moment ask.now.draw) }
-{
-    let promotion = read_promotion(alloc, store, ask)?;
-    let page = home_page(alloc, &promotion, asked.ids, ask.draw, None)?;
-    Ok(attempt_of(promotion.into_reads()?, ask, page))
-}
-
-/// For the customer with this number, if there is one.
-fn greet<St: Store>(
-    alloc: Global,
-    store: &mut St,
     ask: &Ask,
     asked: &Home,
     number: u32,
-) -> Result<Attempted, Memory>
-    requires suits { Suits ask.now (St.seat store.old) }
+    round: u32,
+    known: &ReadOf,
+    reads: &[ReadOf],
+) -> Result<Next, Memory>
+    requires whole { IsWhole ask.now }
     requires number { asked.now.ids.c ≡ Some number }
-    ensures looks { Looks St.seat St.marked store.old store.new }
-    ensures attempted { IfOk result (AttemptedAs (St.seat store.old) (St.seat store.new) (Request.Home asked.now) ask.now.moment ask.now.draw) }
+    requires some { round ≢ 0 }
+    requires known { known.now.key ≡ key_kinds.Customer number }
+    requires follows { FollowsLabels (drawn_key_is ask.now) round reads.now }
+    requires seen { AreSeen ask.now.index.now reads.now }
+    ensures { IfOk result (IsNext (FollowsHome (Some number) ask.now) (Request.Home asked.now) ask.now round (known.now ∷ reads.now)) }
 {
-    let known = read(store, Key::Customer(number))?;
     match &known.row {
-        Row::Absent => unknown(alloc, ask, known),
-        _ => {
-            let promotion = read_promotion(alloc, store, ask)?;
-            greeted(alloc, ask, asked.ids, known, promotion)
+        Row::Absent => Ok(Next::Show(refusal_page(alloc, Refusal::NoCustomer)?)),
+        Row::Customer(customer) => welcome(alloc, ask, asked.ids, Some(customer), round, reads),
+        _ => Ok(Next::Never),
+    }
+}
+
+/// The keys of a customer and of the drawn item.
+fn first_keys(alloc: Global, ask: &Ask, number: u32) -> Result<Listed<Key>, Memory>
+    ensures { IfOk result (λ keys. keys ≡ key_kinds.Customer number ∷ drawn_key_is ask.now ∷ []) }
+{
+    let mut keys = Listed::with_capacity(alloc, 2)?;
+    keys.push(Key::Customer(number))?;
+    keys.push(drawn_key(ask))?;
+    Ok(keys)
+}
+
+impl Interaction for Home {
+    ghost use Rattle.shop_model.specs.declared.requests.Request.TheVariants as request_kinds;
+
+    ghost request = { λ asked. request_kinds.Home asked };
+
+    ghost follows = { λ asked. FollowsHome asked.ids.c };
+
+    fn next(&self, alloc: Global, ask: &Ask, round: u32, reads: &[ReadOf]) -> Result<Next, Memory> {
+        match self.ids.c {
+            None => welcome(alloc, ask, self.ids, None, round, reads),
+            Some(number) => {
+                if round == 0 {
+                    Ok(Next::Read(first_keys(alloc, ask, number)?))
+                } else {
+                    greet(alloc, ask, self, number, round, &reads[0], &reads[1..])
+                }
+            }
         }
     }
 }
 
 /// The promotion, and a greeting for the customer whose number was given.
-pub fn home<St: Store>(
-    alloc: Global,
-    store: &mut St,
-    ask: &Ask,
-    asked: &Home,
-) -> Result<Attempted, Memory>
+pub fn home<St: Store>(alloc: Global, store: &mut St, ask: &Ask, asked: &Home) -> Attempted
     requires suits { Suits ask.now (St.seat store.old) }
     ensures looks { Looks St.seat St.marked store.old store.new }
-    ensures attempted { IfOk result (AttemptedAs (St.seat store.old) (St.seat store.new) (Request.Home asked.now) ask.now.moment ask.now.draw) }
+    ensures attempted { AttemptedAs (St.seat store.old) (St.seat store.new) (Request.Home asked.now) ask.now.moment ask.now.draw result }
 {
-    match asked.ids.c {
-        None => welcome(alloc, store, ask, asked),
-        Some(number) => greet(alloc, store, ask, asked, number),
-    }
+    attempt_by(alloc, store, ask, asked)
 }

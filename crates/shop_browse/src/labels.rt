@@ -1,24 +1,100 @@
-ghost use Rattle.std.specs.Prelude.{◌<◌, IfOk, length};
-ghost use Rattle.shop_attempt.specs.Marks.{Looks};
-ghost use Rattle.shop_attempt.specs.Seats.{IsSeat};
-ghost use Rattle.shop_browse.specs.Attempts.{AddsLabels};
+//! Reads of a row and of the labels of the items that it names.
+ghost use Rattle.std.specs.Prelude.{◌≡◌, ◌++◌, IfOk, OnOk, map};
+ghost use Rattle.shop_history.specs.declared.keys.Key.TheVariants.{Label};
+ghost use Rattle.shop_browse.specs.Driver.{IsWhole, AreSeen};
+ghost use Rattle.shop_browse.specs.Labels as spec;
 
-use shop_attempt::{ReadOf, Store, read};
-use shop_history::Key;
+use crate::Ask;
+use crate::driver::one_key;
+use crate::links::item_link;
+use shop_attempt::ReadOf;
+use shop_history::{Key, Row};
+use shop_model::{Block, IdsAsked};
 use shop_text::{Listed, Memory};
+use std::alloc::Global;
 
-/// Reads how items are named in lists.
-pub(crate) fn read_labels<St: Store>(
-    store: &mut St,
-    reads: &mut Listed<ReadOf>,
-    ids: &[u32],
-) -> Result<(), Memory>
-    ensures looks { Looks St.seat St.marked store.old store.new }
-    ensures valid { 0 < length ids.now → IsSeat (St.seat store.new) }
-    ensures labels { IfOk result (λ _. AddsLabels (St.seat store.old) (St.seat store.new) ids.now reads.old reads.new) }
+/// The items that a row names: those on a list, or those that are related to an item.
+fn ids_in(row: &Row) -> &[u32]
+    ensures { result.now ≡ spec.ids_in row.now }
 {
+    match row {
+        Row::Items(ids) => ids.as_slice(),
+        Row::Item(item) => &item.related,
+        _ => &[],
+    }
+}
+
+/// The keys of the labels of items.
+pub(crate) fn label_keys(alloc: Global, ids: &[u32]) -> Result<Listed<Key>, Memory>
+    ensures { IfOk result (λ keys. keys ≡ map Label ids.now) }
+{
+    let mut keys = Listed::with_capacity(alloc, ids.len())?;
     for id in ids {
-        reads.push(read(store, Key::Label(*id))?)?;
+        keys.push(Key::Label(*id))?;
+    }
+    Ok(keys)
+}
+
+/// The keys that are asked for next: the row's, then those of the labels of the items that it names;
+/// None where all was read.
+pub(crate) fn labels_asked(
+    alloc: Global,
+    ask: &Ask,
+    key: Key,
+    round: u32,
+    reads: &[ReadOf],
+) -> Result<Option<Listed<Key>>, Memory>
+    requires whole { IsWhole ask.now }
+    requires follows { spec.FollowsLabels key round reads.now }
+    requires seen { AreSeen ask.now.index.now reads.now }
+    ensures { IfOk result (spec.AsksLabels key ask.now round reads.now) }
+{
+    match round {
+        0 => Ok(Some(one_key(alloc, key)?)),
+        1 => Ok(Some(label_keys(alloc, ids_in(&reads[0].row))?)),
+        _ => Ok(None),
+    }
+}
+
+/// The item whose label a key shows.
+pub(crate) fn id_in(key: &Key) -> u32
+    ensures { result ≡ spec.id_in key.now }
+{
+    match key {
+        Key::Label(id) => *id,
+        _ => 0,
+    }
+}
+
+/// The title in the row of a label; another row has none.
+fn title_in(row: &Row) -> &[u8]
+    ensures { result.now ≡ spec.title_in row.now }
+{
+    match row {
+        Row::Label(label) => label.title.bytes(),
+        _ => b"",
+    }
+}
+
+/// A link to the page of an item whose label was read, labelled with its title.
+fn promoted(alloc: Global, ids: IdsAsked, read: &ReadOf) -> Result<Block, Memory>
+    ensures { IfOk result (λ block. block ≡ spec.promoted_in ids read.now) }
+{
+    let label = title_in(&read.row);
+    item_link(alloc, b"/product_detail", id_in(&read.key), ids, label)
+}
+
+/// Adds a link to the page of each item whose label was read.
+pub(crate) fn push_promotion(
+    alloc: Global,
+    blocks: &mut Listed<Block>,
+    ids: IdsAsked,
+    labels: &[ReadOf],
+) -> Result<(), Memory>
+    ensures { OnOk result (blocks.new ≡ blocks.old ++ map (spec.promoted_in ids) labels.now) }
+{
+    for read in labels {
+        blocks.push(promoted(alloc, ids, read)?)?;
     }
     Ok(())
 }

@@ -1,19 +1,18 @@
-//! Attempts at the interactions that only read: each reads rows of a store one at a time, and makes
-//! the page from them.
+//! Attempts at the interactions that only read: each is a function of the rows that it has read, and
+//! the driver, which has the store, reads the rows that it asks for.
 #![tactic(auto)]
 
 mod attempted;
-mod calls;
+pub mod best_sellers;
+mod driver;
 pub mod home;
 mod labels;
-mod lines;
 mod links;
-mod list_pages;
+mod lists;
+pub mod new_products;
 pub mod product_detail;
-mod promotion;
-pub mod rankings;
 pub mod search_request;
 pub mod search_results;
 
-pub use attempted::{Ask, Attempted, attempt_of};
-pub use calls::attempt;
+pub use attempted::{Ask, Attempted};
+pub use driver::{Interaction, Next, attempt_by, one_key};

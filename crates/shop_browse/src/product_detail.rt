@@ -1,15 +1,16 @@
-ghost use Rattle.std.specs.Prelude.{◌≡◌, ◌++◌, IfOk, OnOk};
-ghost use Rattle.shop_model.specs.Catalogues.{catalogue};
+ghost use Rattle.std.specs.Prelude.{◌≡◌, ◌++◌, ◌∷◌, [], ℕ, IfOk, OnOk};
 ghost use Rattle.shop_model.specs.Products as spec;
+ghost use Rattle.shop_history.specs.declared.keys.Key.TheVariants as key_kinds;
 ghost use Rattle.shop_attempt.specs.Marks.{Looks};
-ghost use Rattle.shop_history.specs.Keys.{is_item};
-ghost use Rattle.shop_browse.specs.Attempts.{AttemptedAs};
-ghost use Rattle.shop_browse.specs.Products.{AreOf, AreProductReads, IsProductPage, named, product_reads};
+ghost use Rattle.shop_browse.specs.declared.attempted.Ask.{Ask};
+ghost use Rattle.shop_browse.specs.Attempts.{AttemptedAs, Suits};
+ghost use Rattle.shop_browse.specs.Driver.{IsNext};
+ghost use Rattle.shop_browse.specs.ProductDetail.{FollowsProduct, named};
 
-use crate::attempted::attempt_of;
+use crate::driver::{Interaction, Next, attempt_by, one_key};
 use crate::links::{item_link, push_nav};
 use crate::{Ask, Attempted};
-use shop_attempt::{ReadOf, Store, read};
+use shop_attempt::{ReadOf, Store};
 use shop_history::{Key, Label, Row};
 use shop_model::{Block, IdsAsked, Item, Page, ProductDetail, Refusal, Request, refusal_page};
 use shop_text::{Listed, Memory, Text};
@@ -20,14 +21,6 @@ const LINE_ROOM: usize = 64;
 
 /// How many blocks the page has.
 const BLOCKS: usize = 11;
-
-/// What was read of an item.
-#[derive(Drop)]
-struct ItemReads {
-    item: ReadOf,
-    /// There where the item is there.
-    label: Option<ReadOf>,
-}
 
 #[tactic(auto, unfolding(shop_model::specs::Products::author_line))]
 fn author_line(alloc: Global, author: &Label) -> Result<Text, Memory>
@@ -129,58 +122,56 @@ fn product_page(alloc: Global, item: &Item, author: &Label, ids: IdsAsked) -> Re
     })
 }
 
-fn is_there(row: &Row) -> bool
-    ensures { result ≡ is_item row.now }
+/// What is done next by what was read of the item.
+fn by_item(alloc: Global, asked: &ProductDetail, item: &ReadOf) -> Result<Next, Memory>
+    requires { item.now.key ≡ key_kinds.Item asked.now.item }
+    ensures { IfOk result (λ next. (ask : Ask) → IsNext (FollowsProduct asked.now) (Request.ProductDetail asked.now) ask 1 (item.now ∷ []) next) }
 {
-    matches!(row, Row::Item(_))
-}
-
-/// Reads the item, and its author's names if it is there.
-fn read_item<St: Store>(store: &mut St, asked: &ProductDetail) -> Result<ItemReads, Memory>
-    ensures looks { Looks St.seat St.marked store.old store.new }
-    ensures keys { IfOk result (AreOf asked.now.item) }
-    ensures reads { IfOk result (AreProductReads (St.seat store.old) (St.seat store.new) asked.now) }
-{
-    let item = read(store, Key::Item(asked.item))?;
-    if !is_there(&item.row) {
-        return Ok(ItemReads { item, label: None });
+    match &item.row {
+        Row::Absent => Ok(Next::Show(refusal_page(alloc, Refusal::NoItem)?)),
+        Row::Item(_) => Ok(Next::Read(one_key(alloc, Key::Label(asked.item))?)),
+        _ => Ok(Next::Never),
     }
-    let label = read(store, Key::Label(asked.item))?;
-    Ok(ItemReads {
-        item,
-        label: Some(label),
-    })
 }
 
-/// The page by what was read.
-fn page_of(alloc: Global, asked: &ProductDetail, reads: &ItemReads) -> Result<Option<Page>, Memory>
-    requires { AreOf asked.now.item reads.now }
-    ensures { IfOk result (IsProductPage asked.now reads.now) }
+/// What is done by what was read of the item and of its label.
+fn by_label(
+    alloc: Global,
+    asked: &ProductDetail,
+    item: &ReadOf,
+    label: &ReadOf,
+) -> Result<Next, Memory>
+    requires item { item.now.key ≡ key_kinds.Item asked.now.item }
+    requires label { label.now.key ≡ key_kinds.Label asked.now.item }
+    ensures { IfOk result (λ next. (ask : Ask) (round : ℕ) → IsNext (FollowsProduct asked.now) (Request.ProductDetail asked.now) ask round (item.now ∷ label.now ∷ []) next) }
 {
-    match &reads.item.row {
-        Row::Absent => Ok(Some(refusal_page(alloc, Refusal::NoItem)?)),
-        Row::Item(item) => match &reads.label {
-            None => Ok(None),
-            Some(label) => match &label.row {
-                Row::Label(names) => Ok(Some(product_page(alloc, item, names, asked.ids)?)),
-                _ => Ok(None),
-            },
+    match &item.row {
+        Row::Absent => Ok(Next::Show(refusal_page(alloc, Refusal::NoItem)?)),
+        Row::Item(item) => match &label.row {
+            Row::Label(names) => Ok(Next::Show(product_page(alloc, item, names, asked.ids)?)),
+            _ => Ok(Next::Never),
         },
-        _ => Ok(None),
+        _ => Ok(Next::Never),
     }
 }
 
-/// What was read, in order.
-fn listed(alloc: Global, reads: ItemReads) -> Result<Listed<ReadOf>, Memory>
-    ensures { IfOk result (λ list. list ≡ product_reads reads) }
-{
-    let ItemReads { item, label } = reads;
-    let mut list = Listed::with_capacity(alloc, 2)?;
-    list.push(item)?;
-    if let Some(label) = label {
-        list.push(label)?;
+impl Interaction for ProductDetail {
+    ghost use Rattle.shop_model.specs.declared.requests.Request.TheVariants as request_kinds;
+
+    ghost request = { λ asked. request_kinds.ProductDetail asked };
+
+    ghost follows = { λ asked ask. FollowsProduct asked };
+
+    fn next(&self, alloc: Global, ask: &Ask, round: u32, reads: &[ReadOf]) -> Result<Next, Memory> {
+        let _ = ask;
+        if round == 0 {
+            return Ok(Next::Read(one_key(alloc, Key::Item(self.item))?));
+        }
+        if round == 1 {
+            return by_item(alloc, self, &reads[0]);
+        }
+        by_label(alloc, self, &reads[0], &reads[1])
     }
-    Ok(list)
 }
 
 /// The page of the item with this number.
@@ -189,12 +180,10 @@ pub fn product_detail<St: Store>(
     store: &mut St,
     ask: &Ask,
     asked: &ProductDetail,
-) -> Result<Attempted, Memory>
-    requires index { ask.now.index.now ≡ catalogue (St.seat store.old).opening }
+) -> Attempted
+    requires suits { Suits ask.now (St.seat store.old) }
     ensures looks { Looks St.seat St.marked store.old store.new }
-    ensures attempted { IfOk result (AttemptedAs (St.seat store.old) (St.seat store.new) (Request.ProductDetail asked.now) ask.now.moment ask.now.draw) }
+    ensures attempted { AttemptedAs (St.seat store.old) (St.seat store.new) (Request.ProductDetail asked.now) ask.now.moment ask.now.draw result }
 {
-    let reads = read_item(store, asked)?;
-    let page = page_of(alloc, asked, &reads)?;
-    Ok(attempt_of(listed(alloc, reads)?, ask, page))
+    attempt_by(alloc, store, ask, asked)
 }

@@ -1,14 +1,17 @@
-ghost use Rattle.std.specs.Prelude.{◌≡◌, ◌+◌, ◌%◌, ℕ, IfOk};
+ghost use Rattle.std.specs.Prelude.{◌≡◌, IfOk};
 ghost use Rattle.shop_model.specs.Show as spec;
 ghost use Rattle.shop_attempt.specs.Marks.{Looks};
 ghost use Rattle.shop_browse.specs.Attempts.{AttemptedAs, Suits};
-ghost use Rattle.shop_browse.specs.Promotions.{IsShownBy};
+ghost use Rattle.shop_browse.specs.Home.{drawn_key};
+ghost use Rattle.shop_browse.specs.Labels.{FollowsLabels};
+ghost use Rattle.shop_browse.specs.SearchRequest.{search_in};
 
-use crate::attempted::attempt_of;
+use crate::driver::{Interaction, Next, attempt_by};
+use crate::home::drawn_key;
+use crate::labels::{labels_asked, push_promotion};
 use crate::links::{push_id_fields, push_nav};
-use crate::promotion::{Promotion, push_promotion, read_promotion};
 use crate::{Ask, Attempted};
-use shop_attempt::Store;
+use shop_attempt::{ReadOf, Store};
 use shop_model::{Block, Field, IdsAsked, Page, Request, SearchRequest};
 use shop_text::{Listed, Memory, Text};
 use std::alloc::Global;
@@ -42,36 +45,35 @@ fn search_form(alloc: Global, ids: IdsAsked) -> Result<Block, Memory>
     })
 }
 
-#[tactic(auto, unfolding(shop_model::specs::Show::search_request))]
-fn search_blocks(
-    alloc: Global,
-    promotion: &Promotion,
-    ids: IdsAsked,
-) -> Result<Option<Listed<Block>>, Memory>
-    ensures { IfOk result (λ found. (draw : ℕ) → IsShownBy promotion.now draw (λ t. (spec.search_request t ids draw).blocks) found) }
+/// The form of a search, with a promotion by these labels.
+#[tactic(auto, unfolding(crate::specs::SearchRequest::search_in))]
+fn search_page(alloc: Global, ids: IdsAsked, labels: &[ReadOf]) -> Result<Page, Memory>
+    ensures { IfOk result (λ page. page ≡ search_in ids labels.now) }
 {
     let mut blocks = Listed::with_capacity(alloc, BLOCKS)?;
     blocks.push(Block::Heading(Text::copy(alloc, b"Search")?))?;
-    if !push_promotion(alloc, &mut blocks, promotion, ids)? {
-        return Ok(None);
-    }
+    push_promotion(alloc, &mut blocks, ids, labels)?;
     blocks.push(search_form(alloc, ids)?)?;
     push_nav(alloc, &mut blocks, ids)?;
-    Ok(Some(blocks))
+    Ok(Page {
+        status: 200,
+        title: Text::copy(alloc, b"Search Request")?,
+        blocks,
+    })
 }
 
-/// The promotion and a form to search with; None where a row is of another kind than it was read for.
-#[tactic(auto, unfolding(shop_model::specs::Show::search_request))]
-fn search_page(alloc: Global, promotion: &Promotion, ids: IdsAsked) -> Result<Option<Page>, Memory>
-    ensures { IfOk result (λ found. (draw : ℕ) → IsShownBy promotion.now draw (λ t. spec.search_request t ids draw) found) }
-{
-    match search_blocks(alloc, promotion, ids)? {
-        None => Ok(None),
-        Some(blocks) => Ok(Some(Page {
-            status: 200,
-            title: Text::copy(alloc, b"Search Request")?,
-            blocks,
-        })),
+impl Interaction for SearchRequest {
+    ghost use Rattle.shop_model.specs.declared.requests.Request.TheVariants as request_kinds;
+
+    ghost request = { λ asked. request_kinds.SearchRequest asked };
+
+    ghost follows = { λ asked ask. FollowsLabels (drawn_key ask) };
+
+    fn next(&self, alloc: Global, ask: &Ask, round: u32, reads: &[ReadOf]) -> Result<Next, Memory> {
+        match labels_asked(alloc, ask, drawn_key(ask), round, reads)? {
+            Some(keys) => Ok(Next::Read(keys)),
+            None => Ok(Next::Show(search_page(alloc, self.ids, &reads[1..])?)),
+        }
     }
 }
 
@@ -81,12 +83,10 @@ pub fn search_request<St: Store>(
     store: &mut St,
     ask: &Ask,
     asked: &SearchRequest,
-) -> Result<Attempted, Memory>
+) -> Attempted
     requires suits { Suits ask.now (St.seat store.old) }
     ensures looks { Looks St.seat St.marked store.old store.new }
-    ensures attempted { IfOk result (AttemptedAs (St.seat store.old) (St.seat store.new) (Request.SearchRequest asked.now) ask.now.moment ask.now.draw) }
+    ensures attempted { AttemptedAs (St.seat store.old) (St.seat store.new) (Request.SearchRequest asked.now) ask.now.moment ask.now.draw result }
 {
-    let promotion = read_promotion(alloc, store, ask)?;
-    let page = search_page(alloc, &promotion, asked.ids)?;
-    Ok(attempt_of(promotion.into_reads()?, ask, page))
+    attempt_by(alloc, store, ask, asked)
 }

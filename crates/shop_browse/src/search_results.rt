@@ -1,16 +1,15 @@
-//! The items that a search finds.
 ghost use Rattle.std.specs.Prelude.{◌≡◌, ◌∷◌, ◌++◌, [], IfOk, codes};
 ghost use Rattle.shop_model.specs.declared.page.Block.TheVariants.{Heading, Para};
-ghost use Rattle.shop_model.specs.Catalogues.{catalogue};
 ghost use Rattle.shop_model.specs.Kinds.{kind_name};
 ghost use Rattle.shop_attempt.specs.Marks.{Looks};
-ghost use Rattle.shop_browse.specs.Attempts.{AttemptedAs};
+ghost use Rattle.shop_browse.specs.Attempts.{AttemptedAs, Suits};
+ghost use Rattle.shop_browse.specs.SearchResults.{FollowsSearch};
 
-use crate::attempted::attempt_of;
-use crate::labels::read_labels;
-use crate::list_pages::list_page;
+use crate::driver::{Interaction, Next, attempt_by};
+use crate::labels::label_keys;
+use crate::lists::list_page;
 use crate::{Ask, Attempted};
-use shop_attempt::Store;
+use shop_attempt::{ReadOf, Store};
 use shop_model::{Block, Request, SearchResults};
 use shop_text::{Listed, Memory, Text};
 use std::alloc::Global;
@@ -32,29 +31,33 @@ fn search_heading(alloc: Global, asked: &SearchResults) -> Result<Listed<Block>,
     Ok(head)
 }
 
+impl Interaction for SearchResults {
+    ghost use Rattle.shop_model.specs.declared.requests.Request.TheVariants as request_kinds;
+
+    ghost request = { λ asked. request_kinds.SearchResults asked };
+
+    ghost follows = { FollowsSearch };
+
+    fn next(&self, alloc: Global, ask: &Ask, round: u32, reads: &[ReadOf]) -> Result<Next, Memory> {
+        if round == 0 {
+            let found = ask.index.search(self.kind, self.text.bytes())?;
+            return Ok(Next::Read(label_keys(alloc, found.as_slice())?));
+        }
+        let head = search_heading(alloc, self)?;
+        Ok(Next::Show(list_page(alloc, b"Search Results", head, self.ids, reads)?))
+    }
+}
+
 /// An attempt at what a search finds.
 pub fn search_results<St: Store>(
     alloc: Global,
     store: &mut St,
     ask: &Ask,
     asked: &SearchResults,
-) -> Result<Attempted, Memory>
-    requires index { ask.now.index.now ≡ catalogue (St.seat store.old).opening }
+) -> Attempted
+    requires suits { Suits ask.now (St.seat store.old) }
     ensures looks { Looks St.seat St.marked store.old store.new }
-    ensures attempted { IfOk result (AttemptedAs (St.seat store.old) (St.seat store.new) (Request.SearchResults asked.now) ask.now.moment ask.now.draw) }
+    ensures attempted { AttemptedAs (St.seat store.old) (St.seat store.new) (Request.SearchResults asked.now) ask.now.moment ask.now.draw result }
 {
-    let found = ask.index.search(asked.kind, asked.text.bytes())?;
-    let items = found.as_slice();
-    let head = search_heading(alloc, asked)?;
-    let mut labels = Listed::new(alloc);
-    read_labels(store, &mut labels, items)?;
-    let page = list_page(
-        alloc,
-        b"Search Results",
-        head,
-        asked.ids,
-        items,
-        labels.as_slice(),
-    )?;
-    Ok(attempt_of(labels, ask, page))
+    attempt_by(alloc, store, ask, asked)
 }

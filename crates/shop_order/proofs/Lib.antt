@@ -1,6 +1,4 @@
-pub mod Becoming
-pub mod Tabling
-pub mod Reading
-pub mod Setting
-pub mod Footprint
-pub mod Changing
+pub mod DraftsLemmas
+pub mod CartsLemmas
+pub mod TableLemmas
+pub mod ShoppingCartLemmas

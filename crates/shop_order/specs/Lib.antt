@@ -1,4 +1,3 @@
 pub mod Drafts
-pub mod Lines
-pub mod Begun
-pub mod Changes
+pub mod Table
+pub mod ShoppingCart

@@ -1,9 +1,14 @@
-ghost use Rattle.std.specs.Prelude.{◌≡◌};
 ghost use Rattle.shop_attempt.specs.Marks.{Looks};
 ghost use Rattle.shop_browse.specs.Attempts.{AttemptedAs, Suits};
 
-use crate::shopping_cart;
+use crate::shopping_cart::shopping_cart;
 use shop_attempt::Store;
+use shop_browse::best_sellers::best_sellers;
+use shop_browse::home::home;
+use shop_browse::new_products::new_products;
+use shop_browse::product_detail::product_detail;
+use shop_browse::search_request::search_request;
+use shop_browse::search_results::search_results;
 use shop_browse::{Ask, Attempted};
 use shop_model::Request;
 use std::alloc::Global;
@@ -15,12 +20,12 @@ pub fn attempt<St: Store>(alloc: Global, store: &mut St, ask: &Ask, request: &Re
     ensures attempted { AttemptedAs (St.seat store.old) (St.seat store.new) request.now ask.now.moment ask.now.draw result }
 {
     match request {
+        Request::Home(asked) => home(alloc, store, ask, asked),
+        Request::NewProducts(asked) => new_products(alloc, store, ask, asked),
+        Request::BestSellers(asked) => best_sellers(alloc, store, ask, asked),
+        Request::ProductDetail(asked) => product_detail(alloc, store, ask, asked),
+        Request::SearchRequest(asked) => search_request(alloc, store, ask, asked),
+        Request::SearchResults(asked) => search_results(alloc, store, ask, asked),
         Request::CartRequest(asked) => shopping_cart(alloc, store, ask, asked),
-        Request::Home(_)
-        | Request::NewProducts(_)
-        | Request::BestSellers(_)
-        | Request::ProductDetail(_)
-        | Request::SearchRequest(_)
-        | Request::SearchResults(_) => shop_browse::attempt(alloc, store, ask, request),
     }
 }

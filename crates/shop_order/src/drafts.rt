@@ -1,11 +1,13 @@
 //! The draft of a cart's page.
 ghost use Rattle.std.specs.Prelude.{◌≡◌, IfOk};
+ghost use Rattle.shop_model.specs.declared.tables.Tables.{Tables};
+ghost use Rattle.shop_attempt.specs.Reads.{Shows};
 ghost use Rattle.shop_pricing.specs.Bounds.{AreLines};
-ghost use Rattle.shop_order.specs.Drafts.{draft_with, sum_line};
-ghost use Rattle.shop_order.specs.Lines.{AreItems, IsDraftBy};
+ghost use Rattle.shop_order.specs.Drafts.{cart_draft as drafted, draft_with, sum_line};
+ghost use Rattle.shop_order.specs.ShoppingCart.{AreItems};
 
 use crate::parts::{form, heading, push_links};
-use crate::table::{push_rows, sum};
+use crate::table::{rows, sum};
 use shop_attempt::ReadOf;
 use shop_history::{DraftBlock, Waiting};
 use shop_model::{Block, IdsAsked};
@@ -51,20 +53,17 @@ fn draft_of(
     })
 }
 
-/// The page of a cart with these lines, by what was read of their items; None where a row is no item.
+/// The page of a cart with these lines, by what was read of their items.
 pub(crate) fn cart_draft(
     alloc: Global,
     ids: IdsAsked,
     lines: &[(u32, u32)],
     items: &[ReadOf],
-) -> Result<Option<Waiting>, Memory>
+) -> Result<Waiting, Memory>
     requires items { AreItems lines.now items.now }
     requires lines { AreLines lines.now }
-    ensures { IfOk result (IsDraftBy ids lines.now items.now) }
+    ensures { IfOk result (λ draft. (t : Tables) → Shows t items.now → draft ≡ drafted t ids lines.now) }
 {
-    let mut rows = Listed::with_capacity(alloc, lines.len())?;
-    if !push_rows(alloc, &mut rows, lines, items)? {
-        return Ok(None);
-    }
-    Ok(Some(draft_of(alloc, ids, lines, rows, sum(lines, items))?))
+    let rows = rows(alloc, lines, items)?;
+    draft_of(alloc, ids, lines, rows, sum(lines, items))
 }

@@ -1,14 +1,11 @@
-//! Attempts at the interactions that change rows: each reads rows of a store one at a time, and makes
-//! of them the act, its writes, and the draft of its page.
+//! Attempts at the interactions that change rows, beside those that only read: each is a function of
+//! the rows that it has read, and makes of them the act, its writes, and the draft of its page.
 #![tactic(auto)]
 
-mod begun;
 mod calls;
-mod cart;
 mod drafts;
 mod parts;
-mod reads;
+pub mod shopping_cart;
 mod table;
 
 pub use calls::attempt;
-pub use cart::shopping_cart;

@@ -29,8 +29,10 @@ scale_is : (seed : ℕ) (scale : ScaleRow) (t : Tables) (book : BookValue) → t
 scale_is seed scale t book drawn opens = sym (ap (λ (u : Tables). length u.items) (opens ∙ drawn) ∙ items_populated seed scale)
 
 pub new-store-requires : goal.new-store-requires
-new-store-requires c =
-    scale_is 0 c.desk-scale.result c.in_ok-tables.tables c.in_ok-book.book c.in_ok-tables.ensures.value (ap (λ (b : BookValue). b.opening.tables) c.in_ok-book.ensures.value)
+new-store-requires c = record {
+  named = c.in_ok-index.ensures.ok ∙ c.in_ok-build.ensures ∙ ap (λ (b : BookValue). catalogue b.opening.tables) (sym c.in_ok-book.ensures.value);
+  scaled = scale_is 0 c.desk-scale.result c.in_ok-tables.tables c.in_ok-book.book c.in_ok-tables.ensures.value (ap (λ (b : BookValue). b.opening.tables) c.in_ok-book.ensures.value);
+}
 
 pub new-requires-2 : goal.new-requires-2
 new-requires-2 c =

@@ -1,14 +1,20 @@
-use Rattle.std.proofs.Common.{refl, inr}
-use Rattle.shop_model.specs.declared.requests.Request.TheVariants.{Home}
-use Rattle.shop_browse.specs.Promotions.{promotion_reads}
-use Rattle.shop_browse.proofs.Homes.{anyone_shown}
-use Rattle.shop_browse.proofs.Items.{attempted_from}
+use Rattle.std.proofs.Common.{◌∙◌, ap, subst}
+use Rattle.shop_browse.specs.Home.{drawn_key, home_in}
+use Rattle.shop_browse.specs.Labels.{AsksLabels}
+use Rattle.shop_browse.proofs.DriverLemmas.{behind}
+use Rattle.shop_browse.proofs.HomeLemmas.{home_shown}
 use Rattle.shop_browse.proofs.home.welcome.Goals as goal
 
-pub returns-clause-attempted : goal.returns-clause-attempted
-returns-clause-attempted g c =
-    attempted_from _ _ (Home c.args.asked.now) _ _ c.args.ask.now.index.now (promotion_reads c.in_ok-promotion.promotion) c.in_ok-into_reads.field-0 c.in_ok-page.page c.attempt_of.result
-    c.attempt_of.ensures c.in_ok-into_reads.ensures c.requires.suits.index c.in_ok-promotion.ensures.looks.looked
-    (c.in_ok-promotion.ensures.reads (Home c.args.asked.now) (λ opening log. inr refl))
-    (anyone_shown (g.St.Store.seat c.args.store.now).opening c.args.ask.now.index.now c.args.ask.now.scale.now.items c.args.ask.now.draw c.args.asked.now c.in_ok-promotion.promotion c.in_ok-page.page
-    c.in_ok-promotion.ensures.drawn c.requires.suits.scale c.requires.suits.index c.requires.anyone c.in_ok-page.ensures)
+pub returns-in-Some : goal.returns-in-Some
+returns-in-Some c =
+    let ask = c.args.ask.now in
+    subst (AsksLabels (drawn_key ask) ask c.args.round c.args.reads.now) c.in-Some.is
+    (subst (λ k. AsksLabels k ask c.args.round c.args.reads.now c.in_ok-keys.field-0) c.drawn_key.ensures c.in_ok-keys.ensures)
+
+pub returns-in_ok-page-in-None : goal.returns-in_ok-page-in-None
+returns-in_ok-page-in-None c =
+    let ask = c.args.ask.now in
+    let have = subst (AsksLabels (drawn_key ask) ask c.args.round c.args.reads.now) c.in-None.is
+        (subst (λ k. AsksLabels k ask c.args.round c.args.reads.now c.in_ok-keys.field-0) c.drawn_key.ensures c.in_ok-keys.ensures) in
+    home_shown ask c.args.ids _ c.args.reads.now c.in_ok-page-in-None.page c.requires.whole have
+    (c.in_ok-page-in-None.ensures ∙ ap (home_in c.args.ids ask.draw _) (behind c.args.reads.now))

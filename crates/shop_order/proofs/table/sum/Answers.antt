@@ -1,7 +1,7 @@
 use Rattle.std.proofs.Common.{◌*◌, ◌∙◌, ap, sym, arith}
 use Rattle.shop_attempt.specs.declared.attempts.ReadOf.{ReadOf}
-use Rattle.shop_order.specs.Lines.{cost_in}
-use Rattle.shop_order.proofs.Tabling.{line_at, sum_more}
+use Rattle.shop_order.specs.Table.{cost_in}
+use Rattle.shop_order.proofs.TableLemmas.{line_at, sum_more}
 use Rattle.shop_order.proofs.table.sum.Goals as goal
 
 pub loop-place-preserved : goal.loop-place-preserved

@@ -1,0 +1,126 @@
+-- Home: the drawn item, the reads of its promotion, and the page for a customer or for anyone.
+use Rattle.std.proofs.Common.{◌≡◌, ℕ, zero, suc, ◌+◌, ◌%◌, ◌≤◌, List, [], ◌∷◌, ◌++◌, length, map, drop, get_or, All, codes, Option, Some, None, refl, sym, ◌∙◌, ap, subst, inl, inr, arith}
+use Rattle.std.proofs.lemmas.List.Elements.{All-nil, All-cons}
+use Rattle.shop_model.specs.declared.page.Block.{Block}
+use Rattle.shop_model.specs.declared.page.Page.{Page}
+use Rattle.shop_model.specs.declared.refusal.Refusal.TheVariants.{NoCustomer}
+use Rattle.shop_model.specs.declared.requests.Home as home_asked
+use Rattle.shop_model.specs.declared.requests.IdsAsked.{IdsAsked}
+use Rattle.shop_model.specs.declared.requests.Request.TheVariants.{Home}
+use Rattle.shop_model.specs.declared.tables.Tables.{Tables}
+use Rattle.shop_model.specs.Catalogues.{Catalogue, catalogue}
+use Rattle.shop_model.specs.Checks.{check_there, check_customer}
+use Rattle.shop_model.specs.Lookups.{row_numbered}
+use Rattle.shop_model.specs.Rows.{CustomerRow}
+use Rattle.shop_model.specs.Show.{show, promo, home_page, customer_asked, refused_or}
+use Rattle.shop_history.specs.declared.acts.Entry.{Entry}
+use Rattle.shop_history.specs.declared.keys.Key.{Key}
+use Rattle.shop_history.specs.declared.keys.Key.TheVariants as key
+use Rattle.shop_history.specs.declared.keys.Row.{Row}
+use Rattle.shop_history.specs.declared.keys.Row.TheVariants as row
+use Rattle.shop_history.specs.Keys.{row_of, shown}
+use Rattle.shop_history.specs.Logs.{tables}
+use Rattle.shop_attempt.specs.declared.attempts.ReadOf.{ReadOf}
+use Rattle.shop_browse.specs.declared.attempted.Ask.{Ask}
+use Rattle.shop_browse.specs.declared.driver.Next.{Next}
+use Rattle.shop_browse.specs.declared.driver.Next.TheVariants.{Read, Show, Change, Never}
+use Rattle.shop_browse.specs.Driver.{keys_of, IsWhole, Fits, AsksFor, IsNext}
+use Rattle.shop_browse.specs.Footprints.{drawn_item, InFootprint}
+use Rattle.shop_browse.specs.Home.{drawn_key, FollowsHome, home_in, IsWelcome}
+use Rattle.shop_browse.specs.Labels.{HaveLabels, FollowsLabels, promoted_in}
+use Rattle.shop_browse.proofs.LabelsLemmas.{ShowsLabels, size_of, size_after, labels_fit, promotion_shown}
+
+-- the drawn item, after any log and in any tables of the catalogue
+
+pub drawn_after : (ask : Ask) (opening : Tables) (log : List Entry) → IsWhole ask → ask.index.now ≡ catalogue opening → drawn_key ask ≡ key.Item (drawn_item (tables opening log) ask.draw)
+drawn_after ask opening log whole named = ap (λ n. key.Item (1 + ask.draw % n)) (whole ∙ sym (size_after ask.index.now opening log named))
+
+drawn_here : (ask : Ask) (t : Tables) → IsWhole ask → catalogue t ≡ ask.index.now → drawn_key ask ≡ key.Item (drawn_item t ask.draw)
+drawn_here ask t whole named = ap (λ n. key.Item (1 + ask.draw % n)) (whole ∙ sym (size_of ask.index.now t named))
+
+pub promo_shown : (ask : Ask) (t : Tables) (ids : IdsAsked) (reads : List ReadOf) → IsWhole ask → HaveLabels (drawn_key ask) reads → Fits ask.index.now t reads
+    → promo t ids ask.draw ≡ map (promoted_in ids) (drop 1 reads)
+promo_shown ask t ids reads whole have fits =
+    sym (promotion_shown t ids ask.draw (drop 1 reads)
+    (subst (λ k. ShowsLabels t k (drop 1 reads)) (drawn_here ask t whole fits.named) (labels_fit ask.index.now t (drawn_key ask) reads have fits)))
+
+pub home_shown : (ask : Ask) (ids : IdsAsked) (customer : Option CustomerRow) (reads : List ReadOf) (page : Page) → IsWhole ask → HaveLabels (drawn_key ask) reads
+    → page ≡ home_in ids ask.draw customer (drop 1 reads) → (t : Tables) → Fits ask.index.now t reads → home_page t ids ask.draw customer ≡ page
+unfolding home_page home_in
+home_shown ask ids customer reads page whole have is t fits =
+    let links = promo_shown ask t ids reads whole have fits in
+    cc
+
+-- what Home shows by the number that is given, and by the row with it
+
+home_shows : (t : Tables) (asked : home_asked.Home) (draw : ℕ) (number : Option ℕ) → asked.ids.c ≡ number
+    → show t (Home asked) draw ≡ refused_or (check_customer t number) (Some (home_page t asked.ids draw (customer_asked t number)))
+home_shows t asked draw number is = ap (λ n. refused_or (check_customer t n) (Some (home_page t asked.ids draw (customer_asked t n)))) is
+
+number_shows : (t : Tables) (asked : home_asked.Home) (draw number : ℕ) (customer : Option CustomerRow) → asked.ids.c ≡ Some number → row_numbered t.customers number ≡ customer
+    → show t (Home asked) draw ≡ refused_or (check_there NoCustomer customer) (Some (home_page t asked.ids draw customer))
+number_shows t asked draw number customer is found =
+    home_shows t asked draw (Some number) is ∙ ap (λ o. refused_or (check_there NoCustomer o) (Some (home_page t asked.ids draw o))) found
+
+-- for anyone
+pub anyone_next : (asked : home_asked.Home) (ask : Ask) (round : ℕ) (reads : List ReadOf) (next : Next) → asked.ids.c ≡ None → IsWhole ask → IsWelcome asked.ids None ask round reads next
+    → IsNext (FollowsHome asked.ids.c ask) (Home asked) ask round reads next
+anyone_next asked ask round reads next none whole is = subst (λ c. IsNext (FollowsHome c ask) (Home asked) ask round reads next) (sym none) (by next is)
+  where
+    by : (n : Next) → IsWelcome asked.ids None ask round reads n → IsNext (FollowsHome None ask) (Home asked) ask round reads n
+    by (Read keys) is = is (Home asked) (λ opening log named. inr (drawn_after ask opening log whole named))
+    by (Show page) is = λ t fits. home_shows t asked ask.draw None none ∙ ap Some (is t fits)
+    by (Change act writes draft) is = absurd is
+    by Never is = absurd is
+
+-- the customer whose number is given, behind whom the promotion is read
+module _ (asked : home_asked.Home) (number : ℕ) (ask : Ask) (is_c : asked.ids.c ≡ Some number) where
+  pub asks_both : (round : ℕ) (reads : List ReadOf) (keys : List Key) → IsWhole ask → round ≡ 0 → FollowsHome asked.ids.c ask round reads → keys ≡ key.Customer number ∷ drawn_key ask ∷ []
+      → AsksFor (FollowsHome asked.ids.c ask) (Home asked) ask round reads keys
+  asks_both round reads keys whole is follows are = subst (λ c. AsksFor (FollowsHome c ask) (Home asked) ask round reads keys) (sym is_c) (record {
+    few = omega (arith, is);
+    goes_on = λ more of.
+        let none : reads ≡ [] = subst (λ r. FollowsHome (Some number) ask r reads) is (subst (λ c. FollowsHome c ask round reads) is_c follows) in
+        subst (λ r. FollowsHome (Some number) ask (suc r) (reads ++ more)) (sym is) (subst (λ l. FollowsHome (Some number) ask 1 (l ++ more)) (sym none) (begins more (of ∙ are)));
+    may = λ opening log were.
+        let P : Key → Type 0 = InFootprint opening log (Home asked) ask.draw in
+        subst (All P) (sym are) (All-cons P (key.Customer number) (drawn_key ask ∷ []) (inl (inl (number, is_c, refl)))
+        (All-cons P (drawn_key ask) [] (inl (inr (drawn_after ask opening log whole were.named))) (All-nil P)));
+  })
+    where
+      begins : (more : List ReadOf) → keys_of more ≡ key.Customer number ∷ drawn_key ask ∷ [] → FollowsHome (Some number) ask 1 more
+      begins [] of = absurd cc
+      begins (known ∷ more) of = (cc, cc)
+
+  pub known_reads : (round : ℕ) (reads : List ReadOf) (known : ReadOf) → (round ≡ 0 → ⊥) → FollowsHome asked.ids.c ask round reads → known ≡ get_or reads 0 known → reads ≡ known ∷ drop 1 reads
+  known_reads round reads known some follows at = by round reads some (subst (λ c. FollowsHome c ask round reads) is_c follows) at
+    where
+      by : (round : ℕ) (reads : List ReadOf) → (round ≡ 0 → ⊥) → FollowsHome (Some number) ask round reads → known ≡ get_or reads 0 known → reads ≡ known ∷ drop 1 reads
+      by zero reads some follows at = absurd (some refl)
+      by (suc round) [] some follows at = absurd follows
+      by (suc round) (first ∷ rest) some follows at = ap (λ (r : ReadOf). r ∷ rest) (sym at)
+
+  module _ (known : ReadOf) (key_is : known.key ≡ key.Customer number) where
+    shown_row : (t : Tables) (r : Row) → row_of t known.key ≡ known.row → known.row ≡ r → shown row.Customer (row_numbered t.customers number) ≡ r
+    shown_row t r shows is = ap (row_of t) (sym key_is) ∙ shows ∙ is
+
+    customer_found : (o : Option CustomerRow) (x : CustomerRow) → shown row.Customer o ≡ row.Customer x → o ≡ Some x
+    customer_found None x is = absurd cc
+    customer_found (Some y) x is = cc
+
+    pub known_next : (customer : CustomerRow) (round : ℕ) (reads : List ReadOf) (next : Next) → known.row ≡ row.Customer customer → IsWhole ask → (round ≡ 0 → ⊥) → IsWelcome asked.ids (Some customer) ask round reads next
+        → IsNext (FollowsHome (Some number) ask) (Home asked) ask round (known ∷ reads) next
+    known_next customer zero reads next is whole some welcome = absurd (some refl)
+    known_next customer (suc round) reads (Read keys) is whole some welcome =
+        let asks : AsksFor (FollowsLabels (drawn_key ask)) (Home asked) ask (suc round) reads keys = welcome (Home asked) (λ opening log named. inr (drawn_after ask opening log whole named)) in
+        record {
+          few = asks.few;
+          goes_on = λ more of. (key_is, asks.goes_on more of);
+          may = λ opening log were. asks.may opening log (record { named = were.named; sound = were.sound; are = were.are.1 });
+        }
+    known_next customer (suc round) reads (Show page) is whole some welcome = λ t fits.
+        let o : Option CustomerRow = row_numbered t.customers number in
+        number_shows t asked ask.draw number (Some customer) is_c (customer_found o customer (shown_row t (row.Customer customer) fits.shows.0 is))
+        ∙ ap Some (welcome t (record { sound = fits.sound; named = fits.named; shows = fits.shows.1 }))
+    known_next customer (suc round) reads (Change act writes draft) is whole some welcome = absurd welcome
+    known_next customer (suc round) reads Never is whole some welcome = absurd welcome

@@ -1,0 +1,204 @@
+-- Reads of labels: which ids they are of, that they may be read, and the links that they give.
+use Rattle.std.proofs.Common.{◌≡◌, ℕ, zero, suc, ◌+◌, ◌<◌, ◌≤◌, cond, true, false, List, [], ◌∷◌, ◌++◌, length, map, filter, take, drop, get_or, All, Option, Some, None, option_map, unwrap_or, refl, sym, ◌∙◌, ap, subst, inl, inr, arith}
+use Rattle.std.specs.declared.cmp.Ordering.{Ordering}
+use Rattle.std.specs.Ordering.{is_gt}
+use Rattle.std.proofs.lemmas.List.{append_assoc, length-map, map_more}
+use Rattle.std.proofs.lemmas.List.Elements.{All-nil, All-cons, All-map, All-filter, All-take}
+use Rattle.shop_model.specs.declared.page.Block.{Block}
+use Rattle.shop_model.specs.declared.requests.IdsAsked.{IdsAsked}
+use Rattle.shop_model.specs.declared.requests.Request.{Request}
+use Rattle.shop_model.specs.declared.requests.SearchKind.{SearchKind}
+use Rattle.shop_model.specs.declared.subject.Subject.{Subject}
+use Rattle.shop_model.specs.declared.tables.Tables.{Tables}
+use Rattle.shop_model.specs.Catalogues.{Catalogue, Naming, naming, catalogue, matches, by_title, found}
+use Rattle.shop_model.specs.Limits.{list_limit}
+use Rattle.shop_model.specs.Lookups.{row_numbered}
+use Rattle.shop_model.specs.Rankings.{Sale, put_among, in_order, in_subject, newer, newest, sold_lately, sales, better, best}
+use Rattle.shop_model.specs.Rows.{ItemRow}
+use Rattle.shop_model.specs.Show.{promoted, promo}
+use Rattle.shop_model.specs.Sound.{Has, Runs, Sound}
+use Rattle.shop_model.proofs.Lists.{all_head, all_tail, id_of_place}
+use Rattle.shop_history.specs.declared.acts.Entry.{Entry}
+use Rattle.shop_history.specs.declared.keys.Key.{Key}
+use Rattle.shop_history.specs.declared.keys.Key.TheVariants as key
+use Rattle.shop_history.specs.declared.keys.Row.{Row}
+use Rattle.shop_history.specs.declared.keys.Row.TheVariants as row
+use Rattle.shop_history.specs.Keys.{shown, label_of, row_of}
+use Rattle.shop_history.specs.Logs.{tables}
+use Rattle.shop_history.proofs.Places.{all_numbered}
+use Rattle.shop_attempt.specs.declared.attempts.ReadOf.{ReadOf}
+use Rattle.shop_attempt.specs.Reads.{Shows}
+use Rattle.shop_browse.specs.declared.attempted.Ask.{Ask}
+use Rattle.shop_browse.specs.Driver.{keys_of, Fits, AreSeen}
+use Rattle.shop_browse.specs.Footprints.{drawn_item, IsAbout, InFootprint}
+use Rattle.shop_browse.specs.Labels.{ids_in, HaveLabels, FollowsLabels, AsksLabels, title_in, promoted_in}
+use Rattle.shop_browse.proofs.Items.{same_size}
+
+-- what holds of all elements holds of all in order
+
+module _ {A : Type 0} (P : A → Type 0) where
+  all_put : (order : A → A → Ordering) (x : A) (xs : List A) → P x → All P xs → All P (put_among order x xs)
+  unfolding put_among
+  all_put order x [] is all = All-cons P x [] is all
+  all_put order x (y ∷ ys) is all =
+      elim (is_gt (order x y)) as (λ b. All P (cond b (y ∷ put_among order x ys) (x ∷ y ∷ ys))) [
+        | true ↦ All-cons P y (put_among order x ys) (all_head P y ys all) (all_put order x ys is (all_tail P y ys all))
+        | false ↦ All-cons P x (y ∷ ys) is all
+      ]
+
+  all_ordered : (order : A → A → Ordering) (xs : List A) → All P xs → All P (in_order order xs)
+  unfolding in_order
+  all_ordered order [] all = all
+  all_ordered order (x ∷ xs) all = all_put order x (in_order order xs) (all_head P x xs all) (all_ordered order xs (all_tail P x xs all))
+
+  -- so the ids of the first ones are as those of all
+  first_ids : (Q : ℕ → Type 0) (id : A → ℕ) (order : A → A → Ordering) (xs : List A) → ((x : A) → P x → Q (id x)) → All P xs → All Q (map id (take list_limit (in_order order xs)))
+  first_ids Q id order xs each all =
+      All-map Q id (take list_limit (in_order order xs))
+      (λ k d within. each _ (All-take P list_limit (in_order order xs) (all_ordered order xs all) k d within))
+
+-- the items that a row names are there
+
+ids_within : {A : Type 0} (id : A → ℕ) (rows : List A) → Runs (map id rows) → All (λ x. Has (length rows) (id x)) rows
+ids_within id rows runs k d within =
+    let at : id (get_or rows k d) ≡ 1 + k = id_of_place id rows k d runs within in
+    record { first = omega (arith, at); last = omega (arith, at, within) }
+
+module _ (t : Tables) (sound : Sound t) where
+  items_within : All (λ i. Has (length t.items) i.id) t.items
+  items_within = ids_within (λ (i : ItemRow). i.id) t.items sound.ids.items
+
+  subject_within : (subject : Subject) → All (λ i. Has (length t.items) i.id) (in_subject subject t.items)
+  subject_within subject = All-filter _ (λ (i : ItemRow). Has (length t.items) i.id) t.items items_within
+
+  newest_within : (subject : Subject) → All (Has (length t.items)) (newest t subject)
+  unfolding newest
+  newest_within subject =
+      first_ids (λ (i : ItemRow). Has (length t.items) i.id) (Has (length t.items)) (λ (i : ItemRow). i.id) newer (in_subject subject t.items) (λ i has. has) (subject_within subject)
+
+  best_within : (subject : Subject) → All (Has (length t.items)) (best t subject)
+  unfolding best
+  best_within subject =
+      let P : Sale → Type 0 = λ s. Has (length t.items) s.id in
+      let sale : ItemRow → Sale = λ i. record { id = i.id; units = sold_lately t i.id } in
+      let items : List ItemRow = in_subject subject t.items in
+      first_ids P (Has (length t.items)) (λ (s : Sale). s.id) better (sales t subject) (λ s has. has)
+      (All-filter _ P (map sale items) (All-map P sale items (subject_within subject)))
+
+  pub found_within : (kind : SearchKind) (text : List ℕ) → All (Has (length t.items)) (found (catalogue t) kind text)
+  unfolding found
+  found_within kind text =
+      let P : Naming → Type 0 = λ n. Has (length t.items) n.id in
+      first_ids P (Has (length t.items)) (λ (n : Naming). n.id) by_title (filter (matches (catalogue t) kind text) (map naming t.items)) (λ n has. has)
+      (All-filter _ P (map naming t.items) (All-map P naming t.items items_within))
+
+  related_within : (id : ℕ) (o : Option ItemRow) → row_numbered t.items id ≡ o → All (Has (length t.items)) (ids_in (shown row.Item o))
+  related_within id None is = All-nil (Has (length t.items))
+  related_within id (Some x) is = all_numbered (λ (i : ItemRow). All (Has (length t.items)) i.related) t.items id x is sound.names.related
+
+  none_named : {A : Type 0} (make : A → Row) → ((x : A) → ids_in (make x) ≡ []) → (o : Option A) → All (Has (length t.items)) (ids_in (shown make o))
+  none_named make others None = All-nil (Has (length t.items))
+  none_named make others (Some x) = subst (All (Has (length t.items))) (sym (others x)) (All-nil (Has (length t.items)))
+
+  named_within : (k : Key) → All (Has (length t.items)) (ids_in (row_of t k))
+  named_within (key.Item id) = related_within id (row_numbered t.items id) refl
+  named_within (key.Label id) = none_named (λ item. row.Label (label_of t item)) (λ x. refl) (row_numbered t.items id)
+  named_within (key.Customer id) = none_named row.Customer (λ x. refl) (row_numbered t.customers id)
+  named_within (key.Cart id) = none_named row.Cart (λ x. refl) (row_numbered t.carts id)
+  named_within (key.NewIn subject) = newest_within subject
+  named_within (key.BestIn subject) = best_within subject
+
+-- tables have as many items as their catalogue
+pub size_of : (c : Catalogue) (t : Tables) → catalogue t ≡ c → length t.items ≡ length c.items
+size_of c t named = sym (length-map t.items naming) ∙ ap (λ (d : Catalogue). length d.items) named
+
+pub size_after : (c : Catalogue) (opening : Tables) (log : List Entry) → c ≡ catalogue opening → length (tables opening log).items ≡ length c.items
+size_after c opening log named = same_size opening log ∙ size_of c opening (sym named)
+
+-- the labels of items that there are may be read by any request
+pub labels_may : (c : Catalogue) (opening : Tables) (log : List Entry) (request : Request) (draw : ℕ) (ids : List ℕ) → c ≡ catalogue opening → All (Has (length c.items)) ids
+    → All (InFootprint opening log request draw) (map key.Label ids)
+labels_may c opening log request draw ids named within =
+    All-map (InFootprint opening log request draw) key.Label ids
+    (λ k d lt. inr (get_or ids k d, subst (λ n. Has n (get_or ids k d)) (sym (size_after c opening log named)) (within k d lt), refl))
+
+-- what is asked for next
+
+pub asks_labels : (k : Key) (ask : Ask) (round : ℕ) (reads : List ReadOf) (first : ReadOf) (keys : List Key) → round ≡ 1 → FollowsLabels k round reads → AreSeen ask.index.now reads → first ≡ get_or reads 0 first
+    → keys ≡ map key.Label (ids_in first.row) → AsksLabels k ask round reads (Some keys)
+asks_labels k ask zero reads first keys is follows seen at are request about = absurd (omega (arith, is))
+asks_labels k ask (suc zero) [] first keys is follows seen at are request about = absurd cc
+asks_labels k ask (suc zero) (read ∷ []) first keys is follows seen at are request about =
+    let c : Catalogue = ask.index.now in
+    let t : Tables = seen.0.0 in
+    let same : keys ≡ map key.Label (ids_in read.row) = are ∙ ap (λ (r : ReadOf). map key.Label (ids_in r.row)) at in
+    let within : All (Has (length c.items)) (ids_in read.row)
+    = subst (λ n. All (Has n) (ids_in read.row)) (size_of c t seen.0.1.named)
+      (subst (λ (r : Row). All (Has (length t.items)) (ids_in r)) seen.0.1.shows.0 (named_within t seen.0.1.sound read.key)) in
+    record {
+      few = omega arith;
+      goes_on = λ more of. record { first = read; labels = more; reads_are = refl; key_is = cc; labels_are = of ∙ same };
+      may = λ opening log were. subst (All (InFootprint opening log request ask.draw)) (sym same) (labels_may c opening log request ask.draw (ids_in read.row) were.named within);
+    }
+asks_labels k ask (suc zero) (read ∷ other ∷ reads) first keys is follows seen at are request about = absurd cc
+asks_labels k ask (suc (suc round)) reads first keys is follows seen at are request about = absurd (omega (arith, is))
+
+-- what tables show of the labels
+
+-- reads of the labels of the items that the row of a key names
+pub record ShowsLabels (t : Tables) (k : Key) (labels : List ReadOf) : Type 0 where
+  pub keys_are : keys_of labels ≡ map key.Label (ids_in (row_of t k))
+  pub shows : Shows t labels
+
+pub labels_fit : (c : Catalogue) (t : Tables) (k : Key) (reads : List ReadOf) → HaveLabels k reads → Fits c t reads → ShowsLabels t k (drop 1 reads)
+labels_fit c t k [] have fits = absurd cc
+labels_fit c t k (first ∷ labels) have fits =
+    let row_is : have.first.row ≡ row_of t k = cc in
+    let same : have.labels ≡ labels = cc in
+    record { keys_are = subst (λ l. keys_of l ≡ map key.Label (ids_in (row_of t k))) same (have.labels_are ∙ ap (λ (r : Row). map key.Label (ids_in r)) row_is); shows = fits.shows.1 }
+
+-- what is made of each read of a label is what is made of the item
+module _ {B : Type 0} (t : Tables) (make : ReadOf → B) (of : ℕ → B) (one : (read : ReadOf) (id : ℕ) → read.key ≡ key.Label id → row_of t read.key ≡ read.row → make read ≡ of id) where
+  pub each_shown : (ids : List ℕ) (labels : List ReadOf) → keys_of labels ≡ map key.Label ids → Shows t labels → map make labels ≡ map of ids
+  each_shown [] [] are shows = refl
+  each_shown [] (read ∷ labels) are shows = absurd cc
+  each_shown (id ∷ ids) [] are shows = absurd cc
+  each_shown (id ∷ ids) (read ∷ labels) are shows =
+      let head : read.key ≡ key.Label id = cc are in
+      let tail : keys_of labels ≡ map key.Label ids = cc are in
+      let first : make read ≡ of id = one read id head shows.0 in
+      let rest : map make labels ≡ map of ids = each_shown ids labels tail shows.1 in
+      cc (first, rest)
+
+-- one more, behind those of the first reads
+pub blocks_more : (make : ReadOf → Block) (labels : List ReadOf) (i : ℕ) (read : ReadOf) (old before after : List Block) → i < length labels → read ≡ get_or labels i read
+    → before ≡ old ++ map make (take i labels) → after ≡ before ++ make read ∷ [] → after ≡ old ++ map make (take (i + 1) labels)
+blocks_more make labels i read old before after within at so_far pushed =
+    let first : List Block = map make (take i labels) in
+    pushed
+    ∙ ap (λ (l : List Block). l ++ make read ∷ []) so_far
+    ∙ append_assoc old first (make read ∷ [])
+    ∙ ap (λ (l : List Block). old ++ l) (ap (λ (r : ReadOf). first ++ make r ∷ []) at ∙ sym (map_more make labels i read within))
+
+-- the links of a promotion
+
+title_shown : (t : Tables) (o : Option ItemRow) → title_in (shown (λ item. row.Label (label_of t item)) o) ≡ unwrap_or (option_map (λ i. i.title) o) []
+title_shown t None = refl
+title_shown t (Some x) = refl
+
+promoted_shown : (t : Tables) (ids : IdsAsked) (read : ReadOf) (id : ℕ) → read.key ≡ key.Label id → row_of t read.key ≡ read.row → promoted_in ids read ≡ promoted t ids id
+unfolding promoted
+promoted_shown t ids read id is shows =
+    let title = title_shown t (row_numbered t.items id) in
+    let row_is : read.row ≡ row_of t (key.Label id) = sym shows ∙ ap (row_of t) is in
+    cc
+
+related_shown : (o : Option ItemRow) → ids_in (shown row.Item o) ≡ unwrap_or (option_map (λ i. i.related) o) []
+related_shown None = refl
+related_shown (Some x) = refl
+
+pub promotion_shown : (t : Tables) (ids : IdsAsked) (draw : ℕ) (labels : List ReadOf) → ShowsLabels t (key.Item (drawn_item t draw)) labels → map (promoted_in ids) labels ≡ promo t ids draw
+unfolding promo
+promotion_shown t ids draw labels shows =
+    each_shown t (promoted_in ids) (promoted t ids) (promoted_shown t ids) (ids_in (row_of t (key.Item (drawn_item t draw)))) labels shows.keys_are shows.shows
+    ∙ ap (map (promoted t ids)) (related_shown (row_numbered t.items (drawn_item t draw)))

@@ -1,0 +1,55 @@
+-- The page of a list, by reads of the labels on it, is that of the tables that show them.
+use Rattle.std.proofs.Common.{◌≡◌, ℕ, List, [], ◌∷◌, ◌++◌, length, map, drop, codes, Option, Some, None, option_map, unwrap_or, refl, sym, ◌∙◌, ap, arith}
+use Rattle.shop_model.specs.declared.page.Block.{Block}
+use Rattle.shop_model.specs.declared.page.Block.TheVariants.{Para}
+use Rattle.shop_model.specs.declared.requests.IdsAsked.{IdsAsked}
+use Rattle.shop_model.specs.declared.tables.Tables.{Tables}
+use Rattle.shop_model.specs.Catalogues.{Catalogue}
+use Rattle.shop_model.specs.Lines.{line_label, list_line, list_blocks, list_page}
+use Rattle.shop_model.specs.Lookups.{row_numbered, author_of}
+use Rattle.shop_model.specs.Rows.{ItemRow}
+use Rattle.shop_model.specs.Targets.{nav}
+use Rattle.shop_history.specs.declared.keys.Key.{Key}
+use Rattle.shop_history.specs.declared.keys.Key.TheVariants as key
+use Rattle.shop_history.specs.declared.keys.Row.TheVariants as row
+use Rattle.shop_history.specs.Keys.{shown, label_of, row_of}
+use Rattle.shop_attempt.specs.declared.attempts.ReadOf.{ReadOf}
+use Rattle.shop_attempt.specs.Reads.{Shows}
+use Rattle.shop_browse.specs.Driver.{keys_of, Fits}
+use Rattle.shop_browse.specs.Labels.{ids_in, HaveLabels}
+use Rattle.shop_browse.specs.Lists.{label_in, line_in, lines_in, page_in}
+use Rattle.shop_browse.proofs.LabelsLemmas.{each_shown, labels_fit}
+
+label_shown : (t : Tables) (o : Option ItemRow)
+    → label_in (shown (λ item. row.Label (label_of t item)) o) ≡ unwrap_or (option_map (λ i. line_label i.title (author_of t i).first (author_of t i).last) o) []
+label_shown t None = refl
+label_shown t (Some x) = refl
+
+line_shown : (t : Tables) (ids : IdsAsked) (read : ReadOf) (id : ℕ) → read.key ≡ key.Label id → row_of t read.key ≡ read.row → line_in ids read ≡ list_line t ids id
+line_shown t ids read id is shows =
+    let label = label_shown t (row_numbered t.items id) in
+    let row_is = sym shows ∙ ap (row_of t) is in
+    cc
+
+lines_shown : (t : Tables) (ids : IdsAsked) (items : List ℕ) (labels : List ReadOf) → keys_of labels ≡ map key.Label items → Shows t labels → lines_in ids labels ≡ list_blocks t ids items
+lines_shown t ids [] [] are shows = refl
+lines_shown t ids [] (read ∷ labels) are shows = absurd cc
+lines_shown t ids (item ∷ items) [] are shows = absurd cc
+lines_shown t ids (item ∷ items) (read ∷ labels) are shows = each_shown t (line_in ids) (list_line t ids) (line_shown t ids) (item ∷ items) (read ∷ labels) are shows
+
+pub page_shown : (t : Tables) (ids : IdsAsked) (title : List ℕ) (head : List Block) (items : List ℕ) (labels : List ReadOf) → keys_of labels ≡ map key.Label items → Shows t labels
+    → list_page t ids title head items ≡ page_in ids title head labels
+page_shown t ids title head items labels are shows =
+    ap (λ (lines : List Block). record { status = 200; title = title; blocks = head ++ lines ++ nav ids }) (sym (lines_shown t ids items labels are shows))
+
+-- the list of a key
+pub list_shown : (c : Catalogue) (t : Tables) (k : Key) (ids : IdsAsked) (title : List ℕ) (head : List Block) (reads : List ReadOf) → HaveLabels k reads → Fits c t reads
+    → list_page t ids title head (ids_in (row_of t k)) ≡ page_in ids title head (drop 1 reads)
+list_shown c t k ids title head reads have fits =
+    let labels = labels_fit c t k reads have fits in
+    page_shown t ids title head (ids_in (row_of t k)) (drop 1 reads) labels.keys_are labels.shows
+
+-- the word for no lines
+pub no_lines : (ids : IdsAsked) (labels : List ReadOf) → length labels ≡ 0 → lines_in ids labels ≡ Para (codes "Nothing found.") ∷ []
+no_lines ids [] none = refl
+no_lines ids (read ∷ labels) none = absurd (omega (arith, none))

@@ -1,0 +1,53 @@
+-- What Search Results asks for, and the page of what was found.
+use Rattle.std.proofs.Common.{◌≡◌, ℕ, zero, suc, List, [], ◌∷◌, ◌++◌, length, map, All, codes, Some, refl, sym, ◌∙◌, ap, subst, arith}
+use Rattle.shop_model.specs.declared.page.Block.{Block}
+use Rattle.shop_model.specs.declared.page.Block.TheVariants.{Heading, Para}
+use Rattle.shop_model.specs.declared.page.Page.{Page}
+use Rattle.shop_model.specs.declared.requests.Request.TheVariants.{SearchResults}
+use Rattle.shop_model.specs.declared.tables.Tables.{Tables}
+use Rattle.shop_model.specs.Catalogues.{Catalogue, found}
+use Rattle.shop_model.specs.Kinds.{kind_name}
+use Rattle.shop_model.specs.Lines.{search_results}
+use Rattle.shop_model.specs.SearchAsked.{SearchAsked}
+use Rattle.shop_model.specs.Show.{show}
+use Rattle.shop_model.specs.Sound.{Has}
+use Rattle.shop_history.specs.declared.keys.Key.{Key}
+use Rattle.shop_history.specs.declared.keys.Key.TheVariants.{Label}
+use Rattle.shop_attempt.specs.declared.attempts.ReadOf.{ReadOf}
+use Rattle.shop_browse.specs.declared.attempted.Ask.{Ask}
+use Rattle.shop_browse.specs.Driver.{keys_of, Fits, AsksFor}
+use Rattle.shop_browse.specs.Footprints.{InFootprint}
+use Rattle.shop_browse.specs.Lists.{page_in}
+use Rattle.shop_browse.specs.SearchResults.{FollowsSearch}
+use Rattle.shop_browse.proofs.LabelsLemmas.{size_of, labels_may, found_within}
+use Rattle.shop_browse.proofs.ListsLemmas.{page_shown}
+
+pub asks_found : (asked : SearchAsked) (ask : Ask) (round : ℕ) (reads : List ReadOf) (keys : List Key) → round ≡ 0 → FollowsSearch asked ask round reads
+    → keys ≡ map Label (found ask.index.now asked.kind asked.text) → AsksFor (FollowsSearch asked ask) (SearchResults asked) ask round reads keys
+asks_found asked ask zero reads keys is none are = record {
+  few = omega arith;
+  goes_on = λ more of. subst (λ l. FollowsSearch asked ask 1 (l ++ more)) (sym none) (of ∙ are);
+  may = λ opening log were.
+      let t : Tables = were.sound.0 in
+      let ids : List ℕ = found ask.index.now asked.kind asked.text in
+      let there : All (Has (length t.items)) ids
+      = subst (λ (c : Catalogue). All (Has (length t.items)) (found c asked.kind asked.text)) were.sound.1.named (found_within t were.sound.1.sound asked.kind asked.text) in
+      subst (All (InFootprint opening log (SearchResults asked) ask.draw)) (sym are)
+      (labels_may ask.index.now opening log (SearchResults asked) ask.draw ids were.named (subst (λ n. All (Has n) ids) (size_of ask.index.now t were.sound.1.named) there));
+}
+asks_found asked ask (suc round) reads keys is none are = absurd (omega (arith, is))
+
+found_follows : (asked : SearchAsked) (ask : Ask) (round : ℕ) (reads : List ReadOf) → (round ≡ 0 → ⊥) → FollowsSearch asked ask round reads → keys_of reads ≡ map Label (found ask.index.now asked.kind asked.text)
+found_follows asked ask zero reads some follows = absurd (some refl)
+found_follows asked ask (suc round) reads some follows = follows
+
+pub found_shown : (asked : SearchAsked) (ask : Ask) (round : ℕ) (reads : List ReadOf) (head : List Block) (page : Page) → (round ≡ 0 → ⊥) → FollowsSearch asked ask round reads
+    → head ≡ Heading (codes "Search Results") ∷ Para (kind_name asked.kind ++ codes ": " ++ asked.text) ∷ [] → page ≡ page_in asked.ids (codes "Search Results") head reads
+    → (t : Tables) → Fits ask.index.now t reads → show t (SearchResults asked) ask.draw ≡ Some page
+unfolding search_results
+found_shown asked ask round reads head page some follows head_is is t fits =
+    let title : List ℕ = codes "Search Results" in
+    let first : List Block = Heading title ∷ Para (kind_name asked.kind ++ codes ": " ++ asked.text) ∷ [] in
+    let named = ap (λ (c : Catalogue). map Label (found c asked.kind asked.text)) (sym fits.named) in
+    ap Some (page_shown t asked.ids title first _ reads (found_follows asked ask round reads some follows ∙ named) fits.shows
+    ∙ sym (is ∙ ap (λ (h : List Block). page_in asked.ids title h reads) head_is))

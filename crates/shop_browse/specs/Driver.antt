@@ -1,0 +1,100 @@
+-- The driver of interactions: what one may do next by what it has read, and the attempt of what it decides.
+use Rattle.std.specs.Prelude.{◌≡◌, ℕ, suc, ◌≤◌, List, [], ◌∷◌, ◌++◌, length, map, All, Option, Some, None}
+use Rattle.shop_model.specs.declared.requests.Request.{Request}
+use Rattle.shop_model.specs.declared.tables.Tables.{Tables}
+use Rattle.shop_model.specs.Catalogues.{Catalogue, catalogue}
+use Rattle.shop_model.specs.Limits.{stamp_limit}
+use Rattle.shop_model.specs.Show.{show}
+use Rattle.shop_model.specs.Sound.{Sound}
+use Rattle.shop_history.specs.declared.acts.Act.{Act}
+use Rattle.shop_history.specs.declared.acts.Entry.{Entry}
+use Rattle.shop_history.specs.declared.drafts.Draft.{Draft}
+use Rattle.shop_history.specs.declared.drafts.Draft.TheVariants.{Fixed}
+use Rattle.shop_history.specs.declared.keys.Key.{Key}
+use Rattle.shop_history.specs.Acts.{IsActOf}
+use Rattle.shop_attempt.specs.declared.attempts.Attempt.{Attempt}
+use Rattle.shop_attempt.specs.declared.attempts.ReadOf.{ReadOf}
+use Rattle.shop_attempt.specs.declared.attempts.Write.{Write}
+use Rattle.shop_attempt.specs.Faithful.{Makes}
+use Rattle.shop_attempt.specs.Reads.{Shows, AreTrue, AreReadSince}
+use Rattle.shop_attempt.specs.Seats.{Seat}
+use Rattle.shop_browse.specs.declared.attempted.Ask.{Ask}
+use Rattle.shop_browse.specs.declared.attempted.Attempted.{Attempted}
+use Rattle.shop_browse.specs.declared.attempted.Attempted.TheVariants.{Ready, Contradiction, Memory}
+use Rattle.shop_browse.specs.declared.driver.Next.{Next}
+use Rattle.shop_browse.specs.declared.driver.Next.TheVariants.{Read, Show, Change, Never}
+use Rattle.shop_browse.specs.Attempts.{Becomes}
+use Rattle.shop_browse.specs.Footprints.{InFootprint}
+
+-- the keys that were read, in order
+abbrev pub keys_of : List ReadOf → List Key
+keys_of reads = map (λ r. r.key) reads
+
+-- sound tables of this catalogue that show what was read
+pub record Fits (c : Catalogue) (t : Tables) (reads : List ReadOf) : Type 0 where
+  pub sound : Sound t
+  pub named : catalogue t ≡ c
+  pub shows : Shows t reads
+
+-- each of these rows was shown by some sound tables of the catalogue
+abbrev pub AreSeen : Catalogue → List ReadOf → Type 0
+AreSeen c [] = Unit {0}
+AreSeen c (read ∷ reads) = ((t : Tables) × Fits c t (read ∷ [])) × AreSeen c reads
+
+-- the scale of an ask has as many items as its catalogue
+abbrev pub IsWhole : Ask → Type 0
+IsWhole ask = ask.scale.now.items ≡ length ask.index.now.items
+
+-- a log over an opening of this catalogue, which some sound tables have, of which the reads are true
+pub record WereRead (c : Catalogue) (opening : Tables) (log : List Entry) (reads : List ReadOf) : Type 0 where
+  pub named : c ≡ catalogue opening
+  pub sound : (t : Tables) × Fits c t []
+  pub are : AreTrue opening log reads
+
+-- after whichever log of which the reads are true, the request may read these rows
+abbrev pub MayRead : Request → Ask → List ReadOf → List Key → Type 0
+MayRead request ask reads keys =
+    (opening : Tables) (log : List Entry)
+    → WereRead ask.index.now opening log reads
+    → All (InFootprint opening log request ask.draw) keys
+
+-- the rows that are asked for after so many rounds: reads of them go on with those before, few rounds
+-- are made, and the request may read them
+pub record AsksFor (follows : ℕ → List ReadOf → Type 0) (request : Request) (ask : Ask) (round : ℕ) (reads : List ReadOf) (keys : List Key) : Type 0 where
+  pub few : round ≤ 5
+  pub goes_on : (more : List ReadOf) → keys_of more ≡ keys → follows (suc round) (reads ++ more)
+  pub may : MayRead request ask reads keys
+
+-- the act does the request, and the writes and the draft are those of the act in these tables, at any stamp
+pub record IsChange (request : Request) (ask : Ask) (reads : List ReadOf) (act : Act) (writes : List Write) (draft : Draft) : Type 0 where
+  pub does : IsActOf request ask.draw act
+  pub makes : (t : Tables) (stamp : ℕ) → Fits ask.index.now t reads → stamp ≤ stamp_limit → Makes t stamp act writes
+  pub becomes : (t : Tables) (stamp : ℕ) → Fits ask.index.now t reads → stamp ≤ stamp_limit → Becomes t stamp act draft
+
+-- what is done next is right in whichever tables fit what was read
+abbrev pub IsNext : (ℕ → List ReadOf → Type 0) → Request → Ask → ℕ → List ReadOf → Next → Type 0
+IsNext follows request ask round reads (Read keys) = AsksFor follows request ask round reads keys
+IsNext follows request ask round reads (Show page) =
+    (t : Tables) → Fits ask.index.now t reads → show t request ask.draw ≡ Some page
+IsNext follows request ask round reads (Change act writes draft) = IsChange request ask reads act writes draft
+IsNext follows request ask round reads Never = (t : Tables) → Fits ask.index.now t reads → ⊥
+
+-- these rows were read one after another, behind others, and each was shown by sound tables
+pub record AddsReads (start now : Seat) (keys : List Key) (old new : List ReadOf) : Type 0 where
+  pub more : List ReadOf
+  pub added : new ≡ old ++ more
+  pub keys_are : keys_of more ≡ keys
+  pub since : AreReadSince start now more
+  pub seen : AreSeen (catalogue now.opening) more
+
+-- the attempt with these reads, and with this act and its writes
+abbrev pub attempt_with : Ask → List ReadOf → Option (List Write) → Option Act → Attempt
+attempt_with ask reads writes act =
+    record { reads = reads; moment = ask.moment; draw = ask.draw; writes = writes; act = act }
+
+-- the attempt of what was decided
+abbrev pub attempted_by : Ask → List ReadOf → Next → Attempted
+attempted_by ask reads (Read keys) = Memory
+attempted_by ask reads (Show page) = Ready (attempt_with ask reads None None) (Fixed page)
+attempted_by ask reads (Change act writes draft) = Ready (attempt_with ask reads (Some writes) (Some act)) draft
+attempted_by ask reads Never = Contradiction (attempt_with ask reads None None)

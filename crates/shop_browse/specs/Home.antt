@@ -1,0 +1,53 @@
+-- What Home reads, and what it does by the reads of its promotion.
+use Rattle.std.specs.Prelude.{◌≡◌, ℕ, ◌+◌, ◌%◌, zero, suc, List, [], ◌∷◌, ◌++◌, map, codes, Option, Some, None}
+use Rattle.shop_model.specs.declared.page.Block.TheVariants.{Heading}
+use Rattle.shop_model.specs.declared.page.Page.{Page}
+use Rattle.shop_model.specs.declared.requests.IdsAsked.{IdsAsked}
+use Rattle.shop_model.specs.declared.subject.Subject.TheVariants.{Arts}
+use Rattle.shop_model.specs.declared.tables.Tables.{Tables}
+use Rattle.shop_model.specs.Rows.{CustomerRow}
+use Rattle.shop_model.specs.Show.{home_page, greetings, subject_links}
+use Rattle.shop_model.specs.Subjects.{subjects}
+use Rattle.shop_model.specs.Targets.{nav}
+use Rattle.shop_model.specs.Words.{entry}
+use Rattle.shop_history.specs.declared.keys.Key.{Key}
+use Rattle.shop_history.specs.declared.keys.Key.TheVariants.{Item, Customer}
+use Rattle.shop_attempt.specs.declared.attempts.ReadOf.{ReadOf}
+use Rattle.shop_browse.specs.declared.attempted.Ask.{Ask}
+use Rattle.shop_browse.specs.declared.driver.Next.{Next}
+use Rattle.shop_browse.specs.declared.driver.Next.TheVariants.{Read, Show, Change, Never}
+use Rattle.shop_browse.specs.Driver.{Fits}
+use Rattle.shop_browse.specs.Labels.{FollowsLabels, AsksLabels, promoted_in}
+
+-- the key of the item that the word draws
+abbrev pub drawn_key : Ask → Key
+drawn_key ask = Item (1 + ask.draw % ask.scale.now.items)
+
+-- the customer whose number is given, first; then the drawn item, and the labels of those that are related to it
+abbrev pub FollowsHome : Option ℕ → Ask → ℕ → List ReadOf → Type 0
+FollowsHome None ask round reads = FollowsLabels (drawn_key ask) round reads
+FollowsHome (Some number) ask zero reads = reads ≡ []
+FollowsHome (Some number) ask (suc round) [] = ⊥
+FollowsHome (Some number) ask (suc round) (known ∷ reads) =
+    (known.key ≡ Customer number) × FollowsLabels (drawn_key ask) (suc round) reads
+
+-- the page for a customer or for anyone, with a promotion by these labels
+unfoldable pub home_in : IdsAsked → ℕ → Option CustomerRow → List ReadOf → Page
+home_in ids draw customer labels = record {
+  status = 200;
+  title = codes "Home";
+  blocks =
+      Heading (codes "Welcome")
+      ∷ greetings customer
+      ++ map (promoted_in ids) labels
+      ++ subject_links (entry Arts subjects draw) ids
+      ++ nav ids;
+}
+
+-- what is done next by the reads of the promotion, for a customer or for anyone
+abbrev pub IsWelcome : IdsAsked → Option CustomerRow → Ask → ℕ → List ReadOf → Next → Type 0
+IsWelcome ids customer ask round reads (Read keys) = AsksLabels (drawn_key ask) ask round reads (Some keys)
+IsWelcome ids customer ask round reads (Show page) =
+    (t : Tables) → Fits ask.index.now t reads → home_page t ids ask.draw customer ≡ page
+IsWelcome ids customer ask round reads (Change act writes draft) = ⊥
+IsWelcome ids customer ask round reads Never = ⊥

@@ -1,0 +1,307 @@
+-- Shopping Cart: what it may read, and the change that it makes by what it has read.
+use Rattle.std.proofs.Common.{◌≡◌, ℕ, zero, suc, ◌+◌, ◌%◌, List, [], ◌∷◌, ◌++◌, length, take, drop, map, get_or, All, Option, Some, None, IfSome, option_map, unwrap_or, refl, sym, ◌∙◌, ap, subst, inl, inr, arith}
+use Rattle.std.proofs.lemmas.Bool.{cond-false, ne_eqb}
+use Rattle.std.proofs.lemmas.List.{append-nil}
+use Rattle.std.proofs.lemmas.List.Elements.{All-nil, All-cons, All-map}
+use Rattle.shop_model.specs.declared.page.Page.{Page}
+use Rattle.shop_model.specs.declared.refusal.Refusal.{Refusal}
+use Rattle.shop_model.specs.declared.requests.Request.TheVariants.{CartRequest}
+use Rattle.shop_model.specs.declared.tables.Tables.{Tables}
+use Rattle.shop_model.specs.CartAsked.{CartAsked}
+use Rattle.shop_model.specs.Carts.{set_lines, wanted, cart_lines, check_cart, check_asked, check_lines, lines_named, lines_after, cart_meant, carts_with, cart_page, ids_with}
+use Rattle.shop_model.specs.Lookups.{row_numbered}
+use Rattle.shop_model.specs.Refusals.{page_of}
+use Rattle.shop_model.specs.Rows.{CartRow}
+use Rattle.shop_model.specs.Show.{show, refused_or}
+use Rattle.shop_model.specs.Sound.{Sound, IsFit}
+use Rattle.shop_history.specs.declared.acts.Act.TheVariants.{Cart}
+use Rattle.shop_history.specs.declared.acts.Ids.{Ids}
+use Rattle.shop_history.specs.declared.drafts.Draft.TheVariants as draft
+use Rattle.shop_history.specs.declared.drafts.Waiting.{Waiting}
+use Rattle.shop_history.specs.declared.acts.Entry.{Entry}
+use Rattle.shop_history.specs.declared.keys.Key.{Key}
+use Rattle.shop_history.specs.declared.keys.Key.TheVariants as key
+use Rattle.shop_history.specs.declared.keys.Row.{Row}
+use Rattle.shop_history.specs.declared.keys.Row.TheVariants as row
+use Rattle.shop_history.specs.Acts.{play}
+use Rattle.shop_history.specs.Drafts.{filled, HasIds}
+use Rattle.shop_history.specs.Drawing.{new_id, new_ids}
+use Rattle.shop_history.specs.Keys.{row_of, shown}
+use Rattle.shop_history.specs.Logs.{history, tables}
+use Rattle.shop_history.proofs.Drawing.{id_pushed}
+use Rattle.shop_history.proofs.Places.{is_there, all_numbered}
+use Rattle.shop_attempt.specs.declared.attempts.ReadOf.{ReadOf}
+use Rattle.shop_attempt.specs.Faithful.{Makes}
+use Rattle.shop_attempt.specs.Reads.{Shows, AreTrue}
+use Rattle.shop_attempt.specs.Writes.{put_row}
+use Rattle.shop_browse.specs.declared.attempted.Ask.{Ask}
+use Rattle.shop_browse.specs.declared.driver.Next.{Next}
+use Rattle.shop_browse.specs.Attempts.{Becomes}
+use Rattle.shop_browse.specs.Driver.{keys_of, Fits, AreSeen, IsWhole, WereRead, MayRead, AsksFor, IsNext}
+use Rattle.shop_browse.specs.Footprints.{drawn_item, IsAmong, WasOnCart, LeavesNoLine, IsCartItem, InFootprint}
+use Rattle.shop_browse.proofs.LabelsLemmas.{size_of, size_after}
+use Rattle.shop_order.specs.Drafts.{IsCartOf, cart_draft}
+use Rattle.shop_order.specs.ShoppingCart.{cart_keys, cart_reads, IsNamed, IsFitRow, IsFitRead, lines_in, begun_with, MakesOfCart, AreItems, FollowsItems, FollowsNamed, FollowsCart, put_lines, IsChangeTo}
+use Rattle.shop_order.proofs.CartsLemmas.{made_on}
+use Rattle.shop_order.proofs.DraftsLemmas.{becomes_page, asks_cart_alone}
+
+-- the cart that was read
+
+-- the cart of the id that is named
+record IsReadOfNamed (named : Option ℕ) (cart : ReadOf) : Type 0 where
+  id : ℕ
+  named_is : named ≡ Some id
+  key_is : cart.key ≡ key.Cart id
+
+read_of_named : (named : Option ℕ) (cart : ReadOf) → IsNamed named (Some cart) → IsReadOfNamed named cart
+read_of_named None cart is = absurd cc
+read_of_named (Some id) cart is = record { id = id; named_is = refl; key_is = cc }
+
+cart_found : (o : Option CartRow) (cart : CartRow) → shown row.Cart o ≡ row.Cart cart → o ≡ Some cart
+cart_found None cart is = absurd cc
+cart_found (Some other) cart is = cc
+
+fit_shown : (t : Tables) (id : ℕ) (o : Option CartRow) → row_numbered t.carts id ≡ o → Sound t → IsFitRow (shown row.Cart o)
+fit_shown t id None is sound = tt
+fit_shown t id (Some cart) is sound = all_numbered IsFit t.carts id cart is sound.carts
+
+-- sound tables show a fit cart
+pub fit_seen : (asked : CartAsked) (ask : Ask) (cart : Option ReadOf) (items : List ReadOf) → IsNamed asked.ids.cart cart → AreSeen ask.index.now (cart_reads cart ++ items) → IsFitRead cart
+fit_seen asked ask None items named seen = tt
+fit_seen asked ask (Some read) items named seen =
+    let of : IsReadOfNamed asked.ids.cart read = read_of_named asked.ids.cart read named in
+    let t : Tables = seen.0.0 in
+    subst IsFitRow (ap (row_of t) (sym of.key_is) ∙ seen.0.1.shows.0) (fit_shown t of.id (row_numbered t.carts of.id) refl seen.0.1.sound)
+
+-- what may be read
+
+was_on : (opening : Tables) (log : List Entry) (named : Option ℕ) (read : ReadOf) (r : Row) (item : ℕ) → read.row ≡ r → IsNamed named (Some read) → AreTrue opening log (read ∷ []) → IsAmong item (lines_in r)
+    → (id : ℕ) × (named ≡ Some id) × WasOnCart opening log id item
+unfolding history
+was_on opening log named read (row.Cart cart) item row_is is are among =
+    let of : IsReadOfNamed named read = read_of_named named read is in
+    let t : Tables = tables opening (take read.version log) in (
+      of.id,
+      of.named_is,
+      record {
+        front = read.version;
+        row = cart;
+        there = cart_found (row_numbered t.carts of.id) cart (ap (row_of t) (sym of.key_is) ∙ are.0.row_is ∙ row_is);
+        line = among;
+      },
+    )
+was_on opening log named read _ item row_is is are among = absurd cc
+
+old_on : (opening : Tables) (log : List Entry) (asked : CartAsked) (draw : ℕ) (cart : Option ReadOf) (item : ℕ) → IsNamed asked.ids.cart cart → AreTrue opening log (cart_reads cart)
+    → IsAmong item (begun_with cart) → IsCartItem opening log asked draw item
+old_on opening log asked draw None item is are among = absurd cc
+old_on opening log asked draw (Some read) item is are among = inr (inl (was_on opening log asked.ids.cart read read.row item refl is are among))
+
+-- a request whose cart leaves no line
+leaves_none : (opening : Tables) (log : List Entry) (asked : CartAsked) (cart : Option ReadOf) → AreTrue opening log (cart_reads cart)
+    → ((t : Tables) → Shows t (cart_reads cart) → lines_named t.carts asked.ids.cart ≡ Some (begun_with cart)) → set_lines (wanted asked (begun_with cart)) (begun_with cart) ≡ [] → LeavesNoLine opening log asked
+unfolding history
+leaves_none opening log asked None are there empty = record { front = 0; lines = []; there = there (tables opening (take 0 log)) tt; none_left = empty }
+leaves_none opening log asked (Some read) are there empty = record {
+  front = read.version;
+  lines = lines_in read.row;
+  there = there (tables opening (take read.version log)) (are.0.row_is, tt);
+  none_left = empty;
+}
+
+lines_on : (opening : Tables) (log : List Entry) (asked : CartAsked) (ask : Ask) (cart : Option ReadOf) (lines : List (ℕ × ℕ)) → IsWhole ask → WereRead ask.index.now opening log (cart_reads cart)
+    → IsNamed asked.ids.cart cart → MakesOfCart ask.scale.now.items asked ask.draw cart lines → All (λ l. IsCartItem opening log asked ask.draw l.0) lines
+lines_on opening log asked ask cart lines whole were is makes =
+    let Q : ℕ → Type 0 = IsCartItem opening log asked ask.draw in
+    let items : ℕ = ask.scale.now.items in
+    let old : List (ℕ × ℕ) = begun_with cart in
+    let drawn : 1 + ask.draw % items ≡ drawn_item (tables opening log) ask.draw = ap (λ n. 1 + ask.draw % n) (whole ∙ sym (size_after ask.index.now opening log were.named)) in
+    subst (All (λ l. Q l.0)) (sym makes.made.lines_are)
+    (made_on Q items asked ask.draw old (λ item named. inl (inl named)) (λ item among. inl (inr among)) (λ item among. old_on opening log asked ask.draw cart item is were.are among)
+    (λ empty. inr (inr (leaves_none opening log asked cart were.are makes.there empty, drawn))))
+
+true_front : (opening : Tables) (log : List Entry) (cart : Option ReadOf) (items : List ReadOf) → AreTrue opening log (cart_reads cart ++ items) → AreTrue opening log (cart_reads cart)
+true_front opening log None items are = tt
+true_front opening log (Some read) items are = (are.0, tt)
+
+-- the cart is asked for
+pub asks_cart : (asked : CartAsked) (ask : Ask) (round : ℕ) (reads : List ReadOf) (keys : List Key) → round ≡ 0 → FollowsCart asked ask round reads → keys ≡ cart_keys asked.ids.cart
+    → AsksFor (FollowsCart asked ask) (CartRequest asked) ask round reads keys
+asks_cart asked ask zero reads keys is none are = record {
+  few = omega arith;
+  goes_on = λ more of. subst (λ l. FollowsNamed asked ask 1 (l ++ more)) (sym none) (begins asked.ids.cart more refl (of ∙ are));
+  may = λ opening log were. subst (All (InFootprint opening log (CartRequest asked) ask.draw)) (sym are) (about opening log asked.ids.cart refl);
+}
+  where
+    begins : (named : Option ℕ) (more : List ReadOf) → asked.ids.cart ≡ named → keys_of more ≡ cart_keys named → FollowsNamed asked ask 1 more
+    begins None [] is of = record { cart = None; items = []; reads_are = refl; named = ap cart_keys (sym is); follows = refl }
+    begins None (read ∷ more) is of = absurd cc
+    begins (Some id) [] is of = absurd cc
+    begins (Some id) (read ∷ []) is of = record { cart = Some read; items = []; reads_are = refl; named = of ∙ ap cart_keys (sym is); follows = refl }
+    begins (Some id) (read ∷ other ∷ more) is of = absurd cc
+
+    about : (opening : Tables) (log : List Entry) (named : Option ℕ) → asked.ids.cart ≡ named → All (InFootprint opening log (CartRequest asked) ask.draw) (cart_keys named)
+    about opening log None is = All-nil (InFootprint opening log (CartRequest asked) ask.draw)
+    about opening log (Some id) is =
+        let P : Key → Type 0 = InFootprint opening log (CartRequest asked) ask.draw in
+        All-cons P (key.Cart id) [] (inl (inl (id, is, refl))) (All-nil P)
+asks_cart asked ask (suc round) reads keys is none are = absurd (omega (arith, is))
+
+-- the items are asked for
+pub asks_items : (asked : CartAsked) (ask : Ask) (cart : Option ReadOf) (round : ℕ) (items : List ReadOf) (lines : List (ℕ × ℕ)) (keys : List Key) → IsWhole ask → IsNamed asked.ids.cart cart → round ≡ 1
+    → FollowsItems asked ask cart round items → MakesOfCart ask.scale.now.items asked ask.draw cart lines → keys ≡ map (λ l. key.Item l.0) lines
+    → AsksFor (FollowsCart asked ask) (CartRequest asked) ask round (cart_reads cart ++ items) keys
+asks_items asked ask cart zero items lines keys whole named is follows makes are = absurd (omega (arith, is))
+asks_items asked ask cart (suc zero) items lines keys whole named is follows makes are = record {
+  few = omega arith;
+  goes_on = λ more of. record {
+    cart = cart;
+    items = more;
+    reads_are = ap (λ (l : List ReadOf). l ++ more) (ap (λ (l : List ReadOf). cart_reads cart ++ l) follows ∙ append-nil (cart_reads cart));
+    named = named;
+    follows = of ∙ are ∙ ap (map (λ (l : ℕ × ℕ). key.Item l.0)) makes.made.lines_are;
+  };
+  may = λ opening log were.
+      let before : WereRead ask.index.now opening log (cart_reads cart) = record { named = were.named; sound = were.sound; are = true_front opening log cart items were.are } in
+      let on = lines_on opening log asked ask cart lines whole before named makes in
+      subst (All (InFootprint opening log (CartRequest asked) ask.draw)) (sym are)
+      (All-map (InFootprint opening log (CartRequest asked) ask.draw) (λ (l : ℕ × ℕ). key.Item l.0) lines (λ k d within. inl (inr ((get_or lines k d).0, on k d within, refl))));
+}
+asks_items asked ask cart (suc (suc round)) items lines keys whole named is follows makes are = absurd (omega (arith, is))
+
+-- the items of the lines were read, where they were asked for
+pub items_read : (asked : CartAsked) (ask : Ask) (cart : Option ReadOf) (round : ℕ) (items : List ReadOf) (lines : List (ℕ × ℕ)) → (round ≡ 1 → ⊥) → FollowsItems asked ask cart round items
+    → MakesOfCart ask.scale.now.items asked ask.draw cart lines → AreItems lines items
+items_read asked ask cart zero items lines more follows makes = absurd follows
+items_read asked ask cart (suc zero) items lines more follows makes = absurd (more refl)
+items_read asked ask cart (suc (suc round)) items lines more follows makes = follows ∙ ap (map (λ (l : ℕ × ℕ). key.Item l.0)) (sym makes.made.lines_are)
+
+-- reads split into the cart and the items
+
+-- no cart is named
+pub no_cart : (asked : CartAsked) (ask : Ask) (round : ℕ) (reads : List ReadOf) → (round ≡ 0 → ⊥) → asked.ids.cart ≡ None → FollowsCart asked ask round reads → FollowsItems asked ask None round reads
+no_cart asked ask zero reads some none follows = absurd (some refl)
+no_cart asked ask (suc round) reads some none follows = by follows.cart (follows.named ∙ ap cart_keys none) follows.follows follows.reads_are
+  where
+    by : (cart : Option ReadOf) → keys_of (cart_reads cart) ≡ [] → FollowsItems asked ask cart (suc round) follows.items → reads ≡ cart_reads cart ++ follows.items → FollowsItems asked ask None (suc round) reads
+    by None named of are = subst (FollowsItems asked ask None (suc round)) (sym are) of
+    by (Some read) named of are = absurd cc
+
+-- a cart is named: it is the first read, and the items come behind it
+pub record HasCart (asked : CartAsked) (ask : Ask) (round : ℕ) (reads : List ReadOf) (cart : ReadOf) : Type 0 where
+  pub are : reads ≡ cart ∷ drop 1 reads
+  pub named : IsNamed asked.ids.cart (Some cart)
+  pub follows : FollowsItems asked ask (Some cart) round (drop 1 reads)
+
+pub one_cart : (asked : CartAsked) (ask : Ask) (round id : ℕ) (reads : List ReadOf) (cart : ReadOf) → (round ≡ 0 → ⊥) → asked.ids.cart ≡ Some id → FollowsCart asked ask round reads → cart ≡ get_or reads 0 cart
+    → HasCart asked ask round reads cart
+one_cart asked ask zero id reads cart some is follows at = absurd (some refl)
+one_cart asked ask (suc round) id reads cart some is follows at = by reads at follows.cart follows.named follows.follows follows.reads_are
+  where
+    by : (reads : List ReadOf) → cart ≡ get_or reads 0 cart → (read : Option ReadOf) → IsNamed asked.ids.cart read → FollowsItems asked ask read (suc round) follows.items → reads ≡ cart_reads read ++ follows.items
+        → HasCart asked ask (suc round) reads cart
+    by reads at None named of are = let none : [] ≡ cart_keys (Some id) = named ∙ ap cart_keys is in absurd cc
+    by [] at (Some read) named of are = absurd cc
+    by (first ∷ rest) at (Some read) named of are =
+        let same : read ≡ cart = cc in
+        let items : follows.items ≡ rest = cc in
+        record {
+          are = ap (λ (r : ReadOf). r ∷ rest) (sym at);
+          named = subst (λ (r : ReadOf). IsNamed asked.ids.cart (Some r)) same named;
+          follows = subst (λ (r : ReadOf). FollowsItems asked ask (Some r) (suc round) rest) same (subst (FollowsItems asked ask (Some read) (suc round)) items of);
+        }
+
+-- what tables show that fit what was read
+
+shows_append : (t : Tables) (one other : List ReadOf) → Shows t (one ++ other) → Shows t one × Shows t other
+shows_append t [] other shows = (tt, shows)
+shows_append t (read ∷ one) other shows = let rest = shows_append t one other shows.1 in ((shows.0, rest.0), rest.1)
+
+pub refusal_shown : (asked : CartAsked) (ask : Ask) (cart : Option ReadOf) (items : List ReadOf) (refusal : Refusal) (page : Page) → IsWhole ask
+    → ((t : Tables) → length t.items ≡ ask.scale.now.items → Shows t (cart_reads cart) → check_cart t asked ≡ Some refusal) → page ≡ page_of refusal
+    → (t : Tables) → Fits ask.index.now t (cart_reads cart ++ items) → show t (CartRequest asked) ask.draw ≡ Some page
+refusal_shown asked ask cart items refusal page whole refuses is t fits =
+    let same : check_cart t asked ≡ Some refusal
+    = refuses t (size_of ask.index.now t fits.named ∙ sym whole) (shows_append t (cart_reads cart) items fits.shows).0 in
+    ap (λ o. refused_or o None) same ∙ ap Some (sym is)
+
+pub never_fits : (ask : Ask) (cart : Option ReadOf) (items : List ReadOf) → ((t : Tables) → Shows t (cart_reads cart) → ⊥) → (t : Tables) → Fits ask.index.now t (cart_reads cart ++ items) → ⊥
+never_fits ask cart items never t fits = never t (shows_append t (cart_reads cart) items fits.shows).0
+
+-- the request is not refused there, and leaves these lines
+record Leaves (t : Tables) (asked : CartAsked) (draw : ℕ) (lines : List (ℕ × ℕ)) : Type 0 where
+  passes : check_cart t asked ≡ None
+  old : List (ℕ × ℕ)
+  named : lines_named t.carts asked.ids.cart ≡ Some old
+  after : lines_after t asked draw ≡ lines
+
+leaves : (t : Tables) (items : ℕ) (asked : CartAsked) (draw : ℕ) (cart : Option ReadOf) (lines : List (ℕ × ℕ)) → length t.items ≡ items → Shows t (cart_reads cart)
+    → MakesOfCart items asked draw cart lines → Leaves t asked draw lines
+leaves t items asked draw cart lines size shows makes =
+    let old : List (ℕ × ℕ) = begun_with cart in
+    let there : lines_named t.carts asked.ids.cart ≡ Some old = makes.there t shows in
+    record {
+      passes = ap (check_asked (length t.items) asked) there ∙ ap (λ n. check_lines n (wanted asked old) old) size ∙ makes.made.passes;
+      old = old;
+      named = there;
+      after =
+          ap (λ (o : Option (List (ℕ × ℕ))). cart_lines (length t.items) asked draw (unwrap_or o [])) there
+          ∙ ap (λ n. cart_lines n asked draw old) size
+          ∙ sym makes.made.lines_are;
+    }
+
+-- the write puts the cart where the act puts it
+
+named_row : (o : Option CartRow) (old : List (ℕ × ℕ)) → option_map (λ c. c.lines) o ≡ Some old → (cart : CartRow) × (o ≡ Some cart)
+named_row None old is = absurd cc
+named_row (Some cart) old is = (cart, refl)
+
+put_is : (carts : List CartRow) (named : Option ℕ) (old lines : List (ℕ × ℕ)) → lines_named carts named ≡ Some old
+    → put_row carts (unwrap_or named 0) (λ id. record { id = id; lines = lines }) ≡ carts_with carts named lines
+put_is carts None old lines there = refl
+put_is carts (Some id) old lines there =
+    let row = named_row (row_numbered carts id) old there in
+    let above = (is_there carts id row.0 row.1).above in
+    cond-false _ _ _ (ne_eqb id 0 (λ e. omega (arith, e, above)))
+
+makes_lines : (t : Tables) (stamp : ℕ) (asked : CartAsked) (draw : ℕ) (lines : List (ℕ × ℕ)) → Leaves t asked draw lines → Makes t stamp (Cart asked draw) (put_lines asked.ids.cart lines)
+makes_lines t stamp asked draw lines leaves = record {
+  passes = leaves.passes;
+  tables_are =
+      ap (λ (carts : List CartRow). record t { carts = carts })
+      (put_is t.carts asked.ids.cart leaves.old lines leaves.named ∙ ap (carts_with t.carts asked.ids.cart) (sym leaves.after));
+}
+
+-- the draft becomes the page
+
+is_cart_of : (carts : List CartRow) (named : Option ℕ) (lines : List (ℕ × ℕ)) (drawn : Ids) → drawn.cart ≡ new_id carts (carts_with carts named lines)
+    → IsCartOf named drawn (cart_meant carts named)
+is_cart_of carts None lines drawn is = is ∙ id_pushed carts (record { id = length carts + 1; lines = lines })
+is_cart_of carts (Some id) lines drawn is = refl
+
+becomes : (t : Tables) (stamp : ℕ) (asked : CartAsked) (draw : ℕ) (lines : List (ℕ × ℕ)) (page : Waiting) → Leaves t asked draw lines → page ≡ cart_draft t asked.ids lines
+    → Becomes t stamp (Cart asked draw) (draft.Waiting page)
+becomes t stamp asked draw lines page leaves is =
+    let drawn : Ids = new_ids t (play t stamp (Cart asked draw)).tables in
+    let cart : ℕ = cart_meant t.carts asked.ids.cart in
+    let of : IsCartOf asked.ids.cart drawn cart = is_cart_of t.carts asked.ids.cart (lines_after t asked draw) drawn refl in
+    record {
+      asks = subst (λ (w : Waiting). HasIds drawn (draft.Waiting w)) (sym is) (asks_cart_alone stamp drawn t asked.ids lines cart of);
+      page_is =
+          ap (λ (w : Waiting). filled stamp drawn (draft.Waiting w)) is
+          ∙ becomes_page stamp drawn t asked.ids lines cart of
+          ∙ ap (λ (l : List (ℕ × ℕ)). cart_page t (ids_with asked.ids cart) cart l) (sym leaves.after);
+    }
+
+pub changed : (asked : CartAsked) (ask : Ask) (cart : Option ReadOf) (round : ℕ) (items : List ReadOf) (lines : List (ℕ × ℕ)) (next : Next) → IsWhole ask → MakesOfCart ask.scale.now.items asked ask.draw cart lines
+    → IsChangeTo asked ask.draw lines items next → IsNext (FollowsCart asked ask) (CartRequest asked) ask round (cart_reads cart ++ items) next
+changed asked ask cart round items lines next whole makes change =
+    let reads : List ReadOf = cart_reads cart ++ items in
+    let here : (t : Tables) → Fits ask.index.now t reads → Leaves t asked ask.draw lines
+    = λ t fits. leaves t ask.scale.now.items asked ask.draw cart lines (size_of ask.index.now t fits.named ∙ sym whole) (shows_append t (cart_reads cart) items fits.shows).0 makes in
+    subst (IsNext (FollowsCart asked ask) (CartRequest asked) ask round reads) (sym change.is) (record {
+      does = record { does = refl; drew = refl };
+      makes = λ t stamp fits bound. makes_lines t stamp asked ask.draw lines (here t fits);
+      becomes = λ t stamp fits bound.
+          becomes t stamp asked ask.draw lines change.page (here t fits) (change.drafts t (shows_append t (cart_reads cart) items fits.shows).1);
+    })

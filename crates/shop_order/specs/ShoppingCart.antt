@@ -1,0 +1,114 @@
+-- What a request for the shopping cart reads, the lines that it makes of its cart's, and the change to them.
+use Rattle.std.specs.Prelude.{◌≡◌, ℕ, zero, suc, List, [], ◌∷◌, ◌++◌, length, map, Option, Some, None, IfSome, unwrap_or}
+use Rattle.shop_model.specs.declared.tables.Tables.{Tables}
+use Rattle.shop_model.specs.CartAsked.{CartAsked}
+use Rattle.shop_model.specs.Carts.{wanted, cart_lines, check_lines, lines_named, check_cart}
+use Rattle.shop_model.specs.Sound.{IsFit}
+use Rattle.shop_history.specs.declared.acts.Act.TheVariants.{Cart}
+use Rattle.shop_history.specs.declared.drafts.Draft.TheVariants as draft
+use Rattle.shop_history.specs.declared.drafts.Waiting.{Waiting}
+use Rattle.shop_history.specs.declared.keys.Key.{Key}
+use Rattle.shop_history.specs.declared.keys.Key.TheVariants as key
+use Rattle.shop_history.specs.declared.keys.Row.{Row}
+use Rattle.shop_history.specs.declared.keys.Row.TheVariants as row
+use Rattle.shop_attempt.specs.declared.attempts.ReadOf.{ReadOf}
+use Rattle.shop_attempt.specs.declared.attempts.Write.{Write}
+use Rattle.shop_attempt.specs.declared.attempts.Write.TheVariants.{PutCart}
+use Rattle.shop_attempt.specs.Reads.{Shows}
+use Rattle.shop_pricing.specs.Bounds.{AreLines}
+use Rattle.shop_browse.specs.declared.attempted.Ask.{Ask}
+use Rattle.shop_browse.specs.declared.driver.Next.{Next}
+use Rattle.shop_browse.specs.declared.driver.Next.TheVariants.{Change}
+use Rattle.shop_browse.specs.Driver.{keys_of}
+use Rattle.shop_order.specs.declared.shopping_cart.Begun.{Begun}
+use Rattle.shop_order.specs.declared.shopping_cart.Begun.TheVariants.{Lines, Refused, Never}
+use Rattle.shop_order.specs.Drafts.{cart_draft}
+
+-- the key of a cart, if one is named
+abbrev pub cart_keys : Option ℕ → List Key
+cart_keys None = []
+cart_keys (Some id) = key.Cart id ∷ []
+
+-- the read of a cart, if any
+abbrev pub cart_reads : Option ReadOf → List ReadOf
+cart_reads None = []
+cart_reads (Some cart) = cart ∷ []
+
+-- the cart that is named was read, and none where none is named
+abbrev pub IsNamed : Option ℕ → Option ReadOf → Type 0
+IsNamed named cart = keys_of (cart_reads cart) ≡ cart_keys named
+
+-- if this row is a cart's, its lines are fit
+abbrev pub IsFitRow : Row → Type 0
+IsFitRow (row.Cart cart) = IsFit cart
+IsFitRow _ = Unit {0}
+
+abbrev pub IsFitRead : Option ReadOf → Type 0
+IsFitRead cart = IfSome cart (λ read. IsFitRow read.row)
+
+-- the lines of the cart in a row; another row has none
+abbrev pub lines_in : Row → List (ℕ × ℕ)
+lines_in (row.Cart cart) = cart.lines
+lines_in _ = []
+
+-- the lines that a request begins with: those of the cart that was read, and none of a new one
+abbrev pub begun_with : Option ReadOf → List (ℕ × ℕ)
+begun_with None = []
+begun_with (Some cart) = lines_in cart.row
+
+-- a request that is not refused makes these lines of others
+pub record MakesLines (items : ℕ) (asked : CartAsked) (draw : ℕ) (old lines : List (ℕ × ℕ)) : Type 0 where
+  pub kept : AreLines lines
+  pub passes : check_lines items (wanted asked old) old ≡ None
+  pub lines_are : lines ≡ cart_lines items asked draw old
+
+-- what a request makes of lines, or why it is refused
+abbrev pub IsMadeOf : ℕ → CartAsked → ℕ → List (ℕ × ℕ) → Begun → Type 0
+IsMadeOf items asked draw old (Lines lines) = MakesLines items asked draw old lines
+IsMadeOf items asked draw old (Refused refusal) = check_lines items (wanted asked old) old ≡ Some refusal
+IsMadeOf items asked draw old Never = ⊥
+
+-- a request that is not refused makes these lines of those of its cart, in whichever tables show what was read of it
+pub record MakesOfCart (items : ℕ) (asked : CartAsked) (draw : ℕ) (cart : Option ReadOf) (lines : List (ℕ × ℕ)) : Type 0 where
+  pub made : MakesLines items asked draw (begun_with cart) lines
+  pub there : (t : Tables) → Shows t (cart_reads cart) → lines_named t.carts asked.ids.cart ≡ Some (begun_with cart)
+
+-- the lines that a request leaves in a shop of so many items, or why it is refused, in whichever tables show what was read of its cart; or none do
+abbrev pub IsBegun : ℕ → CartAsked → ℕ → Option ReadOf → Begun → Type 0
+IsBegun items asked draw cart (Lines lines) = MakesOfCart items asked draw cart lines
+IsBegun items asked draw cart (Refused refusal) =
+    (t : Tables) → length t.items ≡ items → Shows t (cart_reads cart) → check_cart t asked ≡ Some refusal
+IsBegun items asked draw cart Never = (t : Tables) → Shows t (cart_reads cart) → ⊥
+
+-- these are reads of the items of the lines, in order
+abbrev pub AreItems : List (ℕ × ℕ) → List ReadOf → Type 0
+AreItems lines items = keys_of items ≡ map (λ l. key.Item l.0) lines
+
+-- after one round no item was read; after two, those of the lines that the request leaves
+abbrev pub FollowsItems : CartAsked → Ask → Option ReadOf → ℕ → List ReadOf → Type 0
+FollowsItems asked ask cart zero items = ⊥
+FollowsItems asked ask cart (suc zero) items = items ≡ []
+FollowsItems asked ask cart (suc (suc more)) items =
+    AreItems (cart_lines ask.scale.now.items asked ask.draw (begun_with cart)) items
+
+-- the cart was read, if one is named, and items behind it
+pub record FollowsNamed (asked : CartAsked) (ask : Ask) (round : ℕ) (reads : List ReadOf) : Type 0 where
+  pub cart : Option ReadOf
+  pub items : List ReadOf
+  pub reads_are : reads ≡ cart_reads cart ++ items
+  pub named : IsNamed asked.ids.cart cart
+  pub follows : FollowsItems asked ask cart round items
+
+abbrev pub FollowsCart : CartAsked → Ask → ℕ → List ReadOf → Type 0
+FollowsCart asked ask zero reads = reads ≡ []
+FollowsCart asked ask (suc round) reads = FollowsNamed asked ask (suc round) reads
+
+-- the write of a cart with these lines: the one that is named, or a new one
+abbrev pub put_lines : Option ℕ → List (ℕ × ℕ) → List Write
+put_lines named lines = PutCart (record { id = unwrap_or named 0; lines = lines }) ∷ []
+
+-- the change that leaves a cart with these lines, with the draft of the page in whichever tables show the items
+pub record IsChangeTo (asked : CartAsked) (draw : ℕ) (lines : List (ℕ × ℕ)) (items : List ReadOf) (next : Next) : Type 0 where
+  pub page : Waiting
+  pub drafts : (t : Tables) → Shows t items → page ≡ cart_draft t asked.ids lines
+  pub is : next ≡ Change (Cart asked draw) (put_lines asked.ids.cart lines) (draft.Waiting page)

@@ -1,0 +1,200 @@
+//! Shopping Cart: what a request for it makes of a cart.
+ghost use Rattle.std.specs.Prelude.{◌≡◌, ◌∷◌, ◌++◌, [], ◌≢◌, IfOk, map, option_copied};
+ghost use Rattle.shop_history.specs.declared.keys.Key.TheVariants as key_kinds;
+ghost use Rattle.shop_attempt.specs.Marks.{Looks};
+ghost use Rattle.shop_browse.specs.Attempts.{AttemptedAs, Suits};
+ghost use Rattle.shop_browse.specs.Driver.{IsWhole, AreSeen, IsNext};
+ghost use Rattle.shop_pricing.specs.Bounds.{AreLines};
+ghost use Rattle.shop_order.specs.ShoppingCart as spec;
+
+use crate::drafts::cart_draft;
+use shop_attempt::{ReadOf, Store, Write};
+use shop_browse::{Ask, Attempted, Interaction, Next, attempt_by};
+use shop_history::{Act, Draft, Key, Row};
+use shop_model::{Cart, CartRequest, Refusal, Request, refusal_page};
+use shop_pricing::{Filled, Lines as CartLines, fill};
+use shop_text::{Listed, Memory};
+use std::alloc::Global;
+
+/// What a request comes to by what was read of its cart.
+#[derive(Drop)]
+pub(crate) enum Begun {
+    /// The lines that it leaves.
+    Lines(Listed<(u32, u32)>),
+    Refused(Refusal),
+    /// No shop shows what was read.
+    Never,
+}
+
+/// What the request makes of these lines.
+fn made_of(alloc: Global, ask: &Ask, asked: &CartRequest, lines: CartLines) -> Result<Begun, Memory>
+    ensures { IfOk result (spec.IsMadeOf ask.now.scale.now.items asked.now ask.now.draw lines) }
+{
+    let mut lines = lines;
+    let scale = ask.scale;
+    match fill(&mut lines, asked, scale.items, ask.draw) {
+        Filled::Done => Ok(Begun::Lines(lines.to_pairs(alloc)?)),
+        Filled::Refused(refusal) => Ok(Begun::Refused(refusal)),
+        Filled::Memory => Err(Memory),
+    }
+}
+
+/// What the request makes of the lines of its cart.
+fn begin(
+    alloc: Global,
+    ask: &Ask,
+    asked: &CartRequest,
+    cart: Option<&ReadOf>,
+) -> Result<Begun, Memory>
+    requires named { spec.IsNamed asked.now.ids.cart (option_copied cart) }
+    requires fit { spec.IsFitRead (option_copied cart) }
+    ensures { IfOk result (spec.IsBegun ask.now.scale.now.items asked.now ask.now.draw (option_copied cart.entry)) }
+{
+    match cart {
+        None => made_of(alloc, ask, asked, CartLines::new(alloc)),
+        Some(read) => match &read.row {
+            Row::Absent => Ok(Begun::Refused(Refusal::NoCart)),
+            Row::Cart(cart) => {
+                let lines = CartLines::of(alloc, cart)?;
+                made_of(alloc, ask, asked, lines)
+            }
+            _ => Ok(Begun::Never),
+        },
+    }
+}
+
+/// The act of a request, with the word that was drawn for it.
+fn act(asked: &CartRequest, draw: u32) -> Result<Act, Memory>
+    ensures { IfOk result (λ act. act ≡ Act.Cart asked.now draw) }
+{
+    Ok(Act::Cart(
+        CartRequest {
+            item: asked.item,
+            sets: asked.sets.copy()?,
+            ids: asked.ids,
+        },
+        draw,
+    ))
+}
+
+/// The write of these lines into the cart that is named, or into a new one.
+fn put_lines(
+    alloc: Global,
+    named: Option<u32>,
+    lines: Listed<(u32, u32)>,
+) -> Result<Listed<Write>, Memory>
+    requires { AreLines lines }
+    ensures { IfOk result (λ writes. writes ≡ spec.put_lines named lines) }
+{
+    let id = named.unwrap_or(0);
+    let mut writes = Listed::with_capacity(alloc, 1)?;
+    writes.push(Write::PutCart(Cart { id, lines }))?;
+    Ok(writes)
+}
+
+/// The change that leaves a cart with these lines, by what was read of their items.
+fn change(
+    alloc: Global,
+    ask: &Ask,
+    asked: &CartRequest,
+    lines: Listed<(u32, u32)>,
+    items: &[ReadOf],
+) -> Result<Next, Memory>
+    requires items { spec.AreItems lines items.now }
+    requires lines { AreLines lines }
+    ensures { IfOk result (spec.IsChangeTo asked.now ask.now.draw lines items.now) }
+{
+    let draft = cart_draft(alloc, asked.ids, lines.as_slice(), items)?;
+    let writes = put_lines(alloc, asked.ids.cart, lines)?;
+    Ok(Next::Change(act(asked, ask.draw)?, writes, Draft::Waiting(draft)))
+}
+
+/// The keys of the items of lines.
+fn item_keys(alloc: Global, lines: &[(u32, u32)]) -> Result<Listed<Key>, Memory>
+    ensures { IfOk result (λ keys. keys ≡ map (λ l. key_kinds.Item l.0) lines.now) }
+{
+    let mut keys = Listed::with_capacity(alloc, lines.len())?;
+    for line in lines {
+        keys.push(Key::Item(line.0))?;
+    }
+    Ok(keys)
+}
+
+/// The key of the cart that is named, if one is.
+fn cart_keys(alloc: Global, named: Option<u32>) -> Result<Listed<Key>, Memory>
+    ensures { IfOk result (λ keys. keys ≡ spec.cart_keys named) }
+{
+    let mut keys = Listed::new(alloc);
+    if let Some(id) = named {
+        keys.push(Key::Cart(id))?;
+    }
+    Ok(keys)
+}
+
+/// What is done next by what was read of the cart, and then of the items of the lines that are left.
+fn by_cart(
+    alloc: Global,
+    ask: &Ask,
+    asked: &CartRequest,
+    cart: Option<&ReadOf>,
+    round: u32,
+    items: &[ReadOf],
+) -> Result<Next, Memory>
+    requires whole { IsWhole ask.now }
+    requires named { spec.IsNamed asked.now.ids.cart (option_copied cart) }
+    requires fit { spec.IsFitRead (option_copied cart) }
+    requires follows { spec.FollowsItems asked.now ask.now (option_copied cart) round items.now }
+    ensures { IfOk result (IsNext (spec.FollowsCart asked.now ask.now) (Request.CartRequest asked.now) ask.now round (spec.cart_reads (option_copied cart.entry) ++ items.now)) }
+{
+    let begun = begin(alloc, ask, asked, cart)?;
+    match begun {
+        Begun::Refused(refusal) => Ok(Next::Show(refusal_page(alloc, refusal)?)),
+        Begun::Never => Ok(Next::Never),
+        Begun::Lines(lines) => {
+            if round == 1 {
+                Ok(Next::Read(item_keys(alloc, lines.as_slice())?))
+            } else {
+                change(alloc, ask, asked, lines, items)
+            }
+        }
+    }
+}
+
+/// A request for the shopping cart.
+#[derive(Clone, Copy)]
+struct ShoppingCart<'a> {
+    asked: &'a CartRequest,
+}
+
+impl<'a> Interaction for ShoppingCart<'a> {
+    ghost use Rattle.shop_model.specs.declared.requests.Request.TheVariants as request_kinds;
+
+    ghost request = { λ cart. request_kinds.CartRequest cart.asked.now };
+
+    ghost follows = { λ cart. spec.FollowsCart cart.asked.now };
+
+    fn next(&self, alloc: Global, ask: &Ask, round: u32, reads: &[ReadOf]) -> Result<Next, Memory> {
+        let asked = self.asked;
+        if round == 0 {
+            return Ok(Next::Read(cart_keys(alloc, asked.ids.cart)?));
+        }
+        match asked.ids.cart {
+            None => by_cart(alloc, ask, asked, None, round, reads),
+            Some(_) => by_cart(alloc, ask, asked, Some(&reads[0]), round, &reads[1..]),
+        }
+    }
+}
+
+/// The cart that is named, or a new one, with what the request sets of it.
+pub fn shopping_cart<St: Store>(
+    alloc: Global,
+    store: &mut St,
+    ask: &Ask,
+    asked: &CartRequest,
+) -> Attempted
+    requires suits { Suits ask.now (St.seat store.old) }
+    ensures looks { Looks St.seat St.marked store.old store.new }
+    ensures attempted { AttemptedAs (St.seat store.old) (St.seat store.new) (Request.CartRequest asked.now) ask.now.moment ask.now.draw result }
+{
+    attempt_by(alloc, store, ask, &ShoppingCart { asked })
+}
