@@ -1,10 +1,7 @@
 -- Reads of single rows, and what they say of the tables.
 use Rattle.std.proofs.Common.{◌≡◌, ℕ, ◌+◌, ◌-◌, true, List, length, Option, Some, None, refl, sym, ◌∙◌, ap, subst, arith}
 use Rattle.std.proofs.lemmas.Option.{slice_get_within}
-use Rattle.shop_model.specs.declared.page.Page.{Page}
-use Rattle.shop_model.specs.declared.requests.Request.{Request}
 use Rattle.shop_model.specs.declared.tables.Tables.{Tables}
-use Rattle.shop_model.specs.Catalogues.{Catalogue, catalogue}
 use Rattle.shop_model.specs.Lookups.{row_numbered}
 use Rattle.shop_model.specs.Rows.{ItemRow}
 use Rattle.shop_model.specs.Sound.{Sound, Has}
@@ -18,8 +15,7 @@ use Rattle.shop_history.specs.Logs.{tables}
 use Rattle.shop_history.proofs.Goods.{good_log}
 use Rattle.shop_history.proofs.Kept.{kept, same_items}
 use Rattle.shop_history.proofs.Places.{IsThere, is_there}
-use Rattle.shop_attempt.specs.declared.attempts.ReadOf.{ReadOf}
-use Rattle.shop_attempt.specs.Seats.{Seat, IsSeat, Looked}
+use Rattle.shop_attempt.specs.Seats.{Seat, IsSeat}
 
 -- the opening's number of items stays
 pub same_size : (t : Tables) (log : List Entry) → length (tables t log).items ≡ length t.items

@@ -1,5 +1,5 @@
 -- Reads of labels: which ids they are of, that they may be read, and the links that they give.
-use Rattle.std.proofs.Common.{◌≡◌, ℕ, zero, suc, ◌+◌, ◌<◌, ◌≤◌, cond, true, false, List, [], ◌∷◌, ◌++◌, length, map, filter, take, drop, get_or, All, Option, Some, None, option_map, unwrap_or, refl, sym, ◌∙◌, ap, subst, inl, inr, arith}
+use Rattle.std.proofs.Common.{◌≡◌, ℕ, zero, suc, ◌+◌, ◌<◌, cond, true, false, List, [], ◌∷◌, ◌++◌, length, map, filter, take, drop, get_or, All, Option, Some, None, option_map, unwrap_or, refl, sym, ◌∙◌, ap, subst, inr, arith}
 use Rattle.std.specs.declared.cmp.Ordering.{Ordering}
 use Rattle.std.specs.Ordering.{is_gt}
 use Rattle.std.proofs.lemmas.List.{append_assoc, length-map, map_more}
@@ -30,7 +30,7 @@ use Rattle.shop_attempt.specs.declared.attempts.ReadOf.{ReadOf}
 use Rattle.shop_attempt.specs.Reads.{Shows}
 use Rattle.shop_browse.specs.declared.attempted.Ask.{Ask}
 use Rattle.shop_browse.specs.Driver.{keys_of, Fits, AreSeen}
-use Rattle.shop_browse.specs.Footprints.{drawn_item, IsAbout, InFootprint}
+use Rattle.shop_browse.specs.Footprints.{drawn_item, InFootprint}
 use Rattle.shop_browse.specs.Labels.{ids_in, HaveLabels, FollowsLabels, AsksLabels, title_in, promoted_in}
 use Rattle.shop_browse.proofs.Items.{same_size}
 
@@ -134,7 +134,7 @@ asks_labels k ask (suc zero) (read ∷ []) first keys is follows seen at are req
     let same : keys ≡ map key.Label (ids_in read.row) = are ∙ ap (λ (r : ReadOf). map key.Label (ids_in r.row)) at in
     let within : All (Has (length c.items)) (ids_in read.row)
     = subst (λ n. All (Has n) (ids_in read.row)) (size_of c t seen.0.1.named)
-      (subst (λ (r : Row). All (Has (length t.items)) (ids_in r)) seen.0.1.shows.0 (named_within t seen.0.1.sound read.key)) in
+    (subst (λ (r : Row). All (Has (length t.items)) (ids_in r)) seen.0.1.shows.0 (named_within t seen.0.1.sound read.key)) in
     record {
       few = omega arith;
       goes_on = λ more of. record { first = read; labels = more; reads_are = refl; key_is = cc; labels_are = of ∙ same };

@@ -42,7 +42,13 @@ fn line(alloc: Global, ids: IdsAsked, read: &ReadOf) -> Result<Block, Memory>
     ensures { IfOk result (λ block. block ≡ spec.line_in ids read.now) }
 {
     let label = label_in(alloc, &read.row)?;
-    item_link(alloc, b"/product_detail", id_in(&read.key), ids, label.bytes())
+    item_link(
+        alloc,
+        b"/product_detail",
+        id_in(&read.key),
+        ids,
+        label.bytes(),
+    )
 }
 
 fn push_each(

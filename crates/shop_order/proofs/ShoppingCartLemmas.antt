@@ -1,5 +1,5 @@
 -- Shopping Cart: what it may read, and the change that it makes by what it has read.
-use Rattle.std.proofs.Common.{◌≡◌, ℕ, zero, suc, ◌+◌, ◌%◌, List, [], ◌∷◌, ◌++◌, length, take, drop, map, get_or, All, Option, Some, None, IfSome, option_map, unwrap_or, refl, sym, ◌∙◌, ap, subst, inl, inr, arith}
+use Rattle.std.proofs.Common.{◌≡◌, ℕ, zero, suc, ◌+◌, ◌%◌, List, [], ◌∷◌, ◌++◌, length, take, drop, map, get_or, All, Option, Some, None, option_map, unwrap_or, refl, sym, ◌∙◌, ap, subst, inl, inr, arith}
 use Rattle.std.proofs.lemmas.Bool.{cond-false, ne_eqb}
 use Rattle.std.proofs.lemmas.List.{append-nil}
 use Rattle.std.proofs.lemmas.List.Elements.{All-nil, All-cons, All-map}
@@ -37,7 +37,7 @@ use Rattle.shop_attempt.specs.Writes.{put_row}
 use Rattle.shop_browse.specs.declared.attempted.Ask.{Ask}
 use Rattle.shop_browse.specs.declared.driver.Next.{Next}
 use Rattle.shop_browse.specs.Attempts.{Becomes}
-use Rattle.shop_browse.specs.Driver.{keys_of, Fits, AreSeen, IsWhole, WereRead, MayRead, AsksFor, IsNext}
+use Rattle.shop_browse.specs.Driver.{keys_of, Fits, AreSeen, IsWhole, WereRead, AsksFor, IsNext}
 use Rattle.shop_browse.specs.Footprints.{drawn_item, IsAmong, WasOnCart, LeavesNoLine, IsCartItem, InFootprint}
 use Rattle.shop_browse.proofs.LabelsLemmas.{size_of, size_after}
 use Rattle.shop_order.specs.Drafts.{IsCartOf, cart_draft}
@@ -177,15 +177,6 @@ items_read asked ask cart (suc zero) items lines more follows makes = absurd (mo
 items_read asked ask cart (suc (suc round)) items lines more follows makes = follows ∙ ap (map (λ (l : ℕ × ℕ). key.Item l.0)) (sym makes.made.lines_are)
 
 -- reads split into the cart and the items
-
--- no cart is named
-pub no_cart : (asked : CartAsked) (ask : Ask) (round : ℕ) (reads : List ReadOf) → (round ≡ 0 → ⊥) → asked.ids.cart ≡ None → FollowsCart asked ask round reads → FollowsItems asked ask None round reads
-no_cart asked ask zero reads some none follows = absurd (some refl)
-no_cart asked ask (suc round) reads some none follows = by follows.cart (follows.named ∙ ap cart_keys none) follows.follows follows.reads_are
-  where
-    by : (cart : Option ReadOf) → keys_of (cart_reads cart) ≡ [] → FollowsItems asked ask cart (suc round) follows.items → reads ≡ cart_reads cart ++ follows.items → FollowsItems asked ask None (suc round) reads
-    by None named of are = subst (FollowsItems asked ask None (suc round)) (sym are) of
-    by (Some read) named of are = absurd cc
 
 -- a cart is named: it is the first read, and the items come behind it
 pub record HasCart (asked : CartAsked) (ask : Ask) (round : ℕ) (reads : List ReadOf) (cart : ReadOf) : Type 0 where

@@ -16,7 +16,6 @@ use Rattle.shop_history.specs.Keys.{row_of, shown}
 use Rattle.shop_attempt.specs.declared.attempts.ReadOf.{ReadOf}
 use Rattle.shop_attempt.specs.Reads.{Shows}
 use Rattle.shop_attempt.proofs.Looks.{shows_at}
-use Rattle.shop_browse.specs.Driver.{keys_of}
 use Rattle.shop_order.specs.ShoppingCart.{AreItems}
 use Rattle.shop_order.specs.Table.{title_in, cost_in, cells_in}
 
@@ -50,9 +49,9 @@ module _ (lines : List (ℕ × ℕ)) (items : List ReadOf) (i : ℕ) (read : Rea
       = omega (arith, within, sym (length-map items (λ (r : ReadOf). r.key)) ∙ ap length are ∙ length-map lines key_of) in
       let key_is : read.key ≡ key_of (line_at lines i)
       = ap (λ (r : ReadOf). r.key) at
-        ∙ sym (get_or-map (λ (r : ReadOf). r.key) items i read read.key behind)
-        ∙ ap (λ (keys : List Key). get_or keys i read.key) are
-        ∙ get_or-map key_of lines i (0, 0) read.key within in
+      ∙ sym (get_or-map (λ (r : ReadOf). r.key) items i read read.key behind)
+      ∙ ap (λ (keys : List Key). get_or keys i read.key) are
+      ∙ get_or-map key_of lines i (0, 0) read.key within in
       ap (row_of t) (sym key_is) ∙ shows_at t items i read behind at shows
 
   pub rows_more : (rows new : List (List (List ℕ))) → new ≡ rows ++ cells_in (line_at lines i) read.row ∷ [] → ((t : Tables) → Shows t items → rows ≡ map (line_cells t) (take i lines))

@@ -33,9 +33,9 @@ loop-round-preserved g c =
     let so_far = c.loop-round.invariant in
     let asks : AsksFor (i.follows self ask) (i.request self) ask round reads c.in-Read.keys
     = subst (IsNext (i.follows self ask) (i.request self) ask round reads) c.in-Read.is
-      (subst (λ (l : List ReadOf). IsNext (i.follows self ask) (i.request self) ask round l c.in_ok-next.next) c.deref.ensures.value c.in_ok-next.ensures.next) in
+    (subst (λ (l : List ReadOf). IsNext (i.follows self ask) (i.request self) ask round l c.in_ok-next.next) c.deref.ensures.value c.in_ok-next.ensures.next) in
     let more = has_more _ _ _ (i.follows self ask) (i.request self) ask round reads c.read_all.new.reads.items c.in-Read.keys
-        so_far.looks.looked c.read_all.ensures.looks.looked so_far.has asks c.in_ok-read_all-in-Read.ensures.reads in
+    so_far.looks.looked c.read_all.ensures.looks.looked so_far.has asks c.in_ok-read_all-in-Read.ensures.reads in
     let few = asks.few in
     let next : suc round ≡ round + 1 = omega arith in
     record {

@@ -1,4 +1,4 @@
-use Rattle.std.proofs.Common.{rules, arith}
+use Rattle.std.proofs.Common.{arith}
 use Rattle.std.specs.Vec.Iter.{into_iter_items}
 use Rattle.shop_attempt.proofs.Marks.{looks_then}
 use Rattle.shop_browse.proofs.DriverLemmas.{one_more}

@@ -15,6 +15,6 @@ pub returns-in_ok-page-in-None : goal.returns-in_ok-page-in-None
 returns-in_ok-page-in-None c =
     let ask = c.args.ask.now in
     let have = subst (AsksLabels (drawn_key ask) ask c.args.round c.args.reads.now) c.in-None.is
-        (subst (λ k. AsksLabels k ask c.args.round c.args.reads.now c.in_ok-keys.field-0) c.drawn_key.ensures c.in_ok-keys.ensures) in
+    (subst (λ k. AsksLabels k ask c.args.round c.args.reads.now c.in_ok-keys.field-0) c.drawn_key.ensures c.in_ok-keys.ensures) in
     home_shown ask c.args.ids _ c.args.reads.now c.in_ok-page-in-None.page c.requires.whole have
     (c.in_ok-page-in-None.ensures ∙ ap (home_in c.args.ids ask.draw _) (behind c.args.reads.now))

@@ -10,4 +10,4 @@ returns-in_ok-push c =
     c.in_ok-push.ensures.ok
     ∙ ap (λ (text : List ℕ). c.args.blocks.now ++ Para text ∷ []) c.in_ok-copy.ensures
     ∙ ap (λ (lines : List Block). c.args.blocks.now ++ lines)
-      (sym (no_lines c.args.ids c.args.labels.now (eqb-true (length c.args.labels.now) 0 (sym c.is_empty.ensures ∙ c.if-is_empty.true))))
+    (sym (no_lines c.args.ids c.args.labels.now (eqb-true (length c.args.labels.now) 0 (sym c.is_empty.ensures ∙ c.if-is_empty.true))))

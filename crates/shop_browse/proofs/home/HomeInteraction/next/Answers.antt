@@ -26,7 +26,7 @@ returns-else-round-eq0 c =
     let ask = c.args.ask.now in
     let reads = c.args.reads.now in
     let split = known_reads asked c.in-Some.number ask c.in-Some.is c.args.round reads c.index-reads-0.result c.if-round-eq0.false c.requires.follows c.index-reads-0.is
-        ∙ ap (λ (l : List ReadOf). c.index-reads-0.result ∷ l) (sym (behind reads)) in
+    ∙ ap (λ (l : List ReadOf). c.index-reads-0.result ∷ l) (sym (behind reads)) in
     record {
       next = IfOk-weaker c.greet.result _ _
           (λ next is. subst (λ n. IsNext (FollowsHome n ask) (Home asked) ask c.args.round reads next) (sym c.in-Some.is)

@@ -10,7 +10,7 @@ pub returns-then-round-eq0 : goal.returns-then-round-eq0
 returns-then-round-eq0 c =
     let index = c.args.ask.now.index.now in
     let are = c.in_ok-label_keys.ensures ∙ ap (map Label) (c.as_slice.ensures ∙ c.in_ok-found.ensures
-        ∙ ap (found index c.self.inside.kind) c.bytes.ensures ∙ ap (λ (a : SearchAsked). found index a.kind a.text) c.self.view_is) in
+    ∙ ap (found index c.self.inside.kind) c.bytes.ensures ∙ ap (λ (a : SearchAsked). found index a.kind a.text) c.self.view_is) in
     record { next = asks_found c.args.self.now c.args.ask.now c.args.round c.args.reads.now c.in_ok-label_keys.field-0 c.if-round-eq0.true c.requires.follows are }
 
 pub returns : goal.returns

@@ -6,7 +6,7 @@ use Rattle.shop_attempt.specs.declared.attempts.ReadOf.{ReadOf}
 use Rattle.shop_browse.specs.Driver.{AreSeen, IsNext}
 use Rattle.shop_browse.proofs.DriverLemmas.{behind}
 use Rattle.shop_order.specs.ShoppingCart.{cart_keys, FollowsCart}
-use Rattle.shop_order.proofs.ShoppingCartLemmas.{asks_cart, HasCart, one_cart, fit_seen}
+use Rattle.shop_order.proofs.ShoppingCartLemmas.{asks_cart, one_cart, fit_seen}
 use Rattle.shop_order.proofs.shopping_cart.ShoppingCartInteraction.next.Goals as goal
 
 pub returns-then-round-eq0 : goal.returns-then-round-eq0
