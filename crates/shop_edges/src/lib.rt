@@ -26,6 +26,3 @@ pub use source::{Got, Source};
 pub use standard_output::StandardOutput;
 pub use system_clock::SystemClock;
 pub use writer_sink::WriterSink;
-
-#[cfg(test)]
-mod tests;

@@ -59,6 +59,3 @@ pub use scale::Scale;
 pub use ship_type::ShipType;
 pub use subject::Subject;
 pub use tables::Tables;
-
-#[cfg(test)]
-mod tests;

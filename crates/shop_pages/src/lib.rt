@@ -12,8 +12,3 @@ mod template;
 
 pub use page::{page_bytes, push_page};
 pub use reply::{Form, Reply};
-
-#[cfg(test)]
-mod reply_tests;
-#[cfg(test)]
-mod tests;

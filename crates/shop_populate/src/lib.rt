@@ -18,6 +18,3 @@ mod orders;
 mod population;
 
 pub use population::populate;
-
-#[cfg(test)]
-mod tests;

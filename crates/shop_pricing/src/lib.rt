@@ -8,6 +8,3 @@ mod totals;
 pub use filling::{Filled, fill};
 pub use lines::{Changed, Lines, change};
 pub use totals::Totals;
-
-#[cfg(test)]
-mod tests;

@@ -9,6 +9,3 @@ mod top;
 
 pub use best_sellers::best;
 pub use new_products::newest;
-
-#[cfg(test)]
-mod tests;

@@ -8,6 +8,3 @@ mod naming;
 mod order;
 
 pub use index::Index;
-
-#[cfg(test)]
-mod tests;

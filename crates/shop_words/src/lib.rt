@@ -6,6 +6,3 @@ mod options;
 mod values;
 
 pub use command::{Command, Parsed, Session, command_of};
-
-#[cfg(test)]
-mod tests;

@@ -1,0 +1,157 @@
+//! Copies of rows of populated tables. Those of the larger scale come from a model in Python, with a PCG32 of its own.
+use crate::answers::{answer, heading, text_of};
+use crate::stop::Stop;
+use shop_model::*;
+use shop_populate::populate;
+
+pub fn print(rt: &(impl Print + AllocGlobal)) -> Result<(), Stop> {
+    heading(rt, "desk scale, seed 0")?;
+    print_desk(rt, &populate(rt.alloc(), 0, &Scale::desk())?)?;
+    heading(rt, "scale 1000x1, seed 0")?;
+    let scale = Scale::of(1000, 1).ok_or(Stop::NoScale)?;
+    print_larger(rt, &populate(rt.alloc(), 0, &scale)?)
+}
+
+fn print_desk(rt: &(impl Print + AllocGlobal), tables: &Tables) -> Result<(), Stop> {
+    copy_item(rt, row(tables.items.as_slice(), 1)?)?;
+    copy_customer(rt, row(tables.customers.as_slice(), 10)?)?;
+    copy_address(rt, row(tables.addresses.as_slice(), 29)?)?;
+    copy_order(rt, row(tables.orders.as_slice(), 20)?)?;
+    print_country(rt, row(tables.countries.as_slice(), 45)?)?;
+    print_author(rt, row(tables.authors.as_slice(), 1)?)?;
+    print_subject(rt, tables.items.as_slice())?;
+    print_last_orders(rt, tables.last.as_slice())
+}
+
+/// The last item, customer, address and order.
+fn print_larger(rt: &(impl Print + AllocGlobal), tables: &Tables) -> Result<(), Stop> {
+    copy_item(rt, row(tables.items.as_slice(), 1000)?)?;
+    copy_customer(rt, row(tables.customers.as_slice(), 2880)?)?;
+    copy_address(rt, row(tables.addresses.as_slice(), 5760)?)?;
+    copy_order(rt, row(tables.orders.as_slice(), 2592)?)
+}
+
+/// The row of this id.
+fn row<T>(rows: &[T], id: usize) -> Result<&T, Stop> {
+    rows.get(id.saturating_sub(1)).ok_or(Stop::NoRow)
+}
+
+fn copy_item(rt: &(impl Print + AllocGlobal), item: &Item) -> Result<(), Stop> {
+    print_item(rt, &item.copy(rt.alloc())?)
+}
+
+fn print_item(rt: &impl Print, item: &Item) -> Result<(), Stop> {
+    let numbers = [item.id, item.author, item.stock, item.published, item.pages];
+    answer(rt, &"item, author, stock, published, pages", &numbers)?;
+    answer(rt, &"srp, cost", &[item.srp, item.cost])?;
+    answer(rt, &"related", &item.related)?;
+    answer(rt, &"subject, backing", &(item.subject, item.backing))?;
+    let texts = [
+        text_of(item.title.bytes()),
+        text_of(item.publisher.bytes()),
+        text_of(item.about.bytes()),
+        text_of(item.thumb.bytes()),
+        text_of(item.image.bytes()),
+    ];
+    answer(rt, &"title, publisher, about, pictures", &texts)
+}
+
+fn copy_customer(rt: &(impl Print + AllocGlobal), customer: &Customer) -> Result<(), Stop> {
+    print_customer(rt, &customer.copy(rt.alloc())?)
+}
+
+fn print_customer(rt: &impl Print, customer: &Customer) -> Result<(), Stop> {
+    let numbers = [customer.id, customer.discount, customer.address];
+    answer(rt, &"customer, discount, address", &numbers)?;
+    let texts = [
+        text_of(customer.user.bytes()),
+        text_of(customer.password.bytes()),
+        text_of(customer.first.bytes()),
+        text_of(customer.last.bytes()),
+        text_of(customer.phone.bytes()),
+        text_of(customer.email.bytes()),
+    ];
+    answer(rt, &"user, password, names, phone, email", &texts)
+}
+
+fn copy_address(rt: &(impl Print + AllocGlobal), address: &Address) -> Result<(), Stop> {
+    print_address(rt, &address.copy(rt.alloc())?)
+}
+
+fn print_address(rt: &impl Print, address: &Address) -> Result<(), Stop> {
+    let text = &address.text;
+    answer(rt, &"address, country", &[address.id, text.country])?;
+    let texts = [
+        text_of(text.street1.bytes()),
+        text_of(text.street2.bytes()),
+        text_of(text.city.bytes()),
+        text_of(text.state.bytes()),
+        text_of(text.zip.bytes()),
+    ];
+    answer(rt, &"streets, city, state, zip", &texts)
+}
+
+fn copy_order(rt: &(impl Print + AllocGlobal), order: &Order) -> Result<(), Stop> {
+    print_order(rt, &order.copy(rt.alloc())?)
+}
+
+fn print_order(rt: &impl Print, order: &Order) -> Result<(), Stop> {
+    let numbers = [
+        order.id,
+        order.customer,
+        order.discount,
+        order.ship_address,
+        order.ship_day,
+    ];
+    answer(
+        rt,
+        &"order, customer, discount, ship address, ship day",
+        &numbers,
+    )?;
+    let amounts = [order.sub, order.tax, order.ship, order.total, order.placed];
+    answer(rt, &"sub, tax, ship, total, placed", &amounts)?;
+    answer(rt, &"status, ship type", &(order.status, order.ship_type))?;
+    for line in order.lines.as_slice() {
+        answer(rt, &line.number, &(line.item, line.quantity, line.cost))?;
+    }
+    print_payment(rt, &order.card)
+}
+
+fn print_payment(rt: &impl Print, card: &CardUse) -> Result<(), Stop> {
+    answer(
+        rt,
+        &"card, country, total, stamp",
+        &(card.card, card.country, card.total, card.stamp),
+    )?;
+    let texts = [
+        text_of(card.number.bytes()),
+        text_of(card.name.bytes()),
+        text_of(card.expiry.bytes()),
+        text_of(card.auth.bytes()),
+    ];
+    answer(rt, &"number, name, expiry, authorisation", &texts)
+}
+
+fn print_country(rt: &impl Print, country: &Country) -> Result<(), Stop> {
+    answer(rt, &"country", &(country.id, text_of(country.name.bytes())))
+}
+
+fn print_author(rt: &impl Print, author: &Author) -> Result<(), Stop> {
+    let names = (text_of(author.first.bytes()), text_of(author.last.bytes()));
+    answer(rt, &"author", &(author.id, names))
+}
+
+/// The items of one subject.
+fn print_subject(rt: &impl Print, items: &[Item]) -> Result<(), Stop> {
+    for item in items {
+        if item.subject == Subject::NonFiction {
+            answer(rt, &item.id, &item.subject)?;
+        }
+    }
+    Ok(())
+}
+
+/// The last orders of customers 35 and 13.
+fn print_last_orders(rt: &impl Print, last: &[Option<u32>]) -> Result<(), Stop> {
+    answer(rt, &"last orders", &(row(last, 35)?, row(last, 13)?))
+}
