@@ -1,21 +1,30 @@
-//! Prints what connections, sessions and books come to. The file `stdout` has what is wanted.
+//! Prints rows of books, the points of connections, and what comes of streams that fail. The file
+//! `stdout` has what is wanted.
 #![tactic(auto)]
 
 mod books;
 mod connections;
+mod faults;
+mod faulty;
 mod sessions;
-mod shops;
-mod stop;
 
-use stop::Stop;
+use anyhow::{Context, Result};
+use shop_text::Memory;
 
 /// The bytes as text.
 pub fn text_of(bytes: &[u8]) -> &str {
     std::str::from_utf8(bytes).unwrap_or("(no text)")
 }
 
-fn main(rt: HostRuntime) -> Result<(), Stop> {
+/// What a call answers, where there is memory for it.
+pub fn done<T>(answer: Result<T, Memory>) -> Result<T> {
+    answer.ok().context("no memory")
+}
+
+fn main(rt: HostRuntime) -> Result<()> {
+    books::print(&rt)?;
     connections::print(&rt)?;
+    connections::print_messages(&rt)?;
     sessions::print(&rt)?;
-    books::print(&rt)
+    faults::print(&rt)
 }

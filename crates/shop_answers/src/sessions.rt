@@ -1,31 +1,22 @@
 //! Sessions whose streams fail.
-use crate::shops::{ALL, clock, requests};
-use crate::stop::Stop;
-use crate::text_of;
-use shop_app::run_alone;
-use shop_edges::{BytesIn, BytesOut};
-use shop_text::{Listed, Text};
+use crate::{done, text_of};
+use anyhow::Result;
+use shop_app::{Status, run_alone};
+use shop_edges::{BytesIn, BytesOut, ListClock};
+use shop_text::{Listed, Memory, Text};
+use std::alloc::Global;
 
-/// Which read and which write fails, counted from 1, and how many bytes go with a write at most.
-#[derive(Clone, Copy, Debug)]
-struct Faults {
-    read: u64,
-    write: u64,
-    piece: usize,
-}
-
-/// Prints the status of a session, what it told, and what it wrote.
-fn print_session(rt: &(impl Print + AllocGlobal), faults: Faults) -> Result<(), Stop> {
-    let alloc = rt.alloc();
-    let mut reads = Listed::new(alloc);
-    reads.push(faults.read)?;
-    let mut writes = Listed::new(alloc);
-    writes.push(faults.write)?;
-    let input = requests(alloc, &["/product_detail?item=1"])?;
-    let mut source = BytesIn::new(input, ALL, reads);
-    let mut sink = BytesOut::new(alloc, faults.piece, writes);
-    let mut told = BytesOut::new(alloc, ALL, Listed::new(alloc));
-    let mut clock = clock(alloc, &[1_000])?;
+/// The status of a session for one page, what it wrote, and what it told. The read and the write with
+/// these numbers fail, counted from 1, and so many bytes go with a write at most.
+fn session(
+    alloc: Global,
+    (read, write, piece): (u64, u64, usize),
+) -> Result<(Status, BytesOut, BytesOut), Memory> {
+    let input = Text::copy(alloc, b"GET /product_detail?item=1 HTTP/1.1\r\n\r\n")?;
+    let mut source = BytesIn::new(input, 1_000, Listed::from_vec(vec![in alloc; read; 1]?));
+    let mut sink = BytesOut::new(alloc, piece, Listed::from_vec(vec![in alloc; write; 1]?));
+    let mut told = BytesOut::new(alloc, 1_000, Listed::new(alloc));
+    let mut clock = ListClock::new(alloc, Listed::new(alloc))?;
     let word = Text::copy(alloc, b"session")?;
     let status = run_alone(
         alloc,
@@ -35,30 +26,18 @@ fn print_session(rt: &(impl Print + AllocGlobal), faults: Faults) -> Result<(), 
         &mut told,
         &mut clock,
     );
-    println!(rt;
-        "{faults:?}: {status:?}, {}, {:?}, {:?}",
-        status.code(),
-        text_of(told.bytes()),
-        text_of(sink.bytes())
-    )?;
-    Ok(())
+    Ok((status, sink, told))
 }
 
-pub fn print(rt: &(impl Print + AllocGlobal)) -> Result<(), Stop> {
-    print_session(
-        rt,
-        Faults {
-            read: 1,
-            write: 0,
-            piece: ALL,
-        },
-    )?;
-    print_session(
-        rt,
-        Faults {
-            read: 0,
-            write: 2,
-            piece: 1,
-        },
-    )
+pub fn print(rt: &(impl Print + AllocGlobal)) -> Result<()> {
+    for (read, write, piece) in [(1, 0, 1_000), (0, 2, 1)] {
+        let (status, sink, told) = done(session(rt.alloc(), (read, write, piece)))?;
+        println!(rt;
+            "read {read}, write {write} of {piece} bytes at most: {status:?}, {}, wrote {:?}, told {:?}",
+            status.code(),
+            text_of(sink.bytes()),
+            text_of(told.bytes())
+        )?;
+    }
+    Ok(())
 }

@@ -1,11 +1,7 @@
-//! Serves requests over bytes in memory while each read, and then each write, fails in turn, and says
-//! whether the end, the bytes written and the log are what they must be.
-#![tactic(auto)]
-
-mod served;
-
+//! Requests over bytes in memory while each read, and then each write, fails in turn: whether the end, the
+//! bytes written and the log are what they must be.
+use crate::faulty::{Calls, Outcome, serve};
 use anyhow::{Result, ensure};
-use served::{Calls, Outcome, serve};
 use shop_engine::Ended;
 use std::alloc::Global;
 
@@ -113,7 +109,7 @@ fn is_right(rt: &(impl Print + AllocGlobal), case: Case) -> Result<bool> {
     Ok(right)
 }
 
-fn main(rt: HostRuntime) -> Result<()> {
+pub fn print(rt: &(impl Print + AllocGlobal)) -> Result<()> {
     let alloc = rt.alloc();
     for (name, request, entries) in REQUESTS {
         let whole = serve(alloc, request, WHOLE, WHOLE)?;
@@ -128,7 +124,7 @@ fn main(rt: HostRuntime) -> Result<()> {
             entries,
         };
         ensure!(
-            is_right(&rt, case)?,
+            is_right(rt, case)?,
             "{name}: a fault is not what it must be"
         );
     }

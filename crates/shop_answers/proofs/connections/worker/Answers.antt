@@ -1,9 +1,9 @@
 use Rattle.std.proofs.Common.{◌∙◌, ap}
 use Rattle.shop_book.specs.Books.{BookValue}
 use Rattle.shop_answers.proofs.Posting.{posted}
-use Rattle.shop_answers.proofs.shops.worker.Goals as goal
+use Rattle.shop_answers.proofs.connections.worker.Goals as goal
 
 pub new-requires-3 : goal.new-requires-3
 new-requires-3 c =
-    posted c.args.scale c.in_ok-tables.tables _ c.in_ok-book.book c.new-2.result c.in_ok-tables.ensures.value (c.in_ok-index-2.ensures.ok ∙ c.in_ok-index.ensures)
+    posted _ c.in_ok-tables.tables _ c.in_ok-book.book c.new-2.result c.in_ok-tables.ensures.value (c.in_ok-index-2.ensures.ok ∙ c.in_ok-index.ensures)
     (ap (λ (b : BookValue). b.opening.tables) c.in_ok-book.ensures.value) c.new-2.ensures.value c.new-2.ensures.valid
