@@ -71,7 +71,7 @@ all_bounds ((name, value) ∷ pairs) sets is =
     (λ set one. set_bound (drop 4 name) value set (asked_bound (bytes_eq (take 4 name) (codes "qty_")) _ set one))
     (λ more all. all_bounds pairs more all) is
 
-found_is : (asked : Option (List (ℕ × ℕ))) (sets : List (ℕ × ℕ)) → ok_or asked Qty ≡ Ok sets → asked ≡ Some sets
+pub found_is : (asked : Option (List (ℕ × ℕ))) (sets : List (ℕ × ℕ)) → ok_or asked Qty ≡ Ok sets → asked ≡ Some sets
 found_is None sets is = cc
 found_is (Some found) sets is = cc
 

@@ -1,36 +1,28 @@
 -- The sets of a request, read one after another.
-use Rattle.std.proofs.Common.{◌≡◌, ℕ, ◌<◌, ◌≤◌, List, [], ◌∷◌, ◌++◌, length, Option, Some, None, refl, sym, ap, arith, append_assoc, append-nil, length-append}
+use Rattle.std.proofs.Common.{◌≡◌, ℕ, ◌<◌, ◌≤◌, List, [], ◌∷◌, ◌++◌, length, Option, Some, None, refl, sym, ap, ◌∙◌, append_assoc, append-nil}
 use Rattle.std.specs.List.{filter_map}
 use Rattle.std.specs.Option.{option_map, option_and_then}
 use Rattle.std.proofs.lemmas.Bool.{le-leb, lt-leb}
 use Rattle.std.proofs.lemmas.Iterator.Adapters.{option_map_id}
 use Rattle.shop_model.specs.Limits.{sets_limit}
 use Rattle.shop_http.specs.Forms.{Pair}
-use Rattle.shop_http.specs.Sets.{set_asked, all_of, few, sets_asked}
+use Rattle.shop_http.specs.Sets.{set_asked, all_of, few, sets_behind, sets_asked}
 
--- all sets, where these were read and the pairs are left
-unfoldable pub sets_with : List (ℕ × ℕ) → List Pair → Option (List (ℕ × ℕ))
-sets_with sets pairs = option_and_then few (option_map (λ more. sets ++ more) (all_of (filter_map set_asked pairs)))
-
-pub sets_with-none : (pairs : List Pair) → sets_with [] pairs ≡ sets_asked pairs
-unfolding sets_with sets_asked
-sets_with-none pairs = ap (option_and_then few) (option_map_id (all_of (filter_map set_asked pairs)))
-
-pub sets_with-all : (sets : List (ℕ × ℕ)) → length sets ≤ sets_limit → sets_with sets [] ≡ Some sets
-unfolding sets_with all_of
-sets_with-all sets short = rw (append-nil, le-leb _ _ short) refl
+-- no pairs set nothing
+pub sets_behind-nil : (sets : List (ℕ × ℕ)) → sets_behind sets [] ≡ Some sets
+unfolding all_of
+sets_behind-nil sets = ap (λ all. Some all) (append-nil sets)
 
 -- one more pair
 
-pub sets_with-other : (sets : List (ℕ × ℕ)) (pair : Pair) (pairs : List Pair)
-    → set_asked pair ≡ None → sets_with sets (pair ∷ pairs) ≡ sets_with sets pairs
-unfolding sets_with
-sets_with-other sets pair pairs other = rw other refl
+pub sets_behind-other : (sets : List (ℕ × ℕ)) (pair : Pair) (pairs : List Pair)
+    → set_asked pair ≡ None → sets_behind sets (pair ∷ pairs) ≡ sets_behind sets pairs
+sets_behind-other sets pair pairs other = rw other refl
 
-pub sets_with-bad : (sets : List (ℕ × ℕ)) (pair : Pair) (pairs : List Pair)
-    → set_asked pair ≡ Some None → sets_with sets (pair ∷ pairs) ≡ None
-unfolding sets_with all_of
-sets_with-bad sets pair pairs bad = rw bad refl
+pub sets_behind-bad : (sets : List (ℕ × ℕ)) (pair : Pair) (pairs : List Pair)
+    → set_asked pair ≡ Some None → sets_behind sets (pair ∷ pairs) ≡ None
+unfolding all_of
+sets_behind-bad sets pair pairs bad = rw bad refl
 
 one_more : (sets : List (ℕ × ℕ)) (set : ℕ × ℕ) (others : Option (List (ℕ × ℕ)))
     → option_map (λ more. sets ++ more) (option_map (λ values. set ∷ values) others)
@@ -38,20 +30,40 @@ one_more : (sets : List (ℕ × ℕ)) (set : ℕ × ℕ) (others : Option (List 
 one_more sets set None = refl
 one_more sets set (Some values) = ap (λ all. Some all) (sym (append_assoc sets (set ∷ []) values))
 
-pub sets_with-one : (sets : List (ℕ × ℕ)) (pair : Pair) (set : ℕ × ℕ) (pairs : List Pair)
-    → set_asked pair ≡ Some (Some set) → sets_with sets (pair ∷ pairs) ≡ sets_with (sets ++ set ∷ []) pairs
-unfolding sets_with all_of
-sets_with-one sets pair set pairs one =
-    rw one (ap (option_and_then few) (one_more sets set (all_of (filter_map set_asked pairs))))
+pub sets_behind-one : (sets : List (ℕ × ℕ)) (pair : Pair) (set : ℕ × ℕ) (pairs : List Pair)
+    → set_asked pair ≡ Some (Some set) → sets_behind sets (pair ∷ pairs) ≡ sets_behind (sets ++ set ∷ []) pairs
+unfolding all_of
+sets_behind-one sets pair set pairs one = rw one (one_more sets set (all_of (filter_map set_asked pairs)))
 
-too_many : (sets : List (ℕ × ℕ)) (set : ℕ × ℕ) (others : Option (List (ℕ × ℕ))) → length sets ≡ sets_limit
-    → option_and_then few (option_map (λ more. sets ++ more) (option_map (λ values. set ∷ values) others)) ≡ None
-too_many sets set None full = refl
-too_many sets set (Some values) full =
-    let long : sets_limit < length (sets ++ set ∷ values) = rw length-append (omega arith) in
-    rw (lt-leb _ _ long) refl
+-- the pairs of two texts
 
-pub sets_with-full : (sets : List (ℕ × ℕ)) (pair : Pair) (set : ℕ × ℕ) (pairs : List Pair)
-    → set_asked pair ≡ Some (Some set) → length sets ≡ sets_limit → sets_with sets (pair ∷ pairs) ≡ None
-unfolding sets_with all_of
-sets_with-full sets pair set pairs one full = rw one (too_many sets set (all_of (filter_map set_asked pairs)) full)
+pub sets_behind-append : (sets : List (ℕ × ℕ)) (pairs others : List Pair)
+    → sets_behind sets (pairs ++ others) ≡ option_and_then (λ more. sets_behind more others) (sets_behind sets pairs)
+sets_behind-append sets [] others = rw (sets_behind-nil sets) refl
+sets_behind-append sets (pair ∷ pairs) others = by_case (set_asked pair) refl (λ more. sets_behind-append more pairs others)
+  where
+    then : Option (List (ℕ × ℕ)) → Option (List (ℕ × ℕ))
+    then = option_and_then (λ more. sets_behind more others)
+
+    by_case : (asked : Option (Option (ℕ × ℕ))) → set_asked pair ≡ asked
+        → ((more : List (ℕ × ℕ)) → sets_behind more (pairs ++ others) ≡ then (sets_behind more pairs))
+        → sets_behind sets (pair ∷ (pairs ++ others)) ≡ then (sets_behind sets (pair ∷ pairs))
+    by_case None other later =
+        sets_behind-other sets pair (pairs ++ others) other ∙ later sets ∙ ap then (sym (sets_behind-other sets pair pairs other))
+    by_case (Some None) bad later =
+        sets_behind-bad sets pair (pairs ++ others) bad ∙ ap then (sym (sets_behind-bad sets pair pairs bad))
+    by_case (Some (Some set)) one later =
+        sets_behind-one sets pair set (pairs ++ others) one ∙ later (sets ++ set ∷ [])
+        ∙ ap then (sym (sets_behind-one sets pair set pairs one))
+
+-- all that a request sets
+
+pub asked-behind : (pairs : List Pair) → sets_asked pairs ≡ option_and_then few (sets_behind [] pairs)
+unfolding sets_asked
+asked-behind pairs = ap (option_and_then few) (sym (option_map_id (all_of (filter_map set_asked pairs))))
+
+pub sets_asked-many : (pairs : List Pair) (sets : List (ℕ × ℕ)) → sets_behind [] pairs ≡ Some sets → sets_limit < length sets → sets_asked pairs ≡ None
+sets_asked-many pairs sets all many = asked-behind pairs ∙ ap (option_and_then few) all ∙ rw (lt-leb _ _ many) refl
+
+pub sets_asked-few : (pairs : List Pair) (sets : List (ℕ × ℕ)) → sets_behind [] pairs ≡ Some sets → length sets ≤ sets_limit → sets_asked pairs ≡ Some sets
+sets_asked-few pairs sets all short = asked-behind pairs ∙ ap (option_and_then few) all ∙ rw (le-leb _ _ short) refl

@@ -1,6 +1,6 @@
 -- The parameters of a message, and the forms that they are to have. The syntax of pairs is that of the URL
 -- Standard, section 5; the forms are this project's own.
-use Rattle.std.specs.Prelude.{ℕ, ◌&&◌, nat_le, List, length, map, Option, Some, None, Result, Ok, if◌then◌else◌}
+use Rattle.std.specs.Prelude.{ℕ, ◌&&◌, ◌==◌, Bool, not, nat_lt, nat_le, List, length, map, Option, Some, None, Result, Ok, if◌then◌else◌}
 use Rattle.std.specs.List.{find}
 use Rattle.std.specs.Option.{option_map, option_and_then, ok_or}
 use Rattle.std.specs.Str.{bytes_eq}
@@ -18,9 +18,17 @@ Pair = List ℕ × List ℕ
 abbrev pub pairs : List ℕ → List Pair
 pairs encoded = map (λ pair. (utf8_lossy pair.0, utf8_lossy pair.1)) (parse encoded)
 
+-- what an encoded name or value stands for, as a text
+abbrev pub decoded_text : List ℕ → List ℕ
+decoded_text encoded = utf8_lossy (decode encoded)
+
 -- an encoded pair as it is read
 abbrev pub decoded : Pair → Pair
-decoded (name, value) = (utf8_lossy (decode name), utf8_lossy (decode value))
+decoded (name, value) = (decoded_text name, decoded_text value)
+
+-- a byte that stands for itself, whatever is beside it: of ASCII, and neither `%` nor `+`
+abbrev pub is_plain : ℕ → Bool
+is_plain byte = nat_lt byte 128 && not (byte == 37) && not (byte == 43)
 
 -- the value of the first pair that has the name
 abbrev pub value_named : List Pair → List ℕ → Option (List ℕ)

@@ -1,7 +1,8 @@
 pub mod Numbers
 pub mod Sets
 pub mod Forms
-pub mod Decoded
+pub mod Firsts
+pub mod ValuesView
 pub mod PairsView
 pub mod Routes
 pub mod Requests

@@ -1,8 +1,7 @@
--- The decoded pairs of a message as contracts see them.
-use Rattle.std.specs.Prelude.{List, map}
+-- The pairs of a message as contracts see them.
+use Rattle.std.specs.Prelude.{List, ◌++◌}
 use Rattle.shop_http.specs.declared.requests.pairs.Pairs.TheInside.{Inside}
-use Rattle.shop_http.specs.Decoded.{pair_of}
-use Rattle.shop_http.specs.Forms.{Pair}
+use Rattle.shop_http.specs.Forms.{Pair, pairs}
 
 abbrev pub pairs_of : Inside → List Pair
-pairs_of inside = map pair_of inside.pairs.items
+pairs_of inside = pairs inside.query.now ++ pairs inside.form.now

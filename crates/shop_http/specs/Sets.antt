@@ -1,6 +1,6 @@
 -- The quantities that a request for the shopping cart sets, each in a parameter such as `qty_46=2`;
 -- this project's own.
-use Rattle.std.specs.Prelude.{ℕ, nat_le, List, [], ◌∷◌, length, take, drop, Option, Some, None, if◌then◌else◌, codes}
+use Rattle.std.specs.Prelude.{ℕ, nat_le, List, [], ◌∷◌, ◌++◌, length, take, drop, Option, Some, None, if◌then◌else◌, codes}
 use Rattle.std.specs.List.{filter_map}
 use Rattle.std.specs.Option.{option_map, option_and_then}
 use Rattle.std.specs.Str.{bytes_eq}
@@ -26,6 +26,10 @@ unfoldable pub all_of : {A : Type 0} → List (Option A) → Option (List A)
 all_of [] = Some []
 all_of (None ∷ others) = None
 all_of (Some value ∷ others) = option_map (λ values. value ∷ values) (all_of others)
+
+-- these sets, and behind them all that the pairs set; none where one is not in its form
+abbrev pub sets_behind : List (ℕ × ℕ) → List (List ℕ × List ℕ) → Option (List (ℕ × ℕ))
+sets_behind sets pairs = option_map (λ more. sets ++ more) (all_of (filter_map set_asked pairs))
 
 -- no more sets than one request may have
 abbrev pub few : List (ℕ × ℕ) → Option (List (ℕ × ℕ))

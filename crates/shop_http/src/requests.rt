@@ -15,14 +15,17 @@ use shop_message::Message;
 use shop_model::{Interaction, Parameter, Request};
 use shop_text::Memory;
 use std::alloc::Global;
+use values::Values;
 
 mod browsing;
 mod cart;
+mod decoding;
 mod fault;
 mod forms;
 mod pairs;
 #[cfg(test)]
 mod tests;
+mod values;
 
 /// Why a message is not answered by an interaction.
 #[derive(Clone, Copy, Debug, PartialEq, Eq)]
@@ -109,13 +112,16 @@ fn read(
 ) -> Result<Request, Fault>
     ensures { Reads (spec.request_by interaction (pairs query.now ++ pairs form.now)) result }
 {
-    let pairs = Pairs::of(alloc, query, form)?;
+    let mut values = Values::none();
+    values.read(alloc, query)?;
+    values.read(alloc, form)?;
+    let pairs = Pairs::of(query, form, &values);
     match interaction {
-        Interaction::Home => home(&pairs),
-        Interaction::NewProducts => new_products(&pairs),
-        Interaction::BestSellers => best_sellers(&pairs),
-        Interaction::ProductDetail => product_detail(&pairs),
-        Interaction::SearchRequest => search_request(&pairs),
+        Interaction::Home => home(alloc, &pairs),
+        Interaction::NewProducts => new_products(alloc, &pairs),
+        Interaction::BestSellers => best_sellers(alloc, &pairs),
+        Interaction::ProductDetail => product_detail(alloc, &pairs),
+        Interaction::SearchRequest => search_request(alloc, &pairs),
         Interaction::SearchResults => search_results(alloc, &pairs),
         Interaction::ShoppingCart => shopping_cart(alloc, &pairs),
     }

@@ -9,49 +9,49 @@ use shop_model::{
 };
 use std::alloc::Global;
 
-pub(crate) fn home(pairs: &Pairs) -> Result<Request, Fault>
+pub(crate) fn home(alloc: Global, pairs: &Pairs) -> Result<Request, Fault>
     ensures { Reads (spec.home pairs.now) result }
 {
-    let ids = ids_asked(pairs)?;
+    let ids = ids_asked(alloc, pairs)?;
     Ok(Request::Home(Home { ids }))
 }
 
-pub(crate) fn new_products(pairs: &Pairs) -> Result<Request, Fault>
+pub(crate) fn new_products(alloc: Global, pairs: &Pairs) -> Result<Request, Fault>
     ensures { Reads (spec.new_products pairs.now) result }
 {
-    let subject = required_subject(pairs)?;
-    let ids = ids_asked(pairs)?;
+    let subject = required_subject(alloc, pairs)?;
+    let ids = ids_asked(alloc, pairs)?;
     Ok(Request::NewProducts(NewProducts { subject, ids }))
 }
 
-pub(crate) fn best_sellers(pairs: &Pairs) -> Result<Request, Fault>
+pub(crate) fn best_sellers(alloc: Global, pairs: &Pairs) -> Result<Request, Fault>
     ensures { Reads (spec.best_sellers pairs.now) result }
 {
-    let subject = required_subject(pairs)?;
-    let ids = ids_asked(pairs)?;
+    let subject = required_subject(alloc, pairs)?;
+    let ids = ids_asked(alloc, pairs)?;
     Ok(Request::BestSellers(BestSellers { subject, ids }))
 }
 
-pub(crate) fn product_detail(pairs: &Pairs) -> Result<Request, Fault>
+pub(crate) fn product_detail(alloc: Global, pairs: &Pairs) -> Result<Request, Fault>
     ensures { Reads (spec.product_detail pairs.now) result }
 {
-    let item = required_number(pairs, Parameter::Item)?;
-    let ids = ids_asked(pairs)?;
+    let item = required_number(alloc, pairs, Parameter::Item)?;
+    let ids = ids_asked(alloc, pairs)?;
     Ok(Request::ProductDetail(ProductDetail { item, ids }))
 }
 
-pub(crate) fn search_request(pairs: &Pairs) -> Result<Request, Fault>
+pub(crate) fn search_request(alloc: Global, pairs: &Pairs) -> Result<Request, Fault>
     ensures { Reads (spec.search_request pairs.now) result }
 {
-    let ids = ids_asked(pairs)?;
+    let ids = ids_asked(alloc, pairs)?;
     Ok(Request::SearchRequest(SearchRequest { ids }))
 }
 
 pub(crate) fn search_results(alloc: Global, pairs: &Pairs) -> Result<Request, Fault>
     ensures { Reads (spec.search_results pairs.now) result }
 {
-    let kind = required_kind(pairs)?;
+    let kind = required_kind(alloc, pairs)?;
     let text = required_text(alloc, pairs)?;
-    let ids = ids_asked(pairs)?;
+    let ids = ids_asked(alloc, pairs)?;
     Ok(Request::SearchResults(SearchResults { kind, text, ids }))
 }

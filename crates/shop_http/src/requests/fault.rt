@@ -19,14 +19,3 @@ impl From<Memory> for Fault {
         Fault::Memory
     }
 }
-
-impl From<Parameter> for Fault {
-    ghost use Rattle.std.specs.Prelude.{◌≡◌};
-    ghost use Rattle.shop_http.specs.declared.requests.fault.Fault.{Fault};
-
-    ghost from_gives = { λ parameter fault. fault ≡ Fault.Parameter parameter };
-
-    fn from(parameter: Parameter) -> Self {
-        Fault::Parameter(parameter)
-    }
-}

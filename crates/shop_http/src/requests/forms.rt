@@ -1,5 +1,5 @@
-ghost use Rattle.std.specs.Prelude.{◌≡◌, ◌<◌, ◌≤◌, IfOk, IfSome, length};
-ghost use Rattle.std.specs.Option.{option_map};
+ghost use Rattle.std.specs.Prelude.{◌≡◌, ◌≢◌, ◌<◌, ◌≤◌, IfOk, IfSome, length};
+ghost use Rattle.std.specs.Option.{option_map, ok_or};
 ghost use Rattle.shop_model.specs.Kinds.{kind_of};
 ghost use Rattle.shop_model.specs.Limits.{text_limit};
 ghost use Rattle.shop_model.specs.Subjects.{subject_of};
@@ -9,6 +9,7 @@ ghost use Rattle.shop_http.specs.Forms as spec;
 ghost use Rattle.shop_http.specs.Numbers as numbers;
 ghost use Rattle.shop_http.specs.Requests as requests;
 
+use super::decoding::decoded;
 use super::fault::Fault;
 use super::pairs::Pairs;
 use crate::numbers::number_of;
@@ -17,48 +18,71 @@ use shop_text::Text;
 use std::alloc::Global;
 
 /// A number that has to be there.
-pub(crate) fn required_number(pairs: &Pairs, parameter: Parameter) -> Result<u32, Parameter>
-    ensures { result ≡ spec.required numbers.number_of pairs.now parameter }
+#[inline(always)]
+pub(crate) fn required_number(
+    alloc: Global,
+    pairs: &Pairs,
+    parameter: Parameter,
+) -> Result<u32, Fault>
+    requires { parameter ≢ Parameter.Qty }
+    ensures { Reads (spec.required numbers.number_of pairs.now parameter) result }
 {
-    pairs
-        .value_of(parameter)
-        .and_then(number_of)
-        .ok_or(parameter)
+    match pairs.value_of(parameter) {
+        Some(value) => number_in(alloc, value, parameter),
+        None => Err(Fault::Parameter(parameter)),
+    }
 }
 
 /// A number that may be absent.
-pub(crate) fn optional_number(pairs: &Pairs, parameter: Parameter) -> Result<Option<u32>, Parameter>
-    ensures { result ≡ spec.optional numbers.number_of pairs.now parameter }
+#[inline(always)]
+pub(crate) fn optional_number(
+    alloc: Global,
+    pairs: &Pairs,
+    parameter: Parameter,
+) -> Result<Option<u32>, Fault>
+    requires { parameter ≢ Parameter.Qty }
+    ensures { Reads (spec.optional numbers.number_of pairs.now parameter) result }
 {
     match pairs.value_of(parameter) {
-        Some(value) => match number_of(value) {
-            Some(number) => Ok(Some(number)),
-            None => Err(parameter),
-        },
+        Some(value) => Ok(Some(number_in(alloc, value, parameter)?)),
         None => Ok(None),
     }
 }
 
-/// The subject that is named.
-pub(crate) fn required_subject(pairs: &Pairs) -> Result<Subject, Parameter>
-    ensures { result ≡ spec.required subject_of pairs.now Parameter.Subject }
+/// The number of an encoded value.
+fn number_in(alloc: Global, encoded: &[u8], parameter: Parameter) -> Result<u32, Fault>
+    ensures { Reads (ok_or (numbers.number_of (spec.decoded_text encoded.now)) parameter) result }
 {
-    let parameter = Parameter::Subject;
-    pairs
-        .value_of(parameter)
-        .and_then(Subject::of)
-        .ok_or(parameter)
+    match number_of(decoded(alloc, encoded)?.as_slice()) {
+        Some(number) => Ok(number),
+        None => Err(Fault::Parameter(parameter)),
+    }
+}
+
+/// The subject that is named.
+pub(crate) fn required_subject(alloc: Global, pairs: &Pairs) -> Result<Subject, Fault>
+    ensures { Reads (spec.required subject_of pairs.now Parameter.Subject) result }
+{
+    let Some(value) = pairs.value_of(Parameter::Subject) else {
+        return Err(Fault::Parameter(Parameter::Subject));
+    };
+    match Subject::of(decoded(alloc, value)?.as_slice()) {
+        Some(subject) => Ok(subject),
+        None => Err(Fault::Parameter(Parameter::Subject)),
+    }
 }
 
 /// The kind of search that is named.
-pub(crate) fn required_kind(pairs: &Pairs) -> Result<SearchKind, Parameter>
-    ensures { result ≡ spec.required kind_of pairs.now Parameter.Kind }
+pub(crate) fn required_kind(alloc: Global, pairs: &Pairs) -> Result<SearchKind, Fault>
+    ensures { Reads (spec.required kind_of pairs.now Parameter.Kind) result }
 {
-    let parameter = Parameter::Kind;
-    pairs
-        .value_of(parameter)
-        .and_then(SearchKind::of)
-        .ok_or(parameter)
+    let Some(value) = pairs.value_of(Parameter::Kind) else {
+        return Err(Fault::Parameter(Parameter::Kind));
+    };
+    match SearchKind::of(decoded(alloc, value)?.as_slice()) {
+        Some(kind) => Ok(kind),
+        None => Err(Fault::Parameter(Parameter::Kind)),
+    }
 }
 
 /// A copy of the text that is searched for, where it is of 1 to 100 bytes.
@@ -70,7 +94,7 @@ pub(crate) fn required_text(alloc: Global, pairs: &Pairs) -> Result<Text, Fault>
     let Some(value) = pairs.value_of(Parameter::Text) else {
         return Err(Fault::Parameter(Parameter::Text));
     };
-    match text_of(value) {
+    match text_of(decoded(alloc, value)?.as_slice()) {
         Some(text) => Ok(Text::copy(alloc, text)?),
         None => Err(Fault::Parameter(Parameter::Text)),
     }
@@ -89,10 +113,10 @@ fn text_of(text: &[u8]) -> Option<&[u8]>
 }
 
 /// The ids, each of which may be absent.
-pub(crate) fn ids_asked(pairs: &Pairs) -> Result<IdsAsked, Parameter>
-    ensures { result ≡ requests.ids_asked pairs.now }
+pub(crate) fn ids_asked(alloc: Global, pairs: &Pairs) -> Result<IdsAsked, Fault>
+    ensures { Reads (requests.ids_asked pairs.now) result }
 {
-    let c = optional_number(pairs, Parameter::C)?;
-    let cart = optional_number(pairs, Parameter::Cart)?;
+    let c = optional_number(alloc, pairs, Parameter::C)?;
+    let cart = optional_number(alloc, pairs, Parameter::Cart)?;
     Ok(IdsAsked { c, cart })
 }

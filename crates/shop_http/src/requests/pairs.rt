@@ -1,98 +1,60 @@
-ghost use Rattle.std.specs.Prelude.{◌≡◌, ◌++◌, length, map, IfOk, OnOk};
-ghost use Rattle.std.specs.Option.{option_map};
+ghost use Rattle.std.specs.Prelude.{◌≡◌, ◌≢◌, ◌++◌};
+ghost use Rattle.shop_model.specs.declared.parameter.Parameter.{Parameter};
+ghost use Rattle.shop_http.specs.Firsts.{firsts_of, kept};
 ghost use Rattle.shop_http.specs.Forms as spec;
-ghost use Rattle.shop_http.specs.Decoded.{pair_of};
 
-use form_urlencoded::{decode, raw_pairs};
-use memchr::memchr_iter;
+use super::values::Values;
 use shop_model::Parameter;
-use shop_text::Memory;
-use std::alloc::Global;
-use std::borrow::CowStr;
 use std::marker::Model;
 
-/// A decoded name and its decoded value; what is plain in the message is borrowed from it.
+/// The pairs of a message: those of its query, and behind them those of a form.
 #[derive(Drop)]
-pub(crate) struct Pair<'a> {
-    pub(crate) name: CowStr<'a>,
-    pub(crate) value: CowStr<'a>,
+pub(crate) struct Pairs<'v, 'a> {
+    query: &'a [u8],
+    form: &'a [u8],
+    values: &'v Values<'a>,
 }
 
-/// The decoded pairs of a message.
-#[derive(Drop)]
-pub(crate) struct Pairs<'a> {
-    pairs: Vec<Pair<'a>>,
-}
-
-impl<'a> Model for Pairs<'a> {
-    ghost use Rattle.std.specs.Prelude.{List};
+impl<'v, 'a> Model for Pairs<'v, 'a> {
+    ghost use Rattle.std.specs.Prelude.{List, ◌≡◌};
     ghost use Rattle.shop_http.specs.Forms.{Pair};
+    ghost use Rattle.shop_http.specs.Firsts.{firsts_of};
     ghost use Rattle.shop_http.specs.PairsView.{pairs_of};
 
     ghost Value = { List Pair };
 
     ghost view = { pairs_of };
+
+    ghost invariant = { λ p. p.values.now ≡ firsts_of (pairs_of p) };
 }
 
-impl<'a> Pairs<'a> {
-    /// The pairs of a query, and behind them those of a form.
-    pub(crate) fn of(alloc: Global, query: &'a [u8], form: &'a [u8]) -> Result<Pairs<'a>, Memory>
-        ensures { IfOk result (λ pairs. pairs ≡ spec.pairs query.now ++ spec.pairs form.now) }
+impl<'v, 'a> Pairs<'v, 'a> {
+    /// The pairs of a query and of a form, whose values these are.
+    #[inline(always)]
+    pub(crate) fn of(query: &'a [u8], form: &'a [u8], values: &'v Values<'a>) -> Pairs<'v, 'a>
+        requires { values.now ≡ firsts_of (spec.pairs query.now ++ spec.pairs form.now) }
+        ensures { result ≡ spec.pairs query.now ++ spec.pairs form.now }
     {
-        let most = pairs_at_most(query).saturating_add(pairs_at_most(form));
-        let mut pairs = Pairs {
-            pairs: Vec::with_capacity(alloc, most)?,
-        };
-        pairs.add(alloc, query)?;
-        pairs.add(alloc, form)?;
-        Ok(pairs)
-    }
-
-    /// Decodes the pairs of an encoded text behind these.
-    fn add(&mut self, alloc: Global, encoded: &'a [u8]) -> Result<(), Memory>
-        ensures { OnOk result (self.new ≡ self.old ++ spec.pairs encoded.now) }
-    {
-        for (name, value) in raw_pairs(encoded) {
-            self.pairs.push(Pair {
-                name: decode(alloc, name)?,
-                value: decode(alloc, value)?,
-            })?;
+        Pairs {
+            query,
+            form,
+            values,
         }
-        Ok(())
     }
 
-    pub(crate) fn as_slice(&self) -> &[Pair<'a>]
-        ensures { map pair_of result.now ≡ self.now }
+    /// The encoded texts whose pairs these are.
+    pub(crate) fn texts(&self) -> (&'a [u8], &'a [u8])
+        ensures { self.now ≡ spec.pairs result.0.now ++ spec.pairs result.1.now }
     {
-        &self.pairs
+        (self.query, self.form)
     }
 
-    /// The value of the first pair of this parameter.
-    pub(crate) fn value_of(&self, parameter: Parameter) -> Option<&[u8]>
-        ensures { option_map (λ value. value.now) result ≡ spec.value_of self.now parameter }
+    /// The value of the first pair of a parameter that is read once, still encoded.
+    #[inline(always)]
+    pub(crate) fn value_of(&self, parameter: Parameter) -> Option<&'a [u8]>
+        requires { parameter ≢ Parameter.Qty }
+        ensures { kept result ≡ spec.value_of self.now parameter }
     {
-        value_among(&self.pairs, parameter.name())
+        self.values.of(parameter)
     }
-}
-
-/// Room enough for the pairs of an encoded text.
-fn pairs_at_most(encoded: &[u8]) -> usize {
-    if encoded.is_empty() {
-        return 0;
-    }
-    memchr_iter(b'&', encoded).count() + 1
-}
-
-/// The value of the first pair that has the name.
-fn value_among<'p>(pairs: &'p [Pair<'_>], name: &[u8]) -> Option<&'p [u8]>
-    ensures { option_map (λ value. value.now) result ≡ spec.value_named (map pair_of pairs.now) name.now }
-{
-    let mut rest = pairs;
-    while let [pair, after @ ..] = rest {
-        if pair.name.as_str().as_bytes() == name {
-            return Some(pair.value.as_str().as_bytes());
-        }
-        rest = after;
-    }
-    None
 }

@@ -1,46 +1,76 @@
-use Rattle.std.proofs.Common.{◌∙◌, Some, length, sym, ap, arith, length-append}
-use Rattle.std.specs.Option.{ok_or}
-use Rattle.std.proofs.lemmas.List.{drop_all}
+use Rattle.std.proofs.Common.{◌≡◌, ℕ, List, [], ◌++◌, Option, Some, None, sym, ap, ◌∙◌, subst}
+use Rattle.std.specs.Option.{option_and_then, ok_or}
+use Rattle.std.specs.Prelude.{Result, Ok, Err, IsErrAnd}
 use Rattle.shop_model.specs.declared.parameter.Parameter.TheVariants.{Qty}
-use Rattle.shop_http.proofs.Pairs.{pairs-from}
-use Rattle.shop_http.proofs.SetLemmas.{sets_with-none, sets_with-all, sets_with-other, sets_with-bad, sets_with-full, sets_with-one}
+use Rattle.shop_http.specs.Answers.{Reads}
+use Rattle.shop_http.specs.Forms.{Pair}
+use Rattle.shop_http.specs.Sets.{few, sets_behind, sets_asked}
+use Rattle.shop_http.specs.declared.requests.fault.Fault.{Fault}
+use Rattle.shop_http.specs.declared.requests.fault.Fault.TheVariants as fault
+use Rattle.shop_http.proofs.SetBounds.{found_is}
+use Rattle.shop_http.proofs.SetLemmas.{sets_behind-append, asked-behind, sets_asked-many, sets_asked-few}
 use Rattle.shop_http.proofs.requests.cart.sets_asked.Goals as goal
 
-pub loop-pair-init : goal.loop-pair-init
-loop-pair-init c = record {
-  few = rw c.new-sets.ensures (omega arith);
-  asked = rw c.new-sets.ensures (sets_with-none _);
-}
+-- a fault stays one, whatever was to follow
+still : {A B : Type 0} (next : A → Option B) (asked : Option A) (why : Fault) → Reads (ok_or asked Qty) (Err why) → Reads (ok_or (option_and_then next asked) Qty) (Err why)
+still next None (fault.Parameter parameter) reads =
+    let same : Qty ≡ parameter = cc in
+    ap Err same
+still next None fault.Memory reads = tt
+still next (Some x) (fault.Parameter parameter) reads = cc
+still next (Some x) fault.Memory reads = tt
 
-pub loop-pair-preserved-in_default : goal.loop-pair-preserved-in_default
-loop-pair-preserved-in_default c =
-    let left = rw (pairs-from c.args.pairs.now _ _ c.loop-pair-test.true c.pair-item.is) at c.loop-pair.invariant.asked in
-    let other = sym c.set_asked.ensures ∙ c.in_default.is in
-    record { few = c.loop-pair.invariant.few; asked = sym (sets_with-other _ _ _ other) ∙ left }
+carried : {T : Type 0} (result : Result T Fault) (why : Fault) → IsErrAnd result (λ e. e ≡ why) → result ≡ Err why
+carried (Ok _) why is = elim is [ ]
+carried (Err e) why is = ap Err is
 
-pub returns-in_default-asked : goal.returns-in_default-asked
-returns-in_default-asked c =
-    let left = rw (pairs-from c.args.pairs.now _ _ c.loop-pair-test.true c.pair-item.is) at c.loop-pair.invariant.asked in
-    let bad = sym c.set_asked.ensures ∙ c.in-Some.is ∙ ap Some c.in_default-asked.is in
-    ap (λ asked. ok_or asked Qty) (sym left ∙ sets_with-bad _ _ _ bad)
+-- all sets of two texts, where those of the first were read, and where those of both were
 
-pub returns-then-as_slice-eq-SETS_LIMIT : goal.returns-then-as_slice-eq-SETS_LIMIT
-returns-then-as_slice-eq-SETS_LIMIT c =
-    let left = rw (pairs-from c.args.pairs.now _ _ c.loop-pair-test.true c.pair-item.is) at c.loop-pair.invariant.asked in
-    let one = sym c.set_asked.ensures ∙ c.in-Some.is ∙ ap Some c.in-Some-asked.is in
-    let full = ap length (sym c.as_slice.ensures) ∙ c.if-as_slice-eq-SETS_LIMIT.true in
-    ap (λ asked. ok_or asked Qty) (sym left ∙ sets_with-full _ _ _ _ one full)
+two : (before one : List (ℕ × ℕ)) (pairs others : List Pair) → before ≡ [] → ok_or (sets_behind before pairs) Qty ≡ Ok one
+    → sets_behind [] (pairs ++ others) ≡ sets_behind one others
+two before one pairs others none front =
+    sets_behind-append [] pairs others
+    ∙ ap (option_and_then (λ more. sets_behind more others)) (ap (λ sets. sets_behind sets pairs) (sym none) ∙ found_is _ one front)
 
-pub loop-pair-preserved : goal.loop-pair-preserved
-loop-pair-preserved c =
-    let left = rw (pairs-from c.args.pairs.now _ _ c.loop-pair-test.true c.pair-item.is) at c.loop-pair.invariant.asked in
-    let one = sym c.set_asked.ensures ∙ c.in-Some.is ∙ ap Some c.in-Some-asked.is in
-    record {
-      few = rw (c.in_ok-push.ensures.ok, length-append) (omega (arith, ap length c.as_slice.ensures));
-      asked = rw c.in_ok-push.ensures.ok (sym (sets_with-one _ _ _ _ one) ∙ left);
-    }
+both : (before one all : List (ℕ × ℕ)) (pairs others : List Pair) → before ≡ [] → ok_or (sets_behind before pairs) Qty ≡ Ok one
+    → ok_or (sets_behind one others) Qty ≡ Ok all → sets_behind [] (pairs ++ others) ≡ Some all
+both before one all pairs others none front behind = two before one pairs others none front ∙ found_is _ all behind
+
+-- a fault of all the sets is one of what is asked
+fault-all : (pairs : List Pair) (found : Option (List (ℕ × ℕ))) (why : Fault) → sets_behind [] pairs ≡ found
+    → Reads (ok_or found Qty) (Err why) → Reads (ok_or (sets_asked pairs) Qty) (Err why)
+fault-all pairs found why all reads =
+    subst (λ asked. Reads (ok_or asked Qty) (Err why)) (ap (option_and_then few) (sym all) ∙ sym (asked-behind pairs)) (still few found why reads)
+
+fault-first : (before : List (ℕ × ℕ)) (pairs others : List Pair) (why : Fault) → before ≡ []
+    → Reads (ok_or (sets_behind before pairs) Qty) (Err why) → Reads (ok_or (sets_asked (pairs ++ others)) Qty) (Err why)
+fault-first before pairs others why none reads =
+    let next = λ (more : List (ℕ × ℕ)). sets_behind more others in
+    fault-all (pairs ++ others) (option_and_then next (sets_behind before pairs)) why
+    (sets_behind-append [] pairs others ∙ ap (λ sets. option_and_then next (sets_behind sets pairs)) (sym none)) (still next (sets_behind before pairs) why reads)
+
+fault-second : (before one : List (ℕ × ℕ)) (pairs others : List Pair) (why : Fault) → before ≡ [] → ok_or (sets_behind before pairs) Qty ≡ Ok one
+    → Reads (ok_or (sets_behind one others) Qty) (Err why) → Reads (ok_or (sets_asked (pairs ++ others)) Qty) (Err why)
+fault-second before one pairs others why none front reads =
+    fault-all (pairs ++ others) (sets_behind one others) why (two before one pairs others none front) reads
+
+pub returns-in_err-sets : goal.returns-in_err-sets
+returns-in_err-sets c =
+    rw (c.texts.ensures, carried _ _ c.from_residual.ensures.1) (fault-first c.new.result _ _ _ c.new.ensures c.in_err-sets.ensures)
+
+pub returns-in_err-sets-2 : goal.returns-in_err-sets-2
+returns-in_err-sets-2 c =
+    rw (c.texts.ensures, carried _ _ c.from_residual-in_err-sets-2.ensures.1)
+    (fault-second c.new.result c.in_ok-sets.sets _ _ _ c.new.ensures c.in_ok-sets.ensures c.in_err-sets-2.ensures)
+
+pub returns-then-as_slice-gt-SETS_LIMIT : goal.returns-then-as_slice-gt-SETS_LIMIT
+returns-then-as_slice-gt-SETS_LIMIT c =
+    let all = both c.new.result _ _ _ _ c.new.ensures c.in_ok-sets.ensures c.in_ok-sets-2.ensures in
+    let many = rw c.as_slice.ensures at c.if-as_slice-gt-SETS_LIMIT.true in
+    rw c.texts.ensures (ap (λ asked. ok_or asked Qty) (sets_asked-many _ _ all many))
 
 pub returns : goal.returns
 returns c =
-    let left = rw (drop_all _ c.args.pairs.now c.loop-pair-test.false) at c.loop-pair.invariant.asked in
-    ap (λ asked. ok_or asked Qty) (sym left ∙ sets_with-all _ c.loop-pair.invariant.few)
+    let all = both c.new.result _ _ _ _ c.new.ensures c.in_ok-sets.ensures c.in_ok-sets-2.ensures in
+    let short = rw c.as_slice.ensures at c.if-as_slice-gt-SETS_LIMIT.false in
+    rw c.texts.ensures (ap (λ asked. ok_or asked Qty) (sets_asked-few _ _ all short))

@@ -1,0 +1,68 @@
+-- The values of the parameters that are read once, of more and more pairs.
+use Rattle.std.proofs.Common.{◌≡◌, ℕ, List, [], ◌∷◌, ◌++◌, map, Option, Some, None, refl, sym, ap, ◌∙◌}
+use Rattle.std.specs.List.{find}
+use Rattle.std.specs.Option.{option_map, option_or}
+use Rattle.std.specs.Str.{bytes_eq}
+use Rattle.std.proofs.lemmas.List.Folds.{find-append}
+use Rattle.shop_model.specs.declared.parameter.Parameter.{Parameter}
+use Rattle.shop_model.specs.declared.parameter.Parameter.TheVariants.{C, Cart, Item, Qty, Subject, Kind, Text}
+use Rattle.shop_model.specs.Parameters.{parameter_name}
+use Rattle.shop_http.specs.Firsts.{Firsts, firsts_of, behind, first}
+use Rattle.shop_http.specs.Forms.{Pair, decoded_text, decoded, value_named, value_of}
+
+none_behind : (value : Option (List ℕ)) → option_or value None ≡ value
+none_behind None = refl
+none_behind (Some text) = refl
+
+pub behind-nil : (firsts : Firsts) → behind firsts [] ≡ firsts
+behind-nil firsts i = record {
+  c = none_behind firsts.c i;
+  cart = none_behind firsts.cart i;
+  item = none_behind firsts.item i;
+  subject = none_behind firsts.subject i;
+  kind = none_behind firsts.kind i;
+  text = none_behind firsts.text i;
+}
+
+-- the first value among the pairs of two lists
+in_turn : (value : Option (List ℕ)) (one other : Option Pair)
+    → option_or (option_or value (option_map (λ pair. pair.1) one)) (option_map (λ pair. pair.1) other)
+    ≡ option_or value (option_map (λ pair. pair.1) (option_or one other))
+in_turn None None other = refl
+in_turn None (Some pair) other = refl
+in_turn (Some text) one other = refl
+
+value-append : (value : Option (List ℕ)) (pairs others : List Pair) (name : List ℕ)
+    → option_or (option_or value (value_named pairs name)) (value_named others name)
+    ≡ option_or value (value_named (pairs ++ others) name)
+value-append value pairs others name =
+    in_turn value (find (λ pair. bytes_eq pair.0 name) pairs) (find (λ pair. bytes_eq pair.0 name) others)
+    ∙ ap (λ found. option_or value (option_map (λ pair. pair.1) found)) (sym (find-append (λ (pair : Pair). bytes_eq pair.0 name) pairs others))
+
+pub behind-append : (firsts : Firsts) (pairs others : List Pair) → behind (behind firsts pairs) others ≡ behind firsts (pairs ++ others)
+behind-append firsts pairs others i = record {
+  c = value-append firsts.c pairs others (parameter_name C) i;
+  cart = value-append firsts.cart pairs others (parameter_name Cart) i;
+  item = value-append firsts.item pairs others (parameter_name Item) i;
+  subject = value-append firsts.subject pairs others (parameter_name Subject) i;
+  kind = value-append firsts.kind pairs others (parameter_name Kind) i;
+  text = value-append firsts.text pairs others (parameter_name Text) i;
+}
+
+-- the next of the encoded pairs that are left
+pub behind-next : (firsts : Firsts) (left left' : List Pair) (name value text : List ℕ)
+    → left ≡ (name, value) ∷ left' → text ≡ decoded_text name
+    → behind (behind firsts ((text, decoded_text value) ∷ [])) (map decoded left') ≡ behind firsts (map decoded left)
+behind-next firsts left left' name value text is same =
+    behind-append firsts ((text, decoded_text value) ∷ []) (map decoded left')
+    ∙ ap (λ t. behind firsts ((t, decoded_text value) ∷ map decoded left')) same ∙ ap (λ pairs. behind firsts (map decoded pairs)) (sym is)
+
+-- a parameter that is read once
+pub first-value : (pairs : List Pair) (parameter : Parameter) → (parameter ≡ Qty → ⊥) → first (firsts_of pairs) parameter ≡ value_of pairs parameter
+first-value pairs C once = refl
+first-value pairs Cart once = refl
+first-value pairs Item once = refl
+first-value pairs Qty once = absurd (once refl)
+first-value pairs Subject once = refl
+first-value pairs Kind once = refl
+first-value pairs Text once = refl
