@@ -1,5 +1,6 @@
 //! What the book of the desk with seed 0 shows when it opens.
-use crate::{done, text_of};
+use crate::answers::{answer, text_of};
+use crate::done;
 use anyhow::{Context, Result};
 use shop_book::Book;
 use shop_history::{Key, Row};
@@ -12,17 +13,14 @@ use std::alloc::Global;
 pub fn print_row(rt: &impl Print, book: &Book, key: &Key) -> Result<()> {
     let (row, version) = done(book.read(key))?;
     match &row {
-        Row::Absent => println!(rt; "  {key:?}: absent, version {version}")?,
-        Row::Items(ids) => println!(rt; "  {key:?}: {:?}, version {version}", ids.as_slice())?,
-        Row::Label(label) => println!(rt;
-            "  {key:?}: {} by {} {}, version {version}",
-            text_of(label.title.bytes()),
-            text_of(label.first.bytes()),
-            text_of(label.last.bytes())
-        )?,
-        _ => println!(rt; "  {key:?}: there, version {version}")?,
+        Row::Absent => answer(rt, key, &("absent", version)),
+        Row::Items(ids) => answer(rt, key, &(ids.as_slice(), version)),
+        Row::Label(label) => {
+            let author = (text_of(label.first.bytes()), text_of(label.last.bytes()));
+            answer(rt, key, &(text_of(label.title.bytes()), author, version))
+        }
+        _ => answer(rt, key, &("there", version)),
     }
-    Ok(())
 }
 
 /// The open book, and the authorisation of its first order.
@@ -39,11 +37,8 @@ fn opened(alloc: Global) -> Result<(Book, Option<AuthId>), Memory> {
 pub fn print(rt: &(impl Print + AllocGlobal)) -> Result<()> {
     let (book, auth) = done(opened(rt.alloc()))?;
     let auth = auth.context("no order 1")?;
-    println!(rt;
-        "the open book: authorisation of order 1 {}, of none {}",
-        book.has_auth(&auth),
-        book.has_auth(&AuthId::of(0))
-    )?;
+    let known = (book.has_auth(&auth), book.has_auth(&AuthId::of(0)));
+    answer(rt, &"authorisations of order 1 and of none", &known)?;
     for key in [
         Key::NewIn(Subject::NonFiction),
         Key::BestIn(Subject::NonFiction),

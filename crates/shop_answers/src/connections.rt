@@ -2,6 +2,7 @@
 ghost use Rattle.std.specs.Prelude.{◌≤◌};
 ghost use Rattle.shop_book.specs.Openings.{most_entries};
 
+use crate::answers::answer;
 use crate::books::print_row;
 use crate::done;
 use anyhow::{Result, anyhow};
@@ -111,12 +112,16 @@ fn served(alloc: Global, case: Case) -> Result<(Report, Book), Memory> {
     Ok((report, worker.into_store().into_book()))
 }
 
+/// Prints the kind of a point: its front, moment, call, word and tries.
 fn print_point(rt: &impl Print, point: &Point) -> Result<()> {
-    println!(rt;
-        "  {:?}: front {}, moment {}, call {}, word {}, tries {}",
-        point.kind, point.front, point.moment, point.call, point.draw, point.tries
-    )?;
-    Ok(())
+    let numbers = (
+        point.front,
+        point.moment,
+        point.call,
+        point.draw,
+        point.tries,
+    );
+    answer(rt, &point.kind, &numbers)
 }
 
 /// Prints the points, what the log has come to, and the versions of three rows.
@@ -124,11 +129,8 @@ fn print_served(rt: &impl Print, report: &Report, book: &Book) -> Result<()> {
     for point in report.points.as_slice() {
         print_point(rt, point)?;
     }
-    println!(rt;
-        "  {} changes of caller 1, {:?}",
-        book.count_of(1),
-        book.summary()
-    )?;
+    answer(rt, &"changes of caller 1", &book.count_of(1))?;
+    answer(rt, &"all changes", &book.summary())?;
     for key in [Key::Cart(1), Key::Cart(2), Key::Item(46)] {
         print_row(rt, book, &key)?;
     }
@@ -138,7 +140,7 @@ fn print_served(rt: &impl Print, report: &Report, book: &Book) -> Result<()> {
 pub fn print(rt: &(impl Print + AllocGlobal)) -> Result<()> {
     for case in CASES {
         let (report, book) = done(served(rt.alloc(), case))?;
-        println!(rt; "{}: {:?}", case.name, report.end)?;
+        answer(rt, &case.name, &report.end)?;
         print_served(rt, &report, &book)?;
     }
     Ok(())
@@ -161,7 +163,7 @@ pub fn print_messages(rt: &(impl Print + AllocGlobal)) -> Result<()> {
     for (target, last) in [("/product_detail?item=1", false), ("/home?c=x", true)] {
         match done(answered(rt.alloc(), target, last))? {
             Answered::Reply(reply, point) => {
-                println!(rt; "{target}, the last one {last}: {} bytes", reply.len())?;
+                answer(rt, &(target, last), &reply.len())?;
                 print_point(rt, &point)?;
             }
             Answered::Memory => return Err(anyhow!("no memory")),

@@ -1,5 +1,6 @@
 //! Requests over bytes in memory while each read, and then each write, fails in turn: whether the end, the
 //! bytes written and the log are what they must be.
+use crate::answers::answer;
 use crate::faulty::{Calls, Outcome, serve};
 use anyhow::{Result, ensure};
 use shop_engine::Ended;
@@ -95,15 +96,16 @@ fn writes_of(case: Case, piece: usize) -> usize {
     case.reply.len().div_ceil(piece.max(1))
 }
 
-/// Prints what came of the faults of a request, and answers whether all is right.
+/// Prints what came of the faults of a request, by the most bytes of a call and how many reads and writes
+/// there are, and answers whether all is right.
 fn is_right(rt: &(impl Print + AllocGlobal), case: Case) -> Result<bool> {
     let mut right = true;
     for piece in PIECES {
         let read = reads_may_fail(rt.alloc(), case, piece)?;
         let written = writes_may_fail(rt.alloc(), case, piece)?;
-        let (name, told) = (case.name, if read && written { "ok" } else { "wrong" });
-        let (reads, writes) = (reads_of(case, piece), writes_of(case, piece));
-        println!(rt; "{name}: {reads} reads and {writes} writes of at most {piece} bytes: {told}")?;
+        let told = if read && written { "ok" } else { "wrong" };
+        let calls = (reads_of(case, piece), writes_of(case, piece));
+        answer(rt, &(case.name, piece, calls), &told)?;
         right = right && read && written;
     }
     Ok(right)

@@ -2,6 +2,7 @@
 //! `stdout` has what is wanted.
 #![tactic(auto)]
 
+mod answers;
 mod books;
 mod connections;
 mod faults;
@@ -10,11 +11,6 @@ mod sessions;
 
 use anyhow::{Context, Result};
 use shop_text::Memory;
-
-/// The bytes as text.
-pub fn text_of(bytes: &[u8]) -> &str {
-    std::str::from_utf8(bytes).unwrap_or("(no text)")
-}
 
 /// What a call answers, where there is memory for it.
 pub fn done<T>(answer: Result<T, Memory>) -> Result<T> {

@@ -1,5 +1,6 @@
 //! Sessions whose streams fail.
-use crate::{done, text_of};
+use crate::answers::{answer, text_of};
+use crate::done;
 use anyhow::Result;
 use shop_app::{Status, run_alone};
 use shop_edges::{BytesIn, BytesOut, ListClock};
@@ -32,12 +33,8 @@ fn session(
 pub fn print(rt: &(impl Print + AllocGlobal)) -> Result<()> {
     for (read, write, piece) in [(1, 0, 1_000), (0, 2, 1)] {
         let (status, sink, told) = done(session(rt.alloc(), (read, write, piece)))?;
-        println!(rt;
-            "read {read}, write {write} of {piece} bytes at most: {status:?}, {}, wrote {:?}, told {:?}",
-            status.code(),
-            text_of(sink.bytes()),
-            text_of(told.bytes())
-        )?;
+        let streams = (text_of(sink.bytes()), text_of(told.bytes()));
+        answer(rt, &(read, write, piece), &(status, status.code(), streams))?;
     }
     Ok(())
 }
