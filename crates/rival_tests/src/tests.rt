@@ -1,4 +1,7 @@
 //! Connections of caller 1 at the desk with seed 0, where caller 2 changes the cart meanwhile.
+ghost use Rattle.std.specs.Arc.{arc_value};
+ghost use Rattle.std.specs.Prelude.{◌≡◌, IfOk};
+
 use crate::Rivalled;
 use shop_attempt::Conflict;
 use shop_book::Book;
@@ -26,12 +29,22 @@ Content-Length: 106\r\n\r\n\
 </body></html>
 ";
 
+/// One more owner of the index.
+fn twin(index: &Arc<Index, Global>) -> Result<Arc<Index, Global>, Fail>
+    ensures { IfOk result (λ twin. arc_value twin ≡ arc_value index.now) }
+{
+    match Arc::try_clone(index) {
+        Ok(twin) => Ok(twin),
+        Err(_) => Err("no twin".into()),
+    }
+}
+
 /// A worker of caller 1, at whose cart caller 2 makes so many changes.
 fn worker_among(alloc: Global, changes: u32) -> Result<Worker<Rivalled>, Fail> {
     let scale = Scale::desk();
     let tables = populate(alloc, 0, &scale)?;
     let index = Arc::new(alloc, Index::build(alloc, &tables)?)?;
-    let shared = Arc::try_clone(&index).ok().ok_or("no twin")?;
+    let shared = twin(&index)?;
     let book = Book::open(alloc, tables, 100)?;
     let store = Rivalled::new(alloc, book, shared, scale, changes);
     Ok(Worker::new(alloc, store, 1, 0, scale, index)?)

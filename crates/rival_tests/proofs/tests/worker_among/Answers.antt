@@ -30,7 +30,7 @@ scale_is seed scale t book drawn opens = sym (ap (λ (u : Tables). length u.item
 
 pub new-store-requires : goal.new-store-requires
 new-store-requires c = record {
-  named = c.in_ok-index.ensures.ok ∙ c.in_ok-build.ensures ∙ ap (λ (b : BookValue). catalogue b.opening.tables) (sym c.in_ok-book.ensures.value);
+  named = c.in_ok-shared.ensures ∙ c.in_ok-index.ensures.ok ∙ c.in_ok-build.ensures ∙ ap (λ (b : BookValue). catalogue b.opening.tables) (sym c.in_ok-book.ensures.value);
   scaled = scale_is 0 c.desk-scale.result c.in_ok-tables.tables c.in_ok-book.book c.in_ok-tables.ensures.value (ap (λ (b : BookValue). b.opening.tables) c.in_ok-book.ensures.value);
 }
 
