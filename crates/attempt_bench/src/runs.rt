@@ -7,6 +7,7 @@ ghost use Rattle.shop_book.specs.Solos.{seat_of};
 use shop_attempt::{Settle, Store};
 use shop_book::{Book, Solo};
 use shop_browse::{Ask, Attempted};
+use shop_draft::{Draft, Template};
 use shop_model::{Request, Scale};
 use shop_order::attempt;
 use shop_populate::populate;
@@ -17,6 +18,9 @@ use std::alloc::Global;
 /// The seed of the tables.
 const SEED: u32 = 0;
 
+/// The bytes for which a draft has room at first.
+const PAGE_ROOM: usize = 8_192;
+
 /// How many changes the log holds.
 const LIMIT: u64 = 1_000_000;
 
@@ -26,6 +30,8 @@ pub struct Shop {
     pub store: Solo,
     pub index: Index,
     pub scale: Scale,
+    /// The draft of one page after another.
+    pub draft: Draft,
 }
 
 impl Shop {
@@ -41,19 +47,23 @@ impl Shop {
             store: Solo::new(book),
             index,
             scale,
+            draft: Draft {
+                status: 0,
+                page: Template::with_room(alloc, PAGE_ROOM)?,
+            },
         })
     }
 }
 
 /// Makes an attempt, and says whether its settle was done.
-fn is_done(alloc: Global, store: &mut Solo, ask: &Ask, request: &Request) -> bool
+fn is_done(alloc: Global, store: &mut Solo, ask: &Ask, request: &Request, draft: &mut Draft) -> bool
     requires index { ask.now.index.now ≡ catalogue (seat_of store.old).opening }
     requires scale { ask.now.scale.now.items ≡ length (seat_of store.old).opening.items }
     requires moment { ask.now.moment ≤ stamp_limit }
     ensures { Follows (seat_of store.old) (seat_of store.new) }
 {
-    match attempt(alloc, store, ask, request) {
-        Attempted::Ready(attempt, _) => matches!(store.settle(attempt), Settle::Done(_)),
+    match attempt(alloc, store, ask, request, draft) {
+        Attempted::Ready(attempt) => matches!(store.settle(attempt), Settle::Done(_)),
         _ => false,
     }
 }
@@ -71,7 +81,7 @@ pub fn run(alloc: Global, shop: &mut Shop, request: &Request, count: u32) -> u32
             moment: u64::from(draw),
             draw,
         };
-        if is_done(alloc, &mut shop.store, &ask, request) {
+        if is_done(alloc, &mut shop.store, &ask, request, &mut shop.draft) {
             done += 1;
         }
     }

@@ -9,7 +9,7 @@ use shop_browse::product_detail::product_detail;
 use shop_browse::search_request::search_request;
 use shop_browse::search_results::search_results;
 use shop_browse::{Ask, Attempted};
-use shop_history::Draft;
+use shop_draft::Draft;
 use shop_model::{
     BestSellers, Home, IdsAsked, NewProducts, ProductDetail, Scale, SearchKind, SearchRequest,
     SearchResults, Subject,
@@ -37,43 +37,54 @@ fn ask_of<'a>(scale: &'a Scale, index: &'a Index) -> Ask<'a>
     }
 }
 
-fn at_home(alloc: Global) -> Result<Attempted, Memory> {
+fn at_home(alloc: Global) -> Result<(Attempted, Draft), Memory> {
     let mut shop = Shop::open(alloc, Scale::desk())?;
     let ask = ask_of(&shop.scale, &shop.index);
-    Ok(home(alloc, &mut shop.store, &ask, &Home { ids: IDS }))
+    let attempted = home(
+        alloc,
+        &mut shop.store,
+        &ask,
+        &Home { ids: IDS },
+        &mut shop.draft,
+    );
+    Ok((attempted, shop.draft))
 }
 
-fn at_new_products(alloc: Global) -> Result<Attempted, Memory> {
+fn at_new_products(alloc: Global) -> Result<(Attempted, Draft), Memory> {
     let mut shop = Shop::open(alloc, Scale::desk())?;
     let ask = ask_of(&shop.scale, &shop.index);
     let subject = Subject::NonFiction;
     let asked = NewProducts { subject, ids: IDS };
-    Ok(new_products(alloc, &mut shop.store, &ask, &asked))
+    let attempted = new_products(alloc, &mut shop.store, &ask, &asked, &mut shop.draft);
+    Ok((attempted, shop.draft))
 }
 
-fn at_best_sellers(alloc: Global) -> Result<Attempted, Memory> {
+fn at_best_sellers(alloc: Global) -> Result<(Attempted, Draft), Memory> {
     let mut shop = Shop::open(alloc, Scale::desk())?;
     let ask = ask_of(&shop.scale, &shop.index);
     let subject = Subject::NonFiction;
     let asked = BestSellers { subject, ids: IDS };
-    Ok(best_sellers(alloc, &mut shop.store, &ask, &asked))
+    let attempted = best_sellers(alloc, &mut shop.store, &ask, &asked, &mut shop.draft);
+    Ok((attempted, shop.draft))
 }
 
-fn at_product_detail(alloc: Global) -> Result<Attempted, Memory> {
+fn at_product_detail(alloc: Global) -> Result<(Attempted, Draft), Memory> {
     let mut shop = Shop::open(alloc, Scale::desk())?;
     let ask = ask_of(&shop.scale, &shop.index);
     let asked = ProductDetail { item: 1, ids: IDS };
-    Ok(product_detail(alloc, &mut shop.store, &ask, &asked))
+    let attempted = product_detail(alloc, &mut shop.store, &ask, &asked, &mut shop.draft);
+    Ok((attempted, shop.draft))
 }
 
-fn at_search_request(alloc: Global) -> Result<Attempted, Memory> {
+fn at_search_request(alloc: Global) -> Result<(Attempted, Draft), Memory> {
     let mut shop = Shop::open(alloc, Scale::desk())?;
     let ask = ask_of(&shop.scale, &shop.index);
     let asked = SearchRequest { ids: IDS };
-    Ok(search_request(alloc, &mut shop.store, &ask, &asked))
+    let attempted = search_request(alloc, &mut shop.store, &ask, &asked, &mut shop.draft);
+    Ok((attempted, shop.draft))
 }
 
-fn at_search_results(alloc: Global) -> Result<Attempted, Memory> {
+fn at_search_results(alloc: Global) -> Result<(Attempted, Draft), Memory> {
     let mut shop = Shop::open(alloc, Scale::desk())?;
     let ask = ask_of(&shop.scale, &shop.index);
     let asked = SearchResults {
@@ -81,15 +92,20 @@ fn at_search_results(alloc: Global) -> Result<Attempted, Memory> {
         text: Text::copy(alloc, b"ALSE")?,
         ids: IDS,
     };
-    Ok(search_results(alloc, &mut shop.store, &ask, &asked))
+    let attempted = search_results(alloc, &mut shop.store, &ask, &asked, &mut shop.draft);
+    Ok((attempted, shop.draft))
 }
 
 /// Whether an attempt shows a page with this title, by so many reads.
-fn shows(attempted: &Attempted, title: &str, reads: usize) -> bool {
+fn shows(attempted: &(Attempted, Draft), title: &str, reads: usize) -> bool {
+    let (attempted, draft) = attempted;
+    let Some(page) = draft.page.bytes().strip_prefix(b"<html><head><title>") else {
+        return false;
+    };
     match attempted {
-        Attempted::Ready(attempt, Draft::Fixed(page)) => {
-            page.status == 200
-                && page.title.bytes() == title.as_bytes()
+        Attempted::Ready(attempt) => {
+            draft.status == 200
+                && page.starts_with(title.as_bytes())
                 && attempt.reads.as_slice().len() == reads
         }
         _ => false,

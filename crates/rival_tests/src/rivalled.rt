@@ -12,6 +12,7 @@ ghost use Rattle.rival_tests.specs.Rivals.{IsFitting, LeavesOthers, among};
 use shop_attempt::{Attempt, Settle, Store};
 use shop_book::{Book, Solo, Visitor};
 use shop_browse::{Ask, Attempted};
+use shop_draft::Draft;
 use shop_history::{Key, Row};
 use shop_model::{CartRequest, IdsAsked, Scale};
 use shop_order::shopping_cart::shopping_cart;
@@ -30,6 +31,8 @@ pub struct Rivalled {
     index: Arc<Index, Global>,
     scale: Scale,
     changes: u32,
+    /// The page of caller 2's change.
+    draft: Draft,
 }
 
 impl Model for Rivalled {
@@ -53,6 +56,7 @@ impl Rivalled {
         index: Arc<Index, Global>,
         scale: Scale,
         changes: u32,
+        draft: Draft,
     ) -> Rivalled
         requires named { arc_value index ≡ catalogue book.opening.tables }
         requires scaled { scale.items ≡ length book.opening.tables.items }
@@ -66,6 +70,7 @@ impl Rivalled {
             index,
             scale,
             changes,
+            draft,
         }
     }
 
@@ -82,7 +87,7 @@ impl Rivalled {
                 moment,
                 draw: 0,
             };
-            self.changes -= rival(self.alloc, &mut self.solo, &ask);
+            self.changes -= rival(self.alloc, &mut self.solo, &ask, &mut self.draft);
         }
     }
 }
@@ -106,7 +111,7 @@ impl Store for Rivalled {
 }
 
 /// Caller 2's try at its change, at the seat of caller 1; how many changes it made.
-fn rival(alloc: Global, solo: &mut Solo, ask: &Ask) -> u32
+fn rival(alloc: Global, solo: &mut Solo, ask: &Ask, draft: &mut Draft) -> u32
     requires caller { solo.old.visitor.caller ≡ 1 }
     requires index { ask.now.index.now ≡ catalogue solo.old.book.opening.tables }
     requires scale { ask.now.scale.now.items ≡ length solo.old.book.opening.tables.items }
@@ -124,13 +129,13 @@ fn rival(alloc: Global, solo: &mut Solo, ask: &Ask) -> u32
         greatest: 0,
     };
     let was = solo.turn(visitor);
-    let added = add_unit(alloc, solo, ask);
+    let added = add_unit(alloc, solo, ask, draft);
     solo.turn(was);
     u32::from(added)
 }
 
 /// One more unit of item 2 into cart 1, by whoever has the seat; whether that was done.
-fn add_unit<St: Store>(alloc: Global, store: &mut St, ask: &Ask) -> bool
+fn add_unit<St: Store>(alloc: Global, store: &mut St, ask: &Ask, draft: &mut Draft) -> bool
     requires suits { Suits ask.now (St.seat store.old) }
     requires moment { ask.now.moment ≤ stamp_limit }
     ensures follows { Follows (St.seat store.old) (St.seat store.new) }
@@ -146,8 +151,8 @@ fn add_unit<St: Store>(alloc: Global, store: &mut St, ask: &Ask) -> bool
         sets: Listed::new(alloc),
         ids,
     };
-    match shopping_cart(alloc, store, ask, &asked) {
-        Attempted::Ready(attempt, _) => {
+    match shopping_cart(alloc, store, ask, &asked, draft) {
+        Attempted::Ready(attempt) => {
             let changes = attempt.act.is_some();
             settles(store, attempt) && changes
         }

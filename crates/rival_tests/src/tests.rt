@@ -5,6 +5,7 @@ ghost use Rattle.std.specs.Prelude.{◌≡◌, IfOk};
 use crate::Rivalled;
 use shop_attempt::Conflict;
 use shop_book::Book;
+use shop_draft::{Draft, Template};
 use shop_edges::{BytesIn, BytesOut, ListClock};
 use shop_engine::{Ended, Point, PointKind, Report, Worker, serve_connection};
 use shop_history::Key;
@@ -46,7 +47,9 @@ fn worker_among(alloc: Global, changes: u32) -> Result<Worker<Rivalled>, Fail> {
     let index = Arc::new(alloc, Index::build(alloc, &tables)?)?;
     let shared = twin(&index)?;
     let book = Book::open(alloc, tables, 100)?;
-    let store = Rivalled::new(alloc, book, shared, scale, changes);
+    let page = Template::with_room(alloc, 0)?;
+    let draft = Draft { status: 0, page };
+    let store = Rivalled::new(alloc, book, shared, scale, changes, draft);
     Ok(Worker::new(alloc, store, 1, 0, scale, index)?)
 }
 

@@ -1,15 +1,23 @@
 -- What the driver has read, round by round, and the attempt that it makes of a decision.
-use Rattle.std.proofs.Common.{◌≡◌, ℕ, suc, List, [], ◌∷◌, ◌++◌, ◌-◌, ◌≤◌, length, take, drop, get_or, All, None, refl, sym, ◌∙◌, ap, subst, arith}
+use Rattle.std.proofs.Common.{◌≡◌, ℕ, suc, List, [], ◌∷◌, ◌++◌, ◌-◌, ◌≤◌, length, take, drop, get_or, All, Some, None, refl, sym, ◌∙◌, ap, subst, arith}
 use Rattle.std.proofs.lemmas.List.{append_assoc, append-nil, map-append, take_all}
 use Rattle.std.proofs.lemmas.List.Elements.{All-nil, All-append, All-head, All-tail}
+use Rattle.shop_model.specs.declared.page.Page.{Page}
+use Rattle.shop_model.specs.declared.requests.IdsAsked.{IdsAsked}
 use Rattle.shop_model.specs.declared.requests.Request.{Request}
 use Rattle.shop_model.specs.declared.tables.Tables.{Tables}
 use Rattle.shop_model.specs.Catalogues.{Catalogue, catalogue}
+use Rattle.shop_model.specs.Show.{show}
+use Rattle.shop_history.specs.declared.acts.Drawn.{Drawn}
 use Rattle.shop_history.specs.declared.acts.Entry.{Entry}
 use Rattle.shop_history.specs.declared.keys.Key.{Key}
 use Rattle.shop_history.specs.Keys.{row_of}
 use Rattle.shop_history.specs.Logs.{tables}
 use Rattle.shop_history.proofs.Kept.{kept}
+use Rattle.shop_draft.specs.declared.draft.Draft.{Draft}
+use Rattle.shop_draft.specs.declared.ids.PageIds.{PageIds}
+use Rattle.shop_draft.specs.Drawing.{ids_at}
+use Rattle.shop_draft.specs.Pages.{IsPage, Shows}
 use Rattle.shop_attempt.specs.declared.attempts.ReadOf.{ReadOf}
 use Rattle.shop_attempt.specs.Reads.{Agrees, AreTrue, IsReadOf, IsReadSince, AreReadSince}
 use Rattle.shop_attempt.specs.Seats.{Seat, IsSeat, Looked, IsReadAt}
@@ -17,7 +25,7 @@ use Rattle.shop_attempt.proofs.Looks.{looked_trans, since_now, since_push, all_s
 use Rattle.shop_browse.specs.declared.attempted.Ask.{Ask}
 use Rattle.shop_browse.specs.declared.driver.Next.{Next}
 use Rattle.shop_browse.specs.declared.driver.Next.TheVariants.{Read, Show, Change, Never}
-use Rattle.shop_browse.specs.Attempts.{AreReadFor, IsAttempt, AttemptedAs, Suits}
+use Rattle.shop_browse.specs.Attempts.{AreReadFor, IsAttempt, IsShownBy, AttemptedAs, Suits}
 use Rattle.shop_browse.specs.Driver.{keys_of, Fits, AreSeen, WereRead, MayRead, AsksFor, IsNext, AddsReads, attempted_by, attempt_with}
 use Rattle.shop_browse.specs.Footprints.{InFootprint}
 use Rattle.shop_browse.proofs.Items.{seat_sound}
@@ -74,6 +82,15 @@ all_read start now keys left old new some none = record {
   since = some.since;
   seen = some.seen;
 }
+
+-- the page of a draft is what a request shows
+pub shows_page : (t : Tables) (request : Request) (draw : ℕ) (draft : Draft) (page : Page) → show t request draw ≡ Some page → Shows draft (λ drawn. page) → IsShownBy t request draw draft
+shows_page t request draw draft page shows written = record { page = page; shows = shows; written = written }
+
+-- a draft with the ids that a request hands on
+pub with_ids : (draft : Draft) (page : IdsAsked → Page) (given : PageIds) (ids : IdsAsked) → ((drawn : Drawn) → ids_at drawn given ≡ ids)
+    → Shows draft (λ drawn. page (ids_at drawn given)) → Shows draft (λ drawn. page ids)
+with_ids draft page given ids same shows drawn = subst (λ i. IsPage draft drawn (page i)) (same drawn) (shows drawn)
 
 -- reads by their keys
 
@@ -168,14 +185,14 @@ looks_only start now request ask reads has = record {
   faithful = record { reads_are = are_true start now reads has.since; makes = tt };
 }
 
-pub decided : (start now : Seat) (follows : ℕ → List ReadOf → Type 0) (request : Request) (ask : Ask) (round : ℕ) (reads : List ReadOf) (next : Next) → HasRead start now request ask reads
-    → IsNext follows request ask round reads next → AttemptedAs start now request ask.moment ask.draw (attempted_by ask reads next)
-decided start now follows request ask round reads (Read keys) has is = tt
-decided start now follows request ask round reads (Show page) has is = record {
+pub decided : (start now : Seat) (follows : ℕ → List ReadOf → Type 0) (request : Request) (ask : Ask) (round : ℕ) (reads : List ReadOf) (draft : Draft) (next : Next)
+    → HasRead start now request ask reads → IsNext follows request ask round reads draft next → AttemptedAs start now request ask.moment ask.draw draft (attempted_by ask reads next)
+decided start now follows request ask round reads draft (Read keys) has is = tt
+decided start now follows request ask round reads draft Show has is = record {
   attempts = looks_only start now request ask reads has;
-  drafts = λ t agrees. record { page = page; shows = is t (fits ask.index.now now.opening t reads has.same agrees); draft_is = refl };
+  drafts = λ t agrees. is t (fits ask.index.now now.opening t reads has.same agrees);
 }
-decided start now follows request ask round reads (Change act writes draft) has is = record {
+decided start now follows request ask round reads draft (Change act writes) has is = record {
   attempts = record {
     at = refl;
     drew = refl;
@@ -187,7 +204,7 @@ decided start now follows request ask round reads (Change act writes draft) has 
   };
   drafts = (is.does, λ t stamp agrees bound. is.becomes t stamp (fits ask.index.now now.opening t reads has.same agrees) bound);
 }
-decided start now follows request ask round reads Never has is = record {
+decided start now follows request ask round reads draft Never has is = record {
   attempts = looks_only start now request ask reads has;
   reading = refl;
   never = λ t agrees. is t (fits ask.index.now now.opening t reads has.same agrees);

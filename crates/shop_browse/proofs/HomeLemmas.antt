@@ -1,15 +1,16 @@
 -- Home: the drawn item, the reads of its promotion, and the page for a customer or for anyone.
 use Rattle.std.proofs.Common.{◌≡◌, ℕ, zero, suc, ◌+◌, ◌%◌, List, [], ◌∷◌, ◌++◌, map, drop, get_or, All, Option, Some, None, refl, sym, ◌∙◌, ap, subst, inl, inr, arith}
+use Rattle.std.specs.List.{flat_map}
 use Rattle.std.proofs.lemmas.List.Elements.{All-nil, All-cons}
-use Rattle.shop_model.specs.declared.page.Page.{Page}
 use Rattle.shop_model.specs.declared.refusal.Refusal.TheVariants.{NoCustomer}
 use Rattle.shop_model.specs.declared.requests.Home as home_asked
 use Rattle.shop_model.specs.declared.requests.IdsAsked.{IdsAsked}
 use Rattle.shop_model.specs.declared.requests.Request.TheVariants.{Home}
 use Rattle.shop_model.specs.declared.tables.Tables.{Tables}
-use Rattle.shop_model.specs.Catalogues.{catalogue}
+use Rattle.shop_model.specs.Catalogues.{Catalogue, catalogue}
 use Rattle.shop_model.specs.Checks.{check_there, check_customer}
 use Rattle.shop_model.specs.Lookups.{row_numbered}
+use Rattle.shop_model.specs.Refusals.{page_of}
 use Rattle.shop_model.specs.Rows.{CustomerRow}
 use Rattle.shop_model.specs.Show.{show, promo, home_page, customer_asked, refused_or}
 use Rattle.shop_history.specs.declared.acts.Entry.{Entry}
@@ -19,6 +20,8 @@ use Rattle.shop_history.specs.declared.keys.Row.{Row}
 use Rattle.shop_history.specs.declared.keys.Row.TheVariants as row
 use Rattle.shop_history.specs.Keys.{row_of, shown}
 use Rattle.shop_history.specs.Logs.{tables}
+use Rattle.shop_draft.proofs.PageTexts.{both}
+use Rattle.shop_draft.specs.declared.draft.Draft.{Draft}
 use Rattle.shop_attempt.specs.declared.attempts.ReadOf.{ReadOf}
 use Rattle.shop_browse.specs.declared.attempted.Ask.{Ask}
 use Rattle.shop_browse.specs.declared.driver.Next.{Next}
@@ -27,7 +30,14 @@ use Rattle.shop_browse.specs.Driver.{keys_of, IsWhole, Fits, AsksFor, IsNext}
 use Rattle.shop_browse.specs.Footprints.{drawn_item, InFootprint}
 use Rattle.shop_browse.specs.Home.{drawn_key, FollowsHome, home_in, IsWelcome}
 use Rattle.shop_browse.specs.Labels.{HaveLabels, FollowsLabels, promoted_in}
+use Rattle.shop_browse.proofs.DriverLemmas.{shows_page}
+use Rattle.shop_browse.proofs.Items.{row_missing}
 use Rattle.shop_browse.proofs.LabelsLemmas.{ShowsLabels, size_of, size_after, labels_fit, promotion_shown}
+
+-- four lists of blocks that were added in turn
+pub four_parts : {A : Type 0} (f : A → List ℕ) (k l m n : List A) (old s1 s2 s3 now : List ℕ) → s1 ≡ old ++ flat_map f k → s2 ≡ s1 ++ flat_map f l → s3 ≡ s2 ++ flat_map f m
+    → now ≡ s3 ++ flat_map f n → now ≡ old ++ flat_map f (k ++ l ++ m ++ n)
+four_parts f k l m n old s1 s2 s3 now p1 p2 p3 p4 = both f (k ++ l ++ m) n old s3 now (both f (k ++ l) m old s2 s3 (both f k l old s1 s2 p1 p2) p3) p4
 
 -- the drawn item, after any log and in any tables of the catalogue
 
@@ -43,10 +53,10 @@ promo_shown ask t ids reads whole have fits =
     sym (promotion_shown t ids ask.draw (drop 1 reads)
     (subst (λ k. ShowsLabels t k (drop 1 reads)) (drawn_here ask t whole fits.named) (labels_fit ask.index.now t (drawn_key ask) reads have fits)))
 
-pub home_shown : (ask : Ask) (ids : IdsAsked) (customer : Option CustomerRow) (reads : List ReadOf) (page : Page) → IsWhole ask → HaveLabels (drawn_key ask) reads
-    → page ≡ home_in ids ask.draw customer (drop 1 reads) → (t : Tables) → Fits ask.index.now t reads → home_page t ids ask.draw customer ≡ page
+pub home_shown : (ask : Ask) (ids : IdsAsked) (customer : Option CustomerRow) (reads : List ReadOf) → IsWhole ask → HaveLabels (drawn_key ask) reads
+    → (t : Tables) → Fits ask.index.now t reads → home_page t ids ask.draw customer ≡ home_in ids ask.draw customer (drop 1 reads)
 unfolding home_page home_in
-home_shown ask ids customer reads page whole have is t fits =
+home_shown ask ids customer reads whole have t fits =
     let links = promo_shown ask t ids reads whole have fits in
     cc
 
@@ -62,14 +72,14 @@ number_shows t asked draw number customer is found =
     home_shows t asked draw (Some number) is ∙ ap (λ o. refused_or (check_there NoCustomer o) (Some (home_page t asked.ids draw o))) found
 
 -- for anyone
-pub anyone_next : (asked : home_asked.Home) (ask : Ask) (round : ℕ) (reads : List ReadOf) (next : Next) → asked.ids.c ≡ None → IsWhole ask → IsWelcome asked.ids None ask round reads next
-    → IsNext (FollowsHome asked.ids.c ask) (Home asked) ask round reads next
-anyone_next asked ask round reads next none whole is = subst (λ c. IsNext (FollowsHome c ask) (Home asked) ask round reads next) (sym none) (by next is)
+pub anyone_next : (asked : home_asked.Home) (ask : Ask) (round : ℕ) (reads : List ReadOf) (draft : Draft) (next : Next) → asked.ids.c ≡ None → IsWhole ask
+    → IsWelcome asked.ids None ask round reads draft next → IsNext (FollowsHome asked.ids.c ask) (Home asked) ask round reads draft next
+anyone_next asked ask round reads draft next none whole is = subst (λ c. IsNext (FollowsHome c ask) (Home asked) ask round reads draft next) (sym none) (by next is)
   where
-    by : (n : Next) → IsWelcome asked.ids None ask round reads n → IsNext (FollowsHome None ask) (Home asked) ask round reads n
+    by : (n : Next) → IsWelcome asked.ids None ask round reads draft n → IsNext (FollowsHome None ask) (Home asked) ask round reads draft n
     by (Read keys) is = is (Home asked) (λ opening log named. inr (drawn_after ask opening log whole named))
-    by (Show page) is = λ t fits. home_shows t asked ask.draw None none ∙ ap Some (is t fits)
-    by (Change act writes draft) is = absurd is
+    by Show is = λ t fits. shows_page t (Home asked) ask.draw draft (home_page t asked.ids ask.draw None) (home_shows t asked ask.draw None none) (is t fits)
+    by (Change act writes) is = absurd is
     by Never is = absurd is
 
 -- the customer whose number is given, behind whom the promotion is read
@@ -107,19 +117,25 @@ module _ (asked : home_asked.Home) (number : ℕ) (ask : Ask) (is_c : asked.ids.
     customer_found None x is = absurd cc
     customer_found (Some y) x is = cc
 
-    pub known_next : (customer : CustomerRow) (round : ℕ) (reads : List ReadOf) (next : Next) → known.row ≡ row.Customer customer → IsWhole ask → (round ≡ 0 → ⊥) → IsWelcome asked.ids (Some customer) ask round reads next
-        → IsNext (FollowsHome (Some number) ask) (Home asked) ask round (known ∷ reads) next
-    known_next customer zero reads next is whole some welcome = absurd (some refl)
-    known_next customer (suc round) reads (Read keys) is whole some welcome =
+    pub none_known : (reads : List ReadOf) (c : Catalogue) (t : Tables) → known.row ≡ row.Absent → Fits c t (known ∷ reads) → show t (Home asked) ask.draw ≡ Some (page_of NoCustomer)
+    none_known reads c t is fits =
+        number_shows t asked ask.draw number None is_c
+        (row_missing row.Customer (λ (x : CustomerRow) is. absurd cc) (row_numbered t.customers number) (shown_row t row.Absent fits.shows.0 is))
+
+    pub known_next : (customer : CustomerRow) (round : ℕ) (reads : List ReadOf) (draft : Draft) (next : Next) → known.row ≡ row.Customer customer → IsWhole ask → (round ≡ 0 → ⊥)
+        → IsWelcome asked.ids (Some customer) ask round reads draft next → IsNext (FollowsHome (Some number) ask) (Home asked) ask round (known ∷ reads) draft next
+    known_next customer zero reads draft next is whole some welcome = absurd (some refl)
+    known_next customer (suc round) reads draft (Read keys) is whole some welcome =
         let asks : AsksFor (FollowsLabels (drawn_key ask)) (Home asked) ask (suc round) reads keys = welcome (Home asked) (λ opening log named. inr (drawn_after ask opening log whole named)) in
         record {
           few = asks.few;
           goes_on = λ more of. (key_is, asks.goes_on more of);
           may = λ opening log were. asks.may opening log (record { named = were.named; sound = were.sound; are = were.are.1 });
         }
-    known_next customer (suc round) reads (Show page) is whole some welcome = λ t fits.
+    known_next customer (suc round) reads draft Show is whole some welcome = λ t fits.
         let o : Option CustomerRow = row_numbered t.customers number in
-        number_shows t asked ask.draw number (Some customer) is_c (customer_found o customer (shown_row t (row.Customer customer) fits.shows.0 is))
-        ∙ ap Some (welcome t (record { sound = fits.sound; named = fits.named; shows = fits.shows.1 }))
-    known_next customer (suc round) reads (Change act writes draft) is whole some welcome = absurd welcome
-    known_next customer (suc round) reads Never is whole some welcome = absurd welcome
+        shows_page t (Home asked) ask.draw draft (home_page t asked.ids ask.draw (Some customer))
+        (number_shows t asked ask.draw number (Some customer) is_c (customer_found o customer (shown_row t (row.Customer customer) fits.shows.0 is)))
+        (welcome t (record { sound = fits.sound; named = fits.named; shows = fits.shows.1 }))
+    known_next customer (suc round) reads draft (Change act writes) is whole some welcome = absurd welcome
+    known_next customer (suc round) reads draft Never is whole some welcome = absurd welcome

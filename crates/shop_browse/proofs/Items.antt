@@ -30,6 +30,11 @@ pub item_found : (o : Option ItemRow) (x : ItemRow) → shown row.Item o ≡ row
 item_found None x is = absurd cc
 item_found (Some y) x is = cc
 
+-- a row that is not shown is not there
+pub row_missing : {A : Type 0} (make : A → Row) → ((x : A) → make x ≡ row.Absent → ⊥) → (o : Option A) → shown make o ≡ row.Absent → o ≡ None
+row_missing make never None is = refl
+row_missing make never (Some x) is = absurd (never x is)
+
 found_within : (items : List ItemRow) (id : ℕ) (o : Option ItemRow) → row_numbered items id ≡ o → is_item (shown row.Item o) ≡ true → Has (length items) id
 found_within items id None is found = absurd cc
 found_within items id (Some x) is found =

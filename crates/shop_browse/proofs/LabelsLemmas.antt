@@ -1,10 +1,13 @@
 -- Reads of labels: which ids they are of, that they may be read, and the links that they give.
-use Rattle.std.proofs.Common.{◌≡◌, ℕ, zero, suc, ◌+◌, ◌<◌, cond, true, false, List, [], ◌∷◌, ◌++◌, length, map, filter, take, drop, get_or, All, Option, Some, None, option_map, unwrap_or, refl, sym, ◌∙◌, ap, subst, inr, arith}
+use Rattle.std.proofs.Common.{◌≡◌, ℕ, zero, suc, ◌+◌, ◌<◌, cond, true, false, List, [], ◌∷◌, ◌++◌, length, map, filter, take, drop, get_or, All, codes, append_assoc, Option, Some, None, option_map, unwrap_or, refl, sym, ◌∙◌, ap, subst, inr, arith}
 use Rattle.std.specs.declared.cmp.Ordering.{Ordering}
 use Rattle.std.specs.Ordering.{is_gt}
-use Rattle.std.proofs.lemmas.List.{append_assoc, length-map, map_more}
+use Rattle.std.specs.List.{flat_map}
+use Rattle.std.proofs.lemmas.List.{append-nil, length-map, map_more}
 use Rattle.std.proofs.lemmas.List.Elements.{All-nil, All-cons, All-map, All-filter, All-take}
+use Rattle.shop_text.specs.Escape.{escape}
 use Rattle.shop_model.specs.declared.page.Block.{Block}
+use Rattle.shop_model.specs.declared.page.Block.TheVariants.{Link}
 use Rattle.shop_model.specs.declared.requests.IdsAsked.{IdsAsked}
 use Rattle.shop_model.specs.declared.requests.Request.{Request}
 use Rattle.shop_model.specs.declared.requests.SearchKind.{SearchKind}
@@ -13,6 +16,7 @@ use Rattle.shop_model.specs.declared.tables.Tables.{Tables}
 use Rattle.shop_model.specs.Catalogues.{Catalogue, Naming, naming, catalogue, matches, by_title, found}
 use Rattle.shop_model.specs.Limits.{list_limit}
 use Rattle.shop_model.specs.Lookups.{row_numbered}
+use Rattle.shop_model.specs.PageText.{block_text, block_line}
 use Rattle.shop_model.specs.Rankings.{Sale, put_among, in_order, in_subject, newer, newest, sold_lately, sales, better, best}
 use Rattle.shop_model.specs.Rows.{ItemRow}
 use Rattle.shop_model.specs.Show.{promoted, promo}
@@ -26,6 +30,8 @@ use Rattle.shop_history.specs.declared.keys.Row.TheVariants as row
 use Rattle.shop_history.specs.Keys.{shown, label_of, row_of}
 use Rattle.shop_history.specs.Logs.{tables}
 use Rattle.shop_history.proofs.Places.{all_numbered}
+use Rattle.shop_draft.specs.Links.{link_front}
+use Rattle.shop_draft.proofs.PageTexts.{both}
 use Rattle.shop_attempt.specs.declared.attempts.ReadOf.{ReadOf}
 use Rattle.shop_attempt.specs.Reads.{Shows}
 use Rattle.shop_browse.specs.declared.attempted.Ask.{Ask}
@@ -33,6 +39,12 @@ use Rattle.shop_browse.specs.Driver.{keys_of, Fits, AreSeen}
 use Rattle.shop_browse.specs.Footprints.{drawn_item, InFootprint}
 use Rattle.shop_browse.specs.Labels.{ids_in, HaveLabels, FollowsLabels, AsksLabels, title_in, promoted_in}
 use Rattle.shop_browse.proofs.Items.{same_size}
+
+-- a link is written when its label is between its front and its end
+pub linked : (old s1 s2 now target label : List ℕ) → s1 ≡ old ++ link_front target → s2 ≡ s1 ++ escape label → now ≡ s2 ++ codes "</a>\n"
+    → now ≡ old ++ block_line (Link target label)
+unfolding block_text link_front
+linked old s1 s2 now target label is1 is2 is = rw (is, is2, is1) (simp append_assoc refl)
 
 -- what holds of all elements holds of all in order
 
@@ -171,14 +183,14 @@ module _ {B : Type 0} (t : Tables) (make : ReadOf → B) (of : ℕ → B) (one :
       cc (first, rest)
 
 -- one more, behind those of the first reads
-pub blocks_more : (make : ReadOf → Block) (labels : List ReadOf) (i : ℕ) (read : ReadOf) (old before after : List Block) → i < length labels → read ≡ get_or labels i read
-    → before ≡ old ++ map make (take i labels) → after ≡ before ++ make read ∷ [] → after ≡ old ++ map make (take (i + 1) labels)
-blocks_more make labels i read old before after within at so_far pushed =
+pub blocks_more : (make : ReadOf → Block) (labels : List ReadOf) (i : ℕ) (read : ReadOf) (old before after : List ℕ) → i < length labels → read ≡ get_or labels i read
+    → before ≡ old ++ flat_map block_line (map make (take i labels)) → after ≡ before ++ block_line (make read) → after ≡ old ++ flat_map block_line (map make (take (i + 1) labels))
+blocks_more make labels i read old before after within at so_far added =
     let first : List Block = map make (take i labels) in
-    pushed
-    ∙ ap (λ (l : List Block). l ++ make read ∷ []) so_far
-    ∙ append_assoc old first (make read ∷ [])
-    ∙ ap (λ (l : List Block). old ++ l) (ap (λ (r : ReadOf). first ++ make r ∷ []) at ∙ sym (map_more make labels i read within))
+    let more : map make (take (i + 1) labels) ≡ first ++ make read ∷ []
+    = map_more make labels i read within ∙ ap (λ (r : ReadOf). first ++ make r ∷ []) (sym at) in
+    both block_line first (make read ∷ []) old before after so_far (added ∙ ap (λ (l : List ℕ). before ++ l) (sym (append-nil (block_line (make read)))))
+    ∙ ap (λ (blocks : List Block). old ++ flat_map block_line blocks) (sym more)
 
 -- the links of a promotion
 

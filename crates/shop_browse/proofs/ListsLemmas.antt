@@ -1,5 +1,9 @@
 -- The page of a list, by reads of the labels on it, is that of the tables that show them.
-use Rattle.std.proofs.Common.{◌≡◌, ℕ, List, [], ◌∷◌, ◌++◌, length, map, drop, codes, Option, Some, None, option_map, unwrap_or, refl, sym, ◌∙◌, ap, arith}
+use Rattle.std.proofs.Common.{◌≡◌, ℕ, List, [], ◌∷◌, ◌++◌, length, map, drop, codes, Option, Some, None, option_map, unwrap_or, refl, sym, ◌∙◌, ap, append_assoc, arith}
+use Rattle.std.specs.List.{flat_map}
+use Rattle.std.proofs.lemmas.Grind.{flat_map-append}
+use Rattle.shop_text.specs.Escape.{escape}
+use Rattle.shop_text.proofs.Plain.{escape_append}
 use Rattle.shop_model.specs.declared.page.Block.{Block}
 use Rattle.shop_model.specs.declared.page.Block.TheVariants.{Para}
 use Rattle.shop_model.specs.declared.requests.IdsAsked.{IdsAsked}
@@ -7,17 +11,20 @@ use Rattle.shop_model.specs.declared.tables.Tables.{Tables}
 use Rattle.shop_model.specs.Catalogues.{Catalogue}
 use Rattle.shop_model.specs.Lines.{line_label, list_line, list_blocks, list_page}
 use Rattle.shop_model.specs.Lookups.{row_numbered, author_of}
+use Rattle.shop_model.specs.PageText.{block_line, page_text}
 use Rattle.shop_model.specs.Rows.{ItemRow}
 use Rattle.shop_model.specs.Targets.{nav}
 use Rattle.shop_history.specs.declared.keys.Key.{Key}
 use Rattle.shop_history.specs.declared.keys.Key.TheVariants as key
 use Rattle.shop_history.specs.declared.keys.Row.TheVariants as row
 use Rattle.shop_history.specs.Keys.{shown, label_of, row_of}
+use Rattle.shop_draft.specs.Pages.{page_front}
+use Rattle.shop_draft.proofs.PageTexts.{both, written}
 use Rattle.shop_attempt.specs.declared.attempts.ReadOf.{ReadOf}
 use Rattle.shop_attempt.specs.Reads.{Shows}
 use Rattle.shop_browse.specs.Driver.{keys_of, Fits}
 use Rattle.shop_browse.specs.Labels.{ids_in, HaveLabels}
-use Rattle.shop_browse.specs.Lists.{label_in, line_in, lines_in, page_in}
+use Rattle.shop_browse.specs.Lists.{label_in, line_in, lines_in, list_end, page_in}
 use Rattle.shop_browse.proofs.LabelsLemmas.{each_shown, labels_fit}
 
 label_shown : (t : Tables) (o : Option ItemRow)
@@ -53,3 +60,21 @@ list_shown c t k ids title head reads have fits =
 pub no_lines : (ids : IdsAsked) (labels : List ReadOf) → length labels ≡ 0 → lines_in ids labels ≡ Para (codes "Nothing found.") ∷ []
 no_lines ids [] none = refl
 no_lines ids (read ∷ labels) none = absurd (omega (arith, none))
+
+-- the name of an item, by what was written in turn
+pub name_written : (v w : List ℕ) (old s1 s2 now a b c : List ℕ) → escape v ≡ v → escape w ≡ w
+    → s1 ≡ old ++ escape a → s2 ≡ s1 ++ (v ++ escape b) → now ≡ s2 ++ (w ++ escape c) → now ≡ old ++ escape (a ++ v ++ b ++ w ++ c)
+name_written v w old s1 s2 now a b c is_v is_w is1 is2 is =
+    rw (is, is2, is1, escape_append (a ++ v ++ b ++ w) c, escape_append (a ++ v ++ b) w, escape_append (a ++ v) b, escape_append a v, is_v, is_w)
+    (simp append_assoc)
+
+-- the page of a list, by what was written in turn
+pub list_written : (ids : IdsAsked) (title : List ℕ) (head : List Block) (labels : List ReadOf) (begun headed now : List ℕ) → begun ≡ page_front title
+    → headed ≡ begun ++ flat_map block_line head → now ≡ headed ++ list_end ids labels → now ≡ page_text (page_in ids title head labels)
+list_written ids title head labels begun headed now is_begun is_headed is =
+    let lines : List Block = lines_in ids labels in
+    let listed : headed ++ flat_map block_line (lines ++ nav ids) ≡ begun ++ flat_map block_line (head ++ (lines ++ nav ids))
+    = both block_line head (lines ++ nav ids) begun headed _ is_headed refl in
+    written (page_in ids title head labels) begun (headed ++ flat_map block_line (lines ++ nav ids)) now is_begun
+    (listed ∙ ap (λ (l : List Block). begun ++ flat_map block_line l) (sym (append_assoc head lines (nav ids))))
+    (is ∙ rw (flat_map-append block_line lines (nav ids)) (simp append_assoc refl))

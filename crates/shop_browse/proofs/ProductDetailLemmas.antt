@@ -1,16 +1,17 @@
 -- The reads of Product Detail, and the page of an item and its author's names.
-use Rattle.std.proofs.Common.{◌≡◌, ℕ, zero, suc, List, [], ◌∷◌, length, take, All, Option, Some, option_map, refl, sym, ◌∙◌, ap, subst, inr, arith}
+use Rattle.std.proofs.Common.{◌≡◌, ℕ, zero, suc, List, [], ◌∷◌, length, take, All, Option, Some, None, option_map, refl, sym, ◌∙◌, ap, subst, inr, arith}
 use Rattle.std.proofs.lemmas.List.Elements.{All-nil, All-cons}
 use Rattle.shop_model.specs.declared.author.Author.{Author}
-use Rattle.shop_model.specs.declared.page.Page.{Page}
 use Rattle.shop_model.specs.declared.refusal.Refusal.TheVariants.{NoItem}
 use Rattle.shop_model.specs.declared.requests.IdsAsked.{IdsAsked}
 use Rattle.shop_model.specs.declared.requests.ProductDetail as asked_for
 use Rattle.shop_model.specs.declared.requests.Request.TheVariants.{ProductDetail}
 use Rattle.shop_model.specs.declared.tables.Tables.{Tables}
+use Rattle.shop_model.specs.Catalogues.{Catalogue}
 use Rattle.shop_model.specs.Checks.{check_there}
 use Rattle.shop_model.specs.Lookups.{row_numbered, author_of}
 use Rattle.shop_model.specs.Products.{product_page, author_line}
+use Rattle.shop_model.specs.Refusals.{page_of}
 use Rattle.shop_model.specs.Rows.{ItemRow}
 use Rattle.shop_model.specs.Show.{show, refused_or}
 use Rattle.shop_model.specs.Sound.{Has}
@@ -27,7 +28,7 @@ use Rattle.shop_browse.specs.declared.attempted.Ask.{Ask}
 use Rattle.shop_browse.specs.Driver.{keys_of, Fits, AsksFor}
 use Rattle.shop_browse.specs.Footprints.{InFootprint}
 use Rattle.shop_browse.specs.ProductDetail.{named, FollowsProduct}
-use Rattle.shop_browse.proofs.Items.{same_size, item_found, item_within, label_found}
+use Rattle.shop_browse.proofs.Items.{same_size, item_found, item_within, label_found, row_missing}
 
 -- both were read after the second round
 pub both_follow : (asked : asked_for.ProductDetail) (round : ℕ) (reads : List ReadOf) → (round ≡ 0 → ⊥) → (round ≡ 1 → ⊥) → FollowsProduct asked round reads
@@ -60,11 +61,18 @@ same_page : (item : ItemRow) (author : Author) (ids : IdsAsked) → product_page
 unfolding product_page author_line
 same_page item author ids = refl
 
-pub product_shown : (asked : asked_for.ProductDetail) (item label : ReadOf) (x : ItemRow) (names : Label) (page : Page) → item.key ≡ key.Item asked.item → label.key ≡ key.Label asked.item
-    → item.row ≡ row.Item x → label.row ≡ row.Label names → page ≡ product_page x (named names) asked.ids
-    → (ask : Ask) (t : Tables) → Fits ask.index.now t (item ∷ label ∷ []) → show t (ProductDetail asked) ask.draw ≡ Some page
-product_shown asked item label x names page item_is label_is is_x is_names is ask t fits =
+-- no item that was read is there
+pub none_shown : (asked : asked_for.ProductDetail) (item : ReadOf) (draw : ℕ) (t : Tables) → item.key ≡ key.Item asked.item → item.row ≡ row.Absent → row_of t item.key ≡ item.row
+    → show t (ProductDetail asked) draw ≡ Some (page_of NoItem)
+none_shown asked item draw t item_is absent is =
+    let none : row_numbered t.items asked.item ≡ None = row_missing row.Item (λ (x : ItemRow) is. absurd cc) (row_numbered t.items asked.item) (ap (row_of t) (sym item_is) ∙ is ∙ absent) in
+    ap (λ (o : Option ItemRow). refused_or (check_there NoItem o) (option_map (λ item. product_page item (author_of t item) asked.ids) o)) none
+
+pub product_shown : (asked : asked_for.ProductDetail) (item label : ReadOf) (x : ItemRow) (names : Label) (draw : ℕ) (c : Catalogue) (t : Tables)
+    → item.key ≡ key.Item asked.item → label.key ≡ key.Label asked.item → item.row ≡ row.Item x → label.row ≡ row.Label names
+    → Fits c t (item ∷ label ∷ []) → show t (ProductDetail asked) draw ≡ Some (product_page x (named names) asked.ids)
+product_shown asked item label x names draw c t item_is label_is is_x is_names fits =
     let found : row_numbered t.items asked.item ≡ Some x = item_found (row_numbered t.items asked.item) x (ap (row_of t) (sym item_is) ∙ fits.shows.0 ∙ is_x) in
     let same : names ≡ label_of t x = label_found t (row_numbered t.items asked.item) x names found (ap (row_of t) (sym label_is) ∙ fits.shows.1.0 ∙ is_names) in
     ap (λ (o : Option ItemRow). refused_or (check_there NoItem o) (option_map (λ item. product_page item (author_of t item) asked.ids) o)) found
-    ∙ ap Some (sym (is ∙ ap (λ (l : Label). product_page x (named l) asked.ids) same ∙ same_page x (author_of t x) asked.ids))
+    ∙ ap Some (sym (ap (λ (l : Label). product_page x (named l) asked.ids) same ∙ same_page x (author_of t x) asked.ids))

@@ -1,6 +1,5 @@
 -- The page of Search Request, by the reads of its promotion.
 use Rattle.std.proofs.Common.{◌≡◌, List, drop}
-use Rattle.shop_model.specs.declared.page.Page.{Page}
 use Rattle.shop_model.specs.declared.requests.IdsAsked.{IdsAsked}
 use Rattle.shop_model.specs.declared.tables.Tables.{Tables}
 use Rattle.shop_model.specs.Show.{search_request}
@@ -12,9 +11,9 @@ use Rattle.shop_browse.specs.Labels.{HaveLabels}
 use Rattle.shop_browse.specs.SearchRequest.{search_in}
 use Rattle.shop_browse.proofs.HomeLemmas.{promo_shown}
 
-pub search_shown : (ask : Ask) (ids : IdsAsked) (reads : List ReadOf) (page : Page) → IsWhole ask → HaveLabels (drawn_key ask) reads → page ≡ search_in ids (drop 1 reads)
-    → (t : Tables) → Fits ask.index.now t reads → search_request t ids ask.draw ≡ page
+pub search_shown : (ask : Ask) (ids : IdsAsked) (reads : List ReadOf) → IsWhole ask → HaveLabels (drawn_key ask) reads
+    → (t : Tables) → Fits ask.index.now t reads → search_request t ids ask.draw ≡ search_in ids (drop 1 reads)
 unfolding search_request search_in
-search_shown ask ids reads page whole have is t fits =
+search_shown ask ids reads whole have t fits =
     let links = promo_shown ask t ids reads whole have fits in
     cc

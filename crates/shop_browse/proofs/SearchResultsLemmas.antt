@@ -1,12 +1,8 @@
 -- What Search Results asks for, and the page of what was found.
 use Rattle.std.proofs.Common.{◌≡◌, ℕ, zero, suc, List, [], ◌∷◌, ◌++◌, length, map, All, codes, Some, refl, sym, ◌∙◌, ap, subst, arith}
-use Rattle.shop_model.specs.declared.page.Block.{Block}
-use Rattle.shop_model.specs.declared.page.Block.TheVariants.{Heading, Para}
-use Rattle.shop_model.specs.declared.page.Page.{Page}
 use Rattle.shop_model.specs.declared.requests.Request.TheVariants.{SearchResults}
 use Rattle.shop_model.specs.declared.tables.Tables.{Tables}
 use Rattle.shop_model.specs.Catalogues.{Catalogue, found}
-use Rattle.shop_model.specs.Kinds.{kind_name}
 use Rattle.shop_model.specs.Lines.{search_results}
 use Rattle.shop_model.specs.SearchAsked.{SearchAsked}
 use Rattle.shop_model.specs.Show.{show}
@@ -18,7 +14,7 @@ use Rattle.shop_browse.specs.declared.attempted.Ask.{Ask}
 use Rattle.shop_browse.specs.Driver.{keys_of, Fits, AsksFor}
 use Rattle.shop_browse.specs.Footprints.{InFootprint}
 use Rattle.shop_browse.specs.Lists.{page_in}
-use Rattle.shop_browse.specs.SearchResults.{FollowsSearch}
+use Rattle.shop_browse.specs.SearchResults.{FollowsSearch, head_of}
 use Rattle.shop_browse.proofs.LabelsLemmas.{size_of, labels_may, found_within}
 use Rattle.shop_browse.proofs.ListsLemmas.{page_shown}
 
@@ -41,13 +37,9 @@ found_follows : (asked : SearchAsked) (ask : Ask) (round : ℕ) (reads : List Re
 found_follows asked ask zero reads some follows = absurd (some refl)
 found_follows asked ask (suc round) reads some follows = follows
 
-pub found_shown : (asked : SearchAsked) (ask : Ask) (round : ℕ) (reads : List ReadOf) (head : List Block) (page : Page) → (round ≡ 0 → ⊥) → FollowsSearch asked ask round reads
-    → head ≡ Heading (codes "Search Results") ∷ Para (kind_name asked.kind ++ codes ": " ++ asked.text) ∷ [] → page ≡ page_in asked.ids (codes "Search Results") head reads
-    → (t : Tables) → Fits ask.index.now t reads → show t (SearchResults asked) ask.draw ≡ Some page
+pub found_shown : (asked : SearchAsked) (ask : Ask) (round : ℕ) (reads : List ReadOf) → (round ≡ 0 → ⊥) → FollowsSearch asked ask round reads
+    → (t : Tables) → Fits ask.index.now t reads → show t (SearchResults asked) ask.draw ≡ Some (page_in asked.ids (codes "Search Results") (head_of asked) reads)
 unfolding search_results
-found_shown asked ask round reads head page some follows head_is is t fits =
-    let title : List ℕ = codes "Search Results" in
-    let first : List Block = Heading title ∷ Para (kind_name asked.kind ++ codes ": " ++ asked.text) ∷ [] in
+found_shown asked ask round reads some follows t fits =
     let named = ap (λ (c : Catalogue). map Label (found c asked.kind asked.text)) (sym fits.named) in
-    ap Some (page_shown t asked.ids title first _ reads (found_follows asked ask round reads some follows ∙ named) fits.shows
-    ∙ sym (is ∙ ap (λ (h : List Block). page_in asked.ids title h reads) head_is))
+    ap Some (page_shown t asked.ids (codes "Search Results") (head_of asked) _ reads (found_follows asked ask round reads some follows ∙ named) fits.shows)

@@ -1,4 +1,4 @@
--- What an attempt call answers.
+-- What an attempt call answers, and writes.
 use Rattle.std.specs.Prelude.{◌≡◌, ℕ, ◌≤◌, List, [], ◌∷◌, length, Option, Some, None}
 use Rattle.shop_model.specs.declared.page.Page.{Page}
 use Rattle.shop_model.specs.declared.requests.Request.{Request}
@@ -7,11 +7,10 @@ use Rattle.shop_model.specs.Catalogues.{catalogue}
 use Rattle.shop_model.specs.Limits.{stamp_limit}
 use Rattle.shop_model.specs.Show.{show}
 use Rattle.shop_history.specs.declared.acts.Act.{Act}
-use Rattle.shop_history.specs.declared.drafts.Draft.{Draft}
-use Rattle.shop_history.specs.declared.drafts.Draft.TheVariants.{Fixed}
 use Rattle.shop_history.specs.Acts.{play, IsActOf}
-use Rattle.shop_history.specs.Drafts.{filled, HasIds}
 use Rattle.shop_history.specs.Drawing.{new_ids}
+use Rattle.shop_draft.specs.declared.draft.Draft.{Draft}
+use Rattle.shop_draft.specs.Pages.{IsPage, Shows}
 use Rattle.shop_attempt.specs.declared.attempts.Attempt.{Attempt}
 use Rattle.shop_attempt.specs.declared.attempts.ReadOf.{ReadOf}
 use Rattle.shop_attempt.specs.Faithful.{Faithful}
@@ -44,19 +43,19 @@ pub record IsAttempt (start now : Seat) (request : Request) (moment draw : ℕ) 
   pub reads : AreReadFor start now request draw attempt.reads
   pub faithful : Faithful now.opening now.seen attempt
 
--- the draft is the page that the request shows in these tables, which it changes nothing of
+-- the draft is of the page that the request shows in these tables, which it changes nothing of
 pub record IsShownBy (t : Tables) (request : Request) (draw : ℕ) (draft : Draft) : Type 0 where
   pub page : Page
   pub shows : show t request draw ≡ Some page
-  pub draft_is : draft ≡ Fixed page
+  pub written : Shows draft (λ drawn. page)
 
--- the draft becomes the page that an act gives in these tables, with the ids that are drawn there, and asks
--- for no id but those
-pub record Becomes (t : Tables) (stamp : ℕ) (act : Act) (draft : Draft) : Type 0 where
-  pub asks : HasIds (new_ids t (play t stamp act).tables) draft
-  pub page_is : filled stamp (new_ids t (play t stamp act).tables) draft ≡ (play t stamp act).page
+-- the draft becomes the page that an act gives in these tables, with the ids that are drawn there
+abbrev pub Becomes : Tables → ℕ → Act → Draft → Type 0
+Becomes t stamp act draft =
+    (front : ℕ)
+    → IsPage draft (record { front = front; stamp = stamp; ids = new_ids t (play t stamp act).tables }) (play t stamp act).page
 
--- whichever tables agree with the reads, the draft is the page that the request shows there; or that of
+-- whichever tables agree with the reads, the draft is of the page that the request shows there; or of that of
 -- its act, with the ids that are drawn there, at any stamp
 abbrev pub IsDraftOf : Tables → Request → ℕ → List ReadOf → Draft → Option Act → Type 0
 IsDraftOf opening request draw reads draft None = (t : Tables) → Agrees opening t reads → IsShownBy t request draw draft
@@ -65,7 +64,7 @@ IsDraftOf opening request draw reads draft (Some act) =
     × ((t : Tables) (stamp : ℕ) → Agrees opening t reads → stamp ≤ stamp_limit → Becomes t stamp act draft)
 
 -- an attempt, and the draft of its page
-pub record IsReady (start now : Seat) (request : Request) (moment draw : ℕ) (attempt : Attempt) (draft : Draft) : Type 0 where
+pub record IsReady (start now : Seat) (request : Request) (moment draw : ℕ) (draft : Draft) (attempt : Attempt) : Type 0 where
   pub attempts : IsAttempt start now request moment draw attempt
   pub drafts : IsDraftOf now.opening request draw attempt.reads draft attempt.act
 
@@ -75,9 +74,10 @@ pub record IsContradiction (start now : Seat) (request : Request) (moment draw :
   pub reading : attempt.act ≡ None
   pub never : (t : Tables) → Agrees now.opening t attempt.reads → ⊥
 
-abbrev pub AttemptedAs : Seat → Seat → Request → ℕ → ℕ → Attempted → Type 0
-AttemptedAs start now request moment draw (Ready attempt draft) =
-    IsReady start now request moment draw attempt draft
-AttemptedAs start now request moment draw (Contradiction attempt) =
+-- what is answered, with the draft as the call leaves it
+abbrev pub AttemptedAs : Seat → Seat → Request → ℕ → ℕ → Draft → Attempted → Type 0
+AttemptedAs start now request moment draw draft (Ready attempt) =
+    IsReady start now request moment draw draft attempt
+AttemptedAs start now request moment draw draft (Contradiction attempt) =
     IsContradiction start now request moment draw attempt
-AttemptedAs start now request moment draw Memory = Unit {0}
+AttemptedAs start now request moment draw draft Memory = Unit {0}

@@ -4,14 +4,12 @@ use Rattle.shop_model.specs.declared.requests.Request.{Request}
 use Rattle.shop_model.specs.declared.tables.Tables.{Tables}
 use Rattle.shop_model.specs.Catalogues.{Catalogue, catalogue}
 use Rattle.shop_model.specs.Limits.{stamp_limit}
-use Rattle.shop_model.specs.Show.{show}
 use Rattle.shop_model.specs.Sound.{Sound}
 use Rattle.shop_history.specs.declared.acts.Act.{Act}
 use Rattle.shop_history.specs.declared.acts.Entry.{Entry}
-use Rattle.shop_history.specs.declared.drafts.Draft.{Draft}
-use Rattle.shop_history.specs.declared.drafts.Draft.TheVariants.{Fixed}
 use Rattle.shop_history.specs.declared.keys.Key.{Key}
 use Rattle.shop_history.specs.Acts.{IsActOf}
+use Rattle.shop_draft.specs.declared.draft.Draft.{Draft}
 use Rattle.shop_attempt.specs.declared.attempts.Attempt.{Attempt}
 use Rattle.shop_attempt.specs.declared.attempts.ReadOf.{ReadOf}
 use Rattle.shop_attempt.specs.declared.attempts.Write.{Write}
@@ -23,7 +21,7 @@ use Rattle.shop_browse.specs.declared.attempted.Attempted.{Attempted}
 use Rattle.shop_browse.specs.declared.attempted.Attempted.TheVariants.{Ready, Contradiction, Memory}
 use Rattle.shop_browse.specs.declared.driver.Next.{Next}
 use Rattle.shop_browse.specs.declared.driver.Next.TheVariants.{Read, Show, Change, Never}
-use Rattle.shop_browse.specs.Attempts.{Becomes}
+use Rattle.shop_browse.specs.Attempts.{Becomes, IsShownBy}
 use Rattle.shop_browse.specs.Footprints.{InFootprint}
 
 -- the keys that were read, in order
@@ -66,18 +64,18 @@ pub record AsksFor (follows : ℕ → List ReadOf → Type 0) (request : Request
   pub may : MayRead request ask reads keys
 
 -- the act does the request, and the writes and the draft are those of the act in these tables, at any stamp
-pub record IsChange (request : Request) (ask : Ask) (reads : List ReadOf) (act : Act) (writes : List Write) (draft : Draft) : Type 0 where
+pub record IsChange (request : Request) (ask : Ask) (reads : List ReadOf) (draft : Draft) (act : Act) (writes : List Write) : Type 0 where
   pub does : IsActOf request ask.draw act
   pub makes : (t : Tables) (stamp : ℕ) → Fits ask.index.now t reads → stamp ≤ stamp_limit → Makes t stamp act writes
   pub becomes : (t : Tables) (stamp : ℕ) → Fits ask.index.now t reads → stamp ≤ stamp_limit → Becomes t stamp act draft
 
--- what is done next is right in whichever tables fit what was read
-abbrev pub IsNext : (ℕ → List ReadOf → Type 0) → Request → Ask → ℕ → List ReadOf → Next → Type 0
-IsNext follows request ask round reads (Read keys) = AsksFor follows request ask round reads keys
-IsNext follows request ask round reads (Show page) =
-    (t : Tables) → Fits ask.index.now t reads → show t request ask.draw ≡ Some page
-IsNext follows request ask round reads (Change act writes draft) = IsChange request ask reads act writes draft
-IsNext follows request ask round reads Never = (t : Tables) → Fits ask.index.now t reads → ⊥
+-- what is done next is right in whichever tables fit what was read, with the draft as it is then
+abbrev pub IsNext : (ℕ → List ReadOf → Type 0) → Request → Ask → ℕ → List ReadOf → Draft → Next → Type 0
+IsNext follows request ask round reads draft (Read keys) = AsksFor follows request ask round reads keys
+IsNext follows request ask round reads draft Show =
+    (t : Tables) → Fits ask.index.now t reads → IsShownBy t request ask.draw draft
+IsNext follows request ask round reads draft (Change act writes) = IsChange request ask reads draft act writes
+IsNext follows request ask round reads draft Never = (t : Tables) → Fits ask.index.now t reads → ⊥
 
 -- these rows were read one after another, behind others, and each was shown by sound tables
 pub record AddsReads (start now : Seat) (keys : List Key) (old new : List ReadOf) : Type 0 where
@@ -95,6 +93,6 @@ attempt_with ask reads writes act =
 -- the attempt of what was decided
 abbrev pub attempted_by : Ask → List ReadOf → Next → Attempted
 attempted_by ask reads (Read keys) = Memory
-attempted_by ask reads (Show page) = Ready (attempt_with ask reads None None) (Fixed page)
-attempted_by ask reads (Change act writes draft) = Ready (attempt_with ask reads (Some writes) (Some act)) draft
+attempted_by ask reads Show = Ready (attempt_with ask reads None None)
+attempted_by ask reads (Change act writes) = Ready (attempt_with ask reads (Some writes) (Some act))
 attempted_by ask reads Never = Contradiction (attempt_with ask reads None None)

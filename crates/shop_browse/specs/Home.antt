@@ -12,6 +12,8 @@ use Rattle.shop_model.specs.Targets.{nav}
 use Rattle.shop_model.specs.Words.{entry}
 use Rattle.shop_history.specs.declared.keys.Key.{Key}
 use Rattle.shop_history.specs.declared.keys.Key.TheVariants.{Item, Customer}
+use Rattle.shop_draft.specs.declared.draft.Draft.{Draft}
+use Rattle.shop_draft.specs.Pages.{Shows}
 use Rattle.shop_attempt.specs.declared.attempts.ReadOf.{ReadOf}
 use Rattle.shop_browse.specs.declared.attempted.Ask.{Ask}
 use Rattle.shop_browse.specs.declared.driver.Next.{Next}
@@ -44,10 +46,10 @@ home_in ids draw customer labels = record {
       ++ nav ids;
 }
 
--- what is done next by the reads of the promotion, for a customer or for anyone
-abbrev pub IsWelcome : IdsAsked → Option CustomerRow → Ask → ℕ → List ReadOf → Next → Type 0
-IsWelcome ids customer ask round reads (Read keys) = AsksLabels (drawn_key ask) ask round reads (Some keys)
-IsWelcome ids customer ask round reads (Show page) =
-    (t : Tables) → Fits ask.index.now t reads → home_page t ids ask.draw customer ≡ page
-IsWelcome ids customer ask round reads (Change act writes draft) = ⊥
-IsWelcome ids customer ask round reads Never = ⊥
+-- what is done next by the reads of the promotion, for a customer or for anyone, with the draft as it is then
+abbrev pub IsWelcome : IdsAsked → Option CustomerRow → Ask → ℕ → List ReadOf → Draft → Next → Type 0
+IsWelcome ids customer ask round reads draft (Read keys) = AsksLabels (drawn_key ask) ask round reads (Some keys)
+IsWelcome ids customer ask round reads draft Show =
+    (t : Tables) → Fits ask.index.now t reads → Shows draft (λ drawn. home_page t ids ask.draw customer)
+IsWelcome ids customer ask round reads draft (Change act writes) = ⊥
+IsWelcome ids customer ask round reads draft Never = ⊥

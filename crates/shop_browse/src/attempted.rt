@@ -1,5 +1,4 @@
 use shop_attempt::Attempt;
-use shop_history::Draft;
 use shop_model::Scale;
 use shop_search::Index;
 
@@ -16,7 +15,8 @@ pub struct Ask<'a> {
 /// What an attempt call answers.
 #[derive(Debug, Drop)]
 pub enum Attempted {
-    Ready(Attempt, Draft),
+    /// The page is written.
+    Ready(Attempt),
     /// What was read can't be so in any one shop: it was read while rows changed.
     Contradiction(Attempt),
     Memory,

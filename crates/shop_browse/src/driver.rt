@@ -1,5 +1,5 @@
 //! The one call that has a store: it reads the rows that an interaction asks for, round by round, and
-//! makes the attempt of what the interaction decides by them.
+//! makes the attempt of what the interaction decides by them, whose page is in the draft that it lends.
 ghost use Rattle.std.specs.Prelude.{◌≡◌, ◌∷◌, [], List, ℕ, IfOk};
 ghost use Rattle.shop_model.specs.declared.requests.Request.{Request};
 ghost use Rattle.shop_attempt.specs.declared.attempts.ReadOf.{ReadOf};
@@ -10,8 +10,8 @@ ghost use Rattle.shop_browse.specs.Driver as spec;
 
 use crate::{Ask, Attempted};
 use shop_attempt::{Attempt, ReadOf, Store, Write, read};
-use shop_history::{Act, Draft, Key};
-use shop_model::Page;
+use shop_draft::Draft;
+use shop_history::{Act, Key};
 use shop_text::{Listed, Memory};
 use std::alloc::Global;
 
@@ -23,10 +23,10 @@ const ROUNDS: u32 = 7;
 pub enum Next {
     /// It reads these rows.
     Read(Listed<Key>),
-    /// It shows a page, and changes nothing.
-    Show(Page),
-    /// It does an act, by these writes; the page waits for what the settle draws.
-    Change(Act, Listed<Write>, Draft),
+    /// It shows the page that it has written, and changes nothing.
+    Show,
+    /// It does an act, by these writes; the page that it has written waits for what the settle draws.
+    Change(Act, Listed<Write>),
     /// No shop shows what was read.
     Never,
 }
@@ -39,12 +39,19 @@ pub trait Interaction {
     /// These are reads that it asked for, in so many rounds.
     ghost follows: { Self → Ask → ℕ → List ReadOf → Type 0 };
 
-    /// What it does after so many rounds of reads.
-    fn next(&self, alloc: Global, ask: &Ask, round: u32, reads: &[ReadOf]) -> Result<Next, Memory>
+    /// What it does after so many rounds of reads; it writes its page into the draft.
+    fn next(
+        &self,
+        alloc: Global,
+        ask: &Ask,
+        round: u32,
+        reads: &[ReadOf],
+        draft: &mut Draft,
+    ) -> Result<Next, Memory>
         requires whole { spec.IsWhole ask.now }
         requires follows { follows self.now ask.now round reads.now }
         requires seen { spec.AreSeen ask.now.index.now reads.now }
-        ensures next { IfOk result (spec.IsNext (follows self.now ask.now) (request self.now) ask.now round reads.now) };
+        ensures next { IfOk result (spec.IsNext (follows self.now ask.now) (request self.now) ask.now round reads.now draft.new) };
 }
 
 /// One key.
@@ -87,15 +94,12 @@ fn attempted(ask: &Ask, reads: Vec<ReadOf>, next: Next) -> Attempted
     };
     match next {
         Next::Read(_) => Attempted::Memory,
-        Next::Show(page) => Attempted::Ready(attempt, Draft::Fixed(page)),
-        Next::Change(act, writes, draft) => {
-            let change = Attempt {
-                writes: Some(writes),
-                act: Some(act),
-                ..attempt
-            };
-            Attempted::Ready(change, draft)
-        }
+        Next::Show => Attempted::Ready(attempt),
+        Next::Change(act, writes) => Attempted::Ready(Attempt {
+            writes: Some(writes),
+            act: Some(act),
+            ..attempt
+        }),
         Next::Never => Attempted::Contradiction(attempt),
     }
 }
@@ -105,15 +109,16 @@ fn drive<St: Store, I: Interaction>(
     store: &mut St,
     ask: &Ask,
     interaction: &I,
+    draft: &mut Draft,
 ) -> Result<Attempted, Memory>
     requires begins { I.follows interaction.now ask.now 0 [] }
     requires suits { Suits ask.now (St.seat store.old) }
     ensures looks { Looks St.seat St.marked store.old store.new }
-    ensures attempted { IfOk result (AttemptedAs (St.seat store.old) (St.seat store.new) (I.request interaction.now) ask.now.moment ask.now.draw) }
+    ensures attempted { IfOk result (AttemptedAs (St.seat store.old) (St.seat store.new) (I.request interaction.now) ask.now.moment ask.now.draw draft.new) }
 {
     let mut reads = Vec::new(alloc);
     for round in 0..ROUNDS {
-        match interaction.next(alloc, ask, round, &reads)? {
+        match interaction.next(alloc, ask, round, &reads, draft)? {
             Next::Read(keys) => read_all(store, &mut reads, keys)?,
             next => return Ok(attempted(ask, reads, next)),
         }
@@ -121,19 +126,20 @@ fn drive<St: Store, I: Interaction>(
     unreachable!()
 }
 
-/// An attempt at an interaction.
+/// An attempt at an interaction, which writes its page into the draft.
 pub fn attempt_by<St: Store, I: Interaction>(
     alloc: Global,
     store: &mut St,
     ask: &Ask,
     interaction: &I,
+    draft: &mut Draft,
 ) -> Attempted
     requires begins { I.follows interaction.now ask.now 0 [] }
     requires suits { Suits ask.now (St.seat store.old) }
     ensures looks { Looks St.seat St.marked store.old store.new }
-    ensures attempted { AttemptedAs (St.seat store.old) (St.seat store.new) (I.request interaction.now) ask.now.moment ask.now.draw result }
+    ensures attempted { AttemptedAs (St.seat store.old) (St.seat store.new) (I.request interaction.now) ask.now.moment ask.now.draw draft.new result }
 {
-    match drive(alloc, store, ask, interaction) {
+    match drive(alloc, store, ask, interaction, draft) {
         Ok(attempted) => attempted,
         Err(Memory) => Attempted::Memory,
     }

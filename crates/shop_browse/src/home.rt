@@ -1,4 +1,10 @@
-ghost use Rattle.std.specs.Prelude.{◌≡◌, ◌∷◌, [], ◌++◌, ◌≢◌, Some, IfOk, OnOk, option_copied};
+ghost use Rattle.std.specs.Prelude.{◌≡◌, ◌∷◌, [], ◌≢◌, Some, IfOk, OnOk, codes, option_copied};
+ghost use Rattle.std.specs.List.{flat_map};
+ghost use Rattle.shop_model.specs.PageText.{block_line};
+ghost use Rattle.shop_model.specs.declared.page.Block.TheVariants as block;
+ghost use Rattle.shop_draft.specs.Drawing.{ids_at};
+ghost use Rattle.shop_draft.specs.Pages.{Shows};
+ghost use Rattle.shop_draft.specs.Templates.{Adds, Says};
 ghost use Rattle.shop_history.specs.declared.keys.Key.TheVariants as key_kinds;
 ghost use Rattle.shop_model.specs.Show as spec;
 ghost use Rattle.shop_attempt.specs.Marks.{Looks};
@@ -8,83 +14,75 @@ ghost use Rattle.shop_browse.specs.Home.{FollowsHome, IsWelcome, home_in, drawn_
 ghost use Rattle.shop_browse.specs.Labels.{FollowsLabels};
 
 use crate::driver::{Interaction, Next, attempt_by};
-use crate::labels::{labels_asked, push_promotion};
-use crate::links::{push_nav, subject_link};
+use crate::labels::{labels_asked, promotion};
 use crate::{Ask, Attempted};
 use shop_attempt::{ReadOf, Store};
+use shop_draft::{Draft, PageIds, Template, refusal};
 use shop_history::{Key, Row};
-use shop_model::{Block, Customer, Home, IdsAsked, Page, Refusal, Request, Subject, refusal_page};
-use shop_text::{Listed, Memory, Text};
+use shop_model::{Customer, Home, IdsAsked, Refusal, Request, Subject};
+use shop_text::{Listed, Memory};
 use std::alloc::Global;
 
-/// The most blocks of the page.
-const BLOCKS: usize = 12;
-
-/// The bytes for which the greeting makes room at first.
-const GREETING_ROOM: usize = 32;
-
-#[tactic(auto, unfolding(shop_model::specs::Show::greeting))]
-fn greeting(alloc: Global, customer: &Customer) -> Result<Text, Memory>
-    ensures { IfOk result (λ text. text ≡ spec.greeting customer.now) }
+/// Adds the heading.
+#[tactic(auto, unfolding(shop_model::specs::PageText::block_text))]
+fn heading(page: &mut Template) -> Result<(), Memory>
+    ensures { OnOk result (Says page.old page.new (block_line (block.Heading (codes "Welcome")))) }
 {
-    let mut text = Text::with_capacity(alloc, GREETING_ROOM)?;
-    text.push(b"Hello ")?;
-    text.push(customer.first.bytes())?;
-    text.push(b" ")?;
-    text.push(customer.last.bytes())?;
-    Ok(text)
-}
-
-/// Adds the greeting, where a customer is known.
-fn push_greeting(
-    alloc: Global,
-    blocks: &mut Listed<Block>,
-    customer: Option<&Customer>,
-) -> Result<(), Memory>
-    ensures { OnOk result (blocks.new ≡ blocks.old ++ spec.greetings (option_copied customer.entry)) }
-{
-    match customer {
-        None => Ok(()),
-        Some(customer) => blocks.push(Block::Para(greeting(alloc, customer)?)),
-    }
-}
-
-/// Adds the ways to the new and the best sold items of a subject.
-fn push_subject_links(
-    alloc: Global,
-    blocks: &mut Listed<Block>,
-    subject: Subject,
-    ids: IdsAsked,
-) -> Result<(), Memory>
-    ensures { OnOk result (blocks.new ≡ blocks.old ++ spec.subject_links subject ids) }
-{
-    blocks.push(subject_link(alloc, b"/new_products", subject, ids, b"New ")?)?;
-    blocks.push(subject_link(alloc, b"/best_sellers", subject, ids, b"Best ")?)?;
+    page.put(b"<h1>Welcome</h1>\n")?;
     Ok(())
 }
 
-/// The page for a customer or for anyone, with a promotion by these labels.
-#[tactic(auto, unfolding(crate::specs::Home::home_in))]
-fn home_page(
-    alloc: Global,
-    ids: IdsAsked,
+#[tactic(auto, using(shop_text::proofs::Plain::escape_append), unfolding(shop_model::specs::PageText::block_text, shop_model::specs::Show::greeting))]
+fn greeting(page: &mut Template, customer: &Customer) -> Result<(), Memory>
+    ensures { OnOk result (Says page.old page.new (block_line (block.Para (spec.greeting customer.now)))) }
+{
+    page.escaped(b"<p>Hello ", customer.first.bytes())?;
+    page.escaped(b" ", customer.last.bytes())?;
+    page.put(b"</p>\n")?;
+    Ok(())
+}
+
+/// Adds the greeting, where a customer is known.
+fn greetings(page: &mut Template, customer: Option<&Customer>) -> Result<(), Memory>
+    ensures { OnOk result (Says page.old page.new (flat_map block_line (spec.greetings (option_copied customer.entry)))) }
+{
+    match customer {
+        None => {}
+        Some(customer) => greeting(page, customer)?,
+    }
+    Ok(())
+}
+
+/// Adds the ways to the new and the best sold items of a subject.
+#[tactic(auto, unfolding(shop_model::specs::Show::subject_links))]
+fn subject_links(page: &mut Template, subject: Subject, ids: PageIds) -> Result<(), Memory>
+    ensures { OnOk result (Adds page.old page.new (λ drawn. flat_map block_line (spec.subject_links subject (ids_at drawn ids)))) }
+{
+    page.subject_link(b"/new_products", subject, ids, b"New ")?;
+    page.subject_link(b"/best_sellers", subject, ids, b"Best ")?;
+    Ok(())
+}
+
+/// Writes the page for a customer or for anyone, with a promotion by these labels.
+fn write_page(
+    draft: &mut Draft,
+    ids: PageIds,
     draw: u32,
     customer: Option<&Customer>,
     labels: &[ReadOf],
-) -> Result<Page, Memory>
-    ensures { IfOk result (λ page. page ≡ home_in ids draw (option_copied customer.entry) labels.now) }
+) -> Result<(), Memory>
+    ensures { OnOk result (Shows draft.new (λ drawn. home_in (ids_at drawn ids) draw (option_copied customer.entry) labels.now)) }
 {
-    let mut blocks = Listed::with_capacity(alloc, BLOCKS)?;
-    blocks.push(Block::Heading(Text::copy(alloc, b"Welcome")?))?;
-    push_greeting(alloc, &mut blocks, customer)?;
-    push_promotion(alloc, &mut blocks, ids, labels)?;
-    push_subject_links(alloc, &mut blocks, Subject::picked(draw), ids)?;
-    push_nav(alloc, &mut blocks, ids)?;
-    Ok(Page {
-        status: 200,
-        title: Text::copy(alloc, b"Home")?,
-        blocks,
-    })
+    draft.status = 200;
+    let page = &mut draft.page;
+    page.begin(b"Home")?;
+    heading(page)?;
+    greetings(page, customer)?;
+    promotion(page, ids, labels)?;
+    subject_links(page, Subject::picked(draw), ids)?;
+    page.nav(ids)?;
+    page.end()?;
+    Ok(())
 }
 
 /// The key of the item that the word draws.
@@ -103,17 +101,18 @@ fn welcome(
     customer: Option<&Customer>,
     round: u32,
     reads: &[ReadOf],
+    draft: &mut Draft,
 ) -> Result<Next, Memory>
     requires whole { IsWhole ask.now }
     requires follows { FollowsLabels (drawn_key_is ask.now) round reads.now }
     requires seen { AreSeen ask.now.index.now reads.now }
-    ensures { IfOk result (IsWelcome ids (option_copied customer.entry) ask.now round reads.now) }
+    ensures { IfOk result (IsWelcome ids (option_copied customer.entry) ask.now round reads.now draft.new) }
 {
     match labels_asked(alloc, ask, drawn_key(ask), round, reads)? {
         Some(keys) => Ok(Next::Read(keys)),
         None => {
-            let page = home_page(alloc, ids, ask.draw, customer, &reads[1..])?;
-            Ok(Next::Show(page))
+            write_page(draft, PageIds::of(ids), ask.draw, customer, &reads[1..])?;
+            Ok(Next::Show)
         }
     }
 }
@@ -127,6 +126,7 @@ fn greet(
     round: u32,
     known: &ReadOf,
     reads: &[ReadOf],
+    draft: &mut Draft,
 ) -> Result<Next, Memory>
     requires whole { IsWhole ask.now }
     requires number { asked.now.ids.c ≡ Some number }
@@ -134,11 +134,16 @@ fn greet(
     requires known { known.now.key ≡ key_kinds.Customer number }
     requires follows { FollowsLabels (drawn_key_is ask.now) round reads.now }
     requires seen { AreSeen ask.now.index.now reads.now }
-    ensures { IfOk result (IsNext (FollowsHome (Some number) ask.now) (Request.Home asked.now) ask.now round (known.now ∷ reads.now)) }
+    ensures { IfOk result (IsNext (FollowsHome (Some number) ask.now) (Request.Home asked.now) ask.now round (known.now ∷ reads.now) draft.new) }
 {
     match &known.row {
-        Row::Absent => Ok(Next::Show(refusal_page(alloc, Refusal::NoCustomer)?)),
-        Row::Customer(customer) => welcome(alloc, ask, asked.ids, Some(customer), round, reads),
+        Row::Absent => {
+            refusal(draft, Refusal::NoCustomer)?;
+            Ok(Next::Show)
+        }
+        Row::Customer(customer) => {
+            welcome(alloc, ask, asked.ids, Some(customer), round, reads, draft)
+        }
         _ => Ok(Next::Never),
     }
 }
@@ -160,14 +165,30 @@ impl Interaction for Home {
 
     ghost follows = { λ asked. FollowsHome asked.ids.c };
 
-    fn next(&self, alloc: Global, ask: &Ask, round: u32, reads: &[ReadOf]) -> Result<Next, Memory> {
+    fn next(
+        &self,
+        alloc: Global,
+        ask: &Ask,
+        round: u32,
+        reads: &[ReadOf],
+        draft: &mut Draft,
+    ) -> Result<Next, Memory> {
         match self.ids.c {
-            None => welcome(alloc, ask, self.ids, None, round, reads),
+            None => welcome(alloc, ask, self.ids, None, round, reads, draft),
             Some(number) => {
                 if round == 0 {
                     Ok(Next::Read(first_keys(alloc, ask, number)?))
                 } else {
-                    greet(alloc, ask, self, number, round, &reads[0], &reads[1..])
+                    greet(
+                        alloc,
+                        ask,
+                        self,
+                        number,
+                        round,
+                        &reads[0],
+                        &reads[1..],
+                        draft,
+                    )
                 }
             }
         }
@@ -175,10 +196,16 @@ impl Interaction for Home {
 }
 
 /// The promotion, and a greeting for the customer whose number was given.
-pub fn home<St: Store>(alloc: Global, store: &mut St, ask: &Ask, asked: &Home) -> Attempted
+pub fn home<St: Store>(
+    alloc: Global,
+    store: &mut St,
+    ask: &Ask,
+    asked: &Home,
+    draft: &mut Draft,
+) -> Attempted
     requires suits { Suits ask.now (St.seat store.old) }
     ensures looks { Looks St.seat St.marked store.old store.new }
-    ensures attempted { AttemptedAs (St.seat store.old) (St.seat store.new) (Request.Home asked.now) ask.now.moment ask.now.draw result }
+    ensures attempted { AttemptedAs (St.seat store.old) (St.seat store.new) (Request.Home asked.now) ask.now.moment ask.now.draw draft.new result }
 {
-    attempt_by(alloc, store, ask, asked)
+    attempt_by(alloc, store, ask, asked, draft)
 }

@@ -1,15 +1,18 @@
 //! Reads of a row and of the labels of the items that it names.
-ghost use Rattle.std.specs.Prelude.{◌≡◌, ◌++◌, IfOk, OnOk, map};
+ghost use Rattle.std.specs.Prelude.{◌≡◌, IfOk, OnOk, map};
+ghost use Rattle.std.specs.List.{flat_map};
+ghost use Rattle.shop_model.specs.PageText.{block_line};
 ghost use Rattle.shop_history.specs.declared.keys.Key.TheVariants.{Label};
+ghost use Rattle.shop_draft.specs.Drawing.{ids_at};
+ghost use Rattle.shop_draft.specs.Templates.{Adds};
 ghost use Rattle.shop_browse.specs.Driver.{IsWhole, AreSeen};
 ghost use Rattle.shop_browse.specs.Labels as spec;
 
 use crate::Ask;
 use crate::driver::one_key;
-use crate::links::item_link;
 use shop_attempt::ReadOf;
+use shop_draft::{PageIds, Template};
 use shop_history::{Key, Row};
-use shop_model::{Block, IdsAsked};
 use shop_text::{Listed, Memory};
 use std::alloc::Global;
 
@@ -77,24 +80,22 @@ fn title_in(row: &Row) -> &[u8]
 }
 
 /// A link to the page of an item whose label was read, labelled with its title.
-fn promoted(alloc: Global, ids: IdsAsked, read: &ReadOf) -> Result<Block, Memory>
-    ensures { IfOk result (λ block. block ≡ spec.promoted_in ids read.now) }
+#[tactic(auto, unfolding(shop_model::specs::PageText::block_text, shop_draft::specs::Links::link_front))]
+fn promoted(page: &mut Template, ids: PageIds, read: &ReadOf) -> Result<(), Memory>
+    ensures { OnOk result (Adds page.old page.new (λ drawn. block_line (spec.promoted_in (ids_at drawn ids) read.now))) }
 {
-    let label = title_in(&read.row);
-    item_link(alloc, b"/product_detail", id_in(&read.key), ids, label)
+    page.item_front(b"/product_detail", id_in(&read.key), ids)?;
+    page.escaped(b"", title_in(&read.row))?;
+    page.put(b"</a>\n")?;
+    Ok(())
 }
 
 /// Adds a link to the page of each item whose label was read.
-pub(crate) fn push_promotion(
-    alloc: Global,
-    blocks: &mut Listed<Block>,
-    ids: IdsAsked,
-    labels: &[ReadOf],
-) -> Result<(), Memory>
-    ensures { OnOk result (blocks.new ≡ blocks.old ++ map (spec.promoted_in ids) labels.now) }
+pub(crate) fn promotion(page: &mut Template, ids: PageIds, labels: &[ReadOf]) -> Result<(), Memory>
+    ensures { OnOk result (Adds page.old page.new (λ drawn. flat_map block_line (map (spec.promoted_in (ids_at drawn ids)) labels.now))) }
 {
     for read in labels {
-        blocks.push(promoted(alloc, ids, read)?)?;
+        promoted(page, ids, read)?;
     }
     Ok(())
 }

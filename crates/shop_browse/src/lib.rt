@@ -1,5 +1,5 @@
-//! Attempts at the interactions that only read: each is a function of the rows that it has read, and
-//! the driver, which has the store, reads the rows that it asks for.
+//! Attempts at the interactions that only read: each is a function of the rows that it has read, which
+//! writes its page, and the driver, which has the store, reads the rows that it asks for.
 #![tactic(auto)]
 
 mod attempted;
@@ -7,7 +7,6 @@ pub mod best_sellers;
 mod driver;
 pub mod home;
 mod labels;
-mod links;
 mod lists;
 pub mod new_products;
 pub mod product_detail;

@@ -1,119 +1,117 @@
 //! Pages that show a list of items.
-ghost use Rattle.std.specs.Prelude.{◌≡◌, ◌∷◌, ◌++◌, [], IfOk, OnOk, map};
-ghost use Rattle.shop_model.specs.declared.page.Block.TheVariants.{Heading};
+ghost use Rattle.std.specs.Prelude.{◌≡◌, ◌∷◌, ◌++◌, [], OnOk, map};
+ghost use Rattle.std.specs.List.{flat_map};
+ghost use Rattle.shop_text.specs.Texts.{escape};
+ghost use Rattle.shop_model.specs.Lines.{line_label};
+ghost use Rattle.shop_model.specs.PageText.{block_line};
 ghost use Rattle.shop_model.specs.Subjects.{subject_name};
+ghost use Rattle.shop_model.specs.declared.page.Block.TheVariants as block;
+ghost use Rattle.shop_draft.specs.Drawing.{ids_at};
+ghost use Rattle.shop_draft.specs.Pages.{Shows};
+ghost use Rattle.shop_draft.specs.Templates.{Adds, Says};
 ghost use Rattle.shop_browse.specs.Lists as spec;
 
 use crate::labels::id_in;
-use crate::links::{item_link, push_nav};
 use shop_attempt::ReadOf;
-use shop_history::Row;
-use shop_model::{Block, IdsAsked, Page, Subject};
-use shop_text::{Listed, Memory, Text};
-use std::alloc::Global;
+use shop_draft::{Draft, PageIds, Template};
+use shop_history::{Label, Row};
+use shop_model::Subject;
+use shop_text::Memory;
 
-/// The bytes for which a label makes room at first.
-const LABEL_ROOM: usize = 64;
-
-/// The most bytes of a heading that ends in a subject's name.
-const HEADING_ROOM: usize = 24;
+#[tactic(auto, unfolding(shop_model::specs::Lines::line_label))]
+fn label_name(page: &mut Template, label: &Label) -> Result<(), Memory>
+    ensures { OnOk result (Says page.old page.new (escape (line_label label.now.title label.now.first label.now.last))) }
+{
+    page.escaped(b"", label.title.bytes())?;
+    page.escaped(b" by ", label.first.bytes())?;
+    page.escaped(b" ", label.last.bytes())?;
+    Ok(())
+}
 
 /// How the item in the row of a label is named; another row has no name.
-#[tactic(auto, unfolding(shop_model::specs::Lines::line_label))]
-fn label_in(alloc: Global, row: &Row) -> Result<Text, Memory>
-    ensures { IfOk result (λ text. text ≡ spec.label_in row.now) }
+fn name(page: &mut Template, row: &Row) -> Result<(), Memory>
+    ensures { OnOk result (Says page.old page.new (escape (spec.label_in row.now))) }
 {
     match row {
-        Row::Label(label) => {
-            let mut text = Text::with_capacity(alloc, LABEL_ROOM)?;
-            text.push(label.title.bytes())?;
-            text.push(b" by ")?;
-            text.push(label.first.bytes())?;
-            text.push(b" ")?;
-            text.push(label.last.bytes())?;
-            Ok(text)
-        }
-        _ => Ok(Text::new(alloc)),
+        Row::Label(label) => label_name(page, label)?,
+        _ => {}
     }
+    Ok(())
 }
 
 /// A link to the page of an item whose label was read.
-fn line(alloc: Global, ids: IdsAsked, read: &ReadOf) -> Result<Block, Memory>
-    ensures { IfOk result (λ block. block ≡ spec.line_in ids read.now) }
+#[tactic(auto, unfolding(shop_model::specs::PageText::block_text, shop_draft::specs::Links::link_front))]
+fn line(page: &mut Template, ids: PageIds, read: &ReadOf) -> Result<(), Memory>
+    ensures { OnOk result (Adds page.old page.new (λ drawn. block_line (spec.line_in (ids_at drawn ids) read.now))) }
 {
-    let label = label_in(alloc, &read.row)?;
-    item_link(
-        alloc,
-        b"/product_detail",
-        id_in(&read.key),
-        ids,
-        label.bytes(),
-    )
+    page.item_front(b"/product_detail", id_in(&read.key), ids)?;
+    name(page, &read.row)?;
+    page.put(b"</a>\n")?;
+    Ok(())
 }
 
-fn push_each(
-    alloc: Global,
-    blocks: &mut Listed<Block>,
-    ids: IdsAsked,
-    labels: &[ReadOf],
-) -> Result<(), Memory>
-    ensures { OnOk result (blocks.new ≡ blocks.old ++ map (spec.line_in ids) labels.now) }
+fn each_line(page: &mut Template, ids: PageIds, labels: &[ReadOf]) -> Result<(), Memory>
+    ensures { OnOk result (Adds page.old page.new (λ drawn. flat_map block_line (map (spec.line_in (ids_at drawn ids)) labels.now))) }
 {
     for read in labels {
-        blocks.push(line(alloc, ids, read)?)?;
+        line(page, ids, read)?;
     }
     Ok(())
 }
 
 /// Adds the lines of a list, or a word where it is empty.
-fn push_lines(
-    alloc: Global,
-    blocks: &mut Listed<Block>,
-    ids: IdsAsked,
-    labels: &[ReadOf],
-) -> Result<(), Memory>
-    ensures { OnOk result (blocks.new ≡ blocks.old ++ spec.lines_in ids labels.now) }
+#[tactic(auto, unfolding(shop_model::specs::PageText::block_text))]
+fn lines(page: &mut Template, ids: PageIds, labels: &[ReadOf]) -> Result<(), Memory>
+    ensures { OnOk result (Adds page.old page.new (λ drawn. flat_map block_line (spec.lines_in (ids_at drawn ids) labels.now))) }
 {
     if labels.is_empty() {
-        blocks.push(Block::Para(Text::copy(alloc, b"Nothing found.")?))?;
+        page.put(b"<p>Nothing found.</p>\n")?;
         Ok(())
     } else {
-        push_each(alloc, blocks, ids, labels)
+        each_line(page, ids, labels)?;
+        Ok(())
     }
 }
 
-/// A heading that ends in a subject's name, alone.
-pub(crate) fn subject_heading(
-    alloc: Global,
-    word: &[u8],
-    subject: Subject,
-) -> Result<Listed<Block>, Memory>
-    ensures { IfOk result (λ head. head ≡ Heading (word.now ++ subject_name subject) ∷ []) }
+/// Adds the lines of a list and the links behind them, and ends the page.
+pub(crate) fn finish(page: &mut Template, ids: PageIds, labels: &[ReadOf]) -> Result<(), Memory>
+    ensures { OnOk result (Adds page.old page.new (λ drawn. spec.list_end (ids_at drawn ids) labels.now)) }
 {
-    let mut text = Text::with_capacity(alloc, HEADING_ROOM)?;
-    text.push(word)?;
-    text.push(subject.name())?;
-    let mut head = Listed::new(alloc);
-    head.push(Block::Heading(text))?;
-    Ok(head)
+    lines(page, ids, labels)?;
+    page.nav(ids)?;
+    page.end()?;
+    Ok(())
 }
 
-/// The page of a list, behind these first blocks.
-pub(crate) fn list_page(
-    alloc: Global,
-    title: &[u8],
-    head: Listed<Block>,
-    ids: IdsAsked,
-    labels: &[ReadOf],
-) -> Result<Page, Memory>
-    ensures { IfOk result (λ page. page ≡ spec.page_in ids title.now head labels.now) }
+/// A heading that ends in a subject's name; the word before it is plain.
+#[tactic(auto, using(shop_text::proofs::Plain::escape_append), unfolding(shop_model::specs::PageText::block_text))]
+fn subject_heading(page: &mut Template, word: &[u8], subject: Subject) -> Result<(), Memory>
+    requires { escape word.now ≡ word.now }
+    ensures { OnOk result (Says page.old page.new (block_line (block.Heading (word.now ++ subject_name subject)))) }
 {
-    let mut blocks = head;
-    push_lines(alloc, &mut blocks, ids, labels)?;
-    push_nav(alloc, &mut blocks, ids)?;
-    Ok(Page {
-        status: 200,
-        title: Text::copy(alloc, title)?,
-        blocks,
-    })
+    page.put(b"<h1>")?;
+    page.escaped(word, subject.name())?;
+    page.put(b"</h1>\n")?;
+    Ok(())
+}
+
+/// Writes the page of a list of a subject; title and word are plain.
+pub(crate) fn subject_page(
+    draft: &mut Draft,
+    title: &[u8],
+    word: &[u8],
+    subject: Subject,
+    ids: PageIds,
+    labels: &[ReadOf],
+) -> Result<(), Memory>
+    requires title { escape title.now ≡ title.now }
+    requires word { escape word.now ≡ word.now }
+    ensures { OnOk result (Shows draft.new (λ drawn. spec.page_in (ids_at drawn ids) title.now (block.Heading (word.now ++ subject_name subject) ∷ []) labels.now)) }
+{
+    draft.status = 200;
+    let page = &mut draft.page;
+    page.begin(title)?;
+    subject_heading(page, word, subject)?;
+    finish(page, ids, labels)?;
+    Ok(())
 }

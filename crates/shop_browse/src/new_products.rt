@@ -6,9 +6,10 @@ ghost use Rattle.shop_browse.specs.Labels.{FollowsLabels};
 
 use crate::driver::{Interaction, Next, attempt_by};
 use crate::labels::labels_asked;
-use crate::lists::{list_page, subject_heading};
+use crate::lists::subject_page;
 use crate::{Ask, Attempted};
 use shop_attempt::{ReadOf, Store};
+use shop_draft::{Draft, PageIds};
 use shop_history::Key;
 use shop_model::{NewProducts, Request};
 use shop_text::Memory;
@@ -21,13 +22,26 @@ impl Interaction for NewProducts {
 
     ghost follows = { λ asked ask. FollowsLabels (key_kinds.NewIn asked.subject) };
 
-    fn next(&self, alloc: Global, ask: &Ask, round: u32, reads: &[ReadOf]) -> Result<Next, Memory> {
+    fn next(
+        &self,
+        alloc: Global,
+        ask: &Ask,
+        round: u32,
+        reads: &[ReadOf],
+        draft: &mut Draft,
+    ) -> Result<Next, Memory> {
         match labels_asked(alloc, ask, Key::NewIn(self.subject), round, reads)? {
             Some(keys) => Ok(Next::Read(keys)),
             None => {
-                let head = subject_heading(alloc, b"New ", self.subject)?;
-                let page = list_page(alloc, b"New Products", head, self.ids, &reads[1..])?;
-                Ok(Next::Show(page))
+                subject_page(
+                    draft,
+                    b"New Products",
+                    b"New ",
+                    self.subject,
+                    PageIds::of(self.ids),
+                    &reads[1..],
+                )?;
+                Ok(Next::Show)
             }
         }
     }
@@ -39,10 +53,11 @@ pub fn new_products<St: Store>(
     store: &mut St,
     ask: &Ask,
     asked: &NewProducts,
+    draft: &mut Draft,
 ) -> Attempted
     requires suits { Suits ask.now (St.seat store.old) }
     ensures looks { Looks St.seat St.marked store.old store.new }
-    ensures attempted { AttemptedAs (St.seat store.old) (St.seat store.new) (Request.NewProducts asked.now) ask.now.moment ask.now.draw result }
+    ensures attempted { AttemptedAs (St.seat store.old) (St.seat store.new) (Request.NewProducts asked.now) ask.now.moment ask.now.draw draft.new result }
 {
-    attempt_by(alloc, store, ask, asked)
+    attempt_by(alloc, store, ask, asked, draft)
 }

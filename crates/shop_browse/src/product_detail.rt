@@ -1,6 +1,12 @@
 ghost use Rattle.std.specs.Prelude.{◌≡◌, ◌++◌, ◌∷◌, [], ℕ, IfOk, OnOk};
+ghost use Rattle.std.specs.List.{flat_map};
+ghost use Rattle.shop_model.specs.PageText.{block_line};
 ghost use Rattle.shop_model.specs.Products as spec;
+ghost use Rattle.shop_model.specs.declared.page.Block.TheVariants as block;
 ghost use Rattle.shop_history.specs.declared.keys.Key.TheVariants as key_kinds;
+ghost use Rattle.shop_draft.specs.Drawing.{ids_at};
+ghost use Rattle.shop_draft.specs.Pages.{Shows};
+ghost use Rattle.shop_draft.specs.Templates.{Adds, Says};
 ghost use Rattle.shop_attempt.specs.Marks.{Looks};
 ghost use Rattle.shop_browse.specs.declared.attempted.Ask.{Ask};
 ghost use Rattle.shop_browse.specs.Attempts.{AttemptedAs, Suits};
@@ -8,127 +14,129 @@ ghost use Rattle.shop_browse.specs.Driver.{IsNext};
 ghost use Rattle.shop_browse.specs.ProductDetail.{FollowsProduct, named};
 
 use crate::driver::{Interaction, Next, attempt_by, one_key};
-use crate::links::{item_link, push_nav};
 use crate::{Ask, Attempted};
 use shop_attempt::{ReadOf, Store};
+use shop_draft::{Draft, PageIds, Template, refusal};
 use shop_history::{Key, Label, Row};
-use shop_model::{Block, IdsAsked, Item, Page, ProductDetail, Refusal, Request, refusal_page};
-use shop_text::{Listed, Memory, Text};
+use shop_model::{Item, ProductDetail, Refusal, Request};
+use shop_text::Memory;
 use std::alloc::Global;
 
-/// The bytes for which a line of a page makes room at first.
-const LINE_ROOM: usize = 64;
-
-/// How many blocks the page has.
-const BLOCKS: usize = 11;
-
-#[tactic(auto, unfolding(shop_model::specs::Products::author_line))]
-fn author_line(alloc: Global, author: &Label) -> Result<Text, Memory>
-    ensures { IfOk result (λ text. text ≡ spec.author_line (named author.now)) }
+#[tactic(auto, unfolding(shop_model::specs::PageText::block_text))]
+fn heading(page: &mut Template, item: &Item) -> Result<(), Memory>
+    ensures { OnOk result (Says page.old page.new (block_line (block.Heading item.now.title))) }
 {
-    let mut text = Text::with_capacity(alloc, LINE_ROOM)?;
-    text.push(b"By ")?;
-    text.push(author.first.bytes())?;
-    text.push(b" ")?;
-    text.push(author.last.bytes())?;
-    Ok(text)
-}
-
-#[tactic(auto, unfolding(shop_model::specs::Products::subject_line))]
-fn subject_line(alloc: Global, item: &Item) -> Result<Text, Memory>
-    ensures { IfOk result (λ text. text ≡ spec.subject_line item.now) }
-{
-    let mut text = Text::with_capacity(alloc, LINE_ROOM)?;
-    text.push(b"Subject ")?;
-    text.push(item.subject.name())?;
-    text.push(b", published ")?;
-    text.push_day(item.published)?;
-    text.push(b" by ")?;
-    text.push(item.publisher.bytes())?;
-    Ok(text)
-}
-
-#[tactic(auto, unfolding(shop_model::specs::Products::pages_line))]
-fn pages_line(alloc: Global, item: &Item) -> Result<Text, Memory>
-    ensures { IfOk result (λ text. text ≡ spec.pages_line item.now) }
-{
-    let mut text = Text::with_capacity(alloc, LINE_ROOM)?;
-    text.push(item.backing.name())?;
-    text.push(b", ")?;
-    text.push_decimal(u64::from(item.pages))?;
-    text.push(b" pages")?;
-    Ok(text)
-}
-
-#[tactic(auto, unfolding(shop_model::specs::Products::price_line))]
-fn price_line(alloc: Global, item: &Item) -> Result<Text, Memory>
-    ensures { IfOk result (λ text. text ≡ spec.price_line item.now) }
-{
-    let mut text = Text::with_capacity(alloc, LINE_ROOM)?;
-    text.push(b"List ")?;
-    text.push_cents(item.srp)?;
-    text.push(b", our price ")?;
-    text.push_cents(item.cost)?;
-    text.push(b", in stock ")?;
-    text.push_decimal(u64::from(item.stock))?;
-    Ok(text)
-}
-
-/// Adds the picture, the pages, the prices and the way into the cart.
-fn push_details(
-    alloc: Global,
-    blocks: &mut Listed<Block>,
-    item: &Item,
-    ids: IdsAsked,
-) -> Result<(), Memory>
-    ensures { OnOk result (blocks.new ≡ blocks.old ++ spec.details item.now ids) }
-{
-    let target = Text::copy(alloc, item.image.bytes())?;
-    let label = Text::copy(alloc, item.title.bytes())?;
-    blocks.push(Block::Picture { target, label })?;
-    blocks.push(Block::Para(pages_line(alloc, item)?))?;
-    blocks.push(Block::Para(price_line(alloc, item)?))?;
-    blocks.push(item_link(alloc, b"/shopping_cart", item.id, ids, b"Add to cart")?)?;
+    page.escaped(b"<h1>", item.title.bytes())?;
+    page.put(b"</h1>\n")?;
     Ok(())
 }
 
-#[tactic(auto, unfolding(shop_model::specs::Products::product_page))]
-fn product_blocks(
-    alloc: Global,
-    item: &Item,
-    author: &Label,
-    ids: IdsAsked,
-) -> Result<Listed<Block>, Memory>
-    ensures { IfOk result (λ blocks. blocks ≡ (spec.product_page item.now (named author.now) ids).blocks) }
+#[tactic(auto, using(shop_text::proofs::Plain::escape_append), unfolding(shop_model::specs::PageText::block_text, shop_model::specs::Products::author_line))]
+fn author_line(page: &mut Template, author: &Label) -> Result<(), Memory>
+    ensures { OnOk result (Says page.old page.new (block_line (block.Para (spec.author_line (named author.now))))) }
 {
-    let mut blocks = Listed::with_capacity(alloc, BLOCKS)?;
-    blocks.push(Block::Heading(Text::copy(alloc, item.title.bytes())?))?;
-    blocks.push(Block::Para(author_line(alloc, author)?))?;
-    blocks.push(Block::Para(subject_line(alloc, item)?))?;
-    blocks.push(Block::Para(Text::copy(alloc, item.about.bytes())?))?;
-    push_details(alloc, &mut blocks, item, ids)?;
-    push_nav(alloc, &mut blocks, ids)?;
-    Ok(blocks)
+    page.escaped(b"<p>By ", author.first.bytes())?;
+    page.escaped(b" ", author.last.bytes())?;
+    page.put(b"</p>\n")?;
+    Ok(())
 }
 
-#[tactic(auto, unfolding(shop_model::specs::Products::product_page))]
-fn product_page(alloc: Global, item: &Item, author: &Label, ids: IdsAsked) -> Result<Page, Memory>
-    ensures { IfOk result (λ page. page ≡ spec.product_page item.now (named author.now) ids) }
+#[tactic(auto, unfolding(shop_model::specs::PageText::block_text, shop_model::specs::Products::subject_line))]
+fn subject_line(page: &mut Template, item: &Item) -> Result<(), Memory>
+    ensures { OnOk result (Says page.old page.new (block_line (block.Para (spec.subject_line item.now)))) }
 {
-    Ok(Page {
-        status: 200,
-        title: Text::copy(alloc, b"Product Detail")?,
-        blocks: product_blocks(alloc, item, author, ids)?,
-    })
+    page.escaped(b"<p>Subject ", item.subject.name())?;
+    page.day(b", published ", item.published)?;
+    page.escaped(b" by ", item.publisher.bytes())?;
+    page.put(b"</p>\n")?;
+    Ok(())
+}
+
+#[tactic(auto, unfolding(shop_model::specs::PageText::block_text))]
+fn about_line(page: &mut Template, item: &Item) -> Result<(), Memory>
+    ensures { OnOk result (Says page.old page.new (block_line (block.Para item.now.about))) }
+{
+    page.escaped(b"<p>", item.about.bytes())?;
+    page.put(b"</p>\n")?;
+    Ok(())
+}
+
+#[tactic(auto, unfolding(shop_model::specs::PageText::block_text))]
+fn picture(page: &mut Template, item: &Item) -> Result<(), Memory>
+    ensures { OnOk result (Says page.old page.new (block_line (block.Picture item.now.image item.now.title))) }
+{
+    page.escaped(b"<img src=\"", item.image.bytes())?;
+    page.escaped(b"\" alt=\"", item.title.bytes())?;
+    page.put(b"\">\n")?;
+    Ok(())
+}
+
+#[tactic(auto, using(shop_text::proofs::Plain::escape_append), unfolding(shop_model::specs::PageText::block_text, shop_model::specs::Products::pages_line))]
+fn pages_line(page: &mut Template, item: &Item) -> Result<(), Memory>
+    ensures { OnOk result (Says page.old page.new (block_line (block.Para (spec.pages_line item.now)))) }
+{
+    page.escaped(b"<p>", item.backing.name())?;
+    page.number(b", ", u64::from(item.pages))?;
+    page.put(b" pages</p>\n")?;
+    Ok(())
+}
+
+#[tactic(auto, unfolding(shop_model::specs::PageText::block_text, shop_model::specs::Products::price_line))]
+fn price_line(page: &mut Template, item: &Item) -> Result<(), Memory>
+    ensures { OnOk result (Says page.old page.new (block_line (block.Para (spec.price_line item.now)))) }
+{
+    page.money(b"<p>List ", item.srp)?;
+    page.money(b", our price ", item.cost)?;
+    page.number(b", in stock ", u64::from(item.stock))?;
+    page.put(b"</p>\n")?;
+    Ok(())
+}
+
+/// Adds the picture, the pages, the prices and the way into the cart.
+#[tactic(auto, unfolding(shop_model::specs::Products::details))]
+fn details(page: &mut Template, item: &Item, ids: PageIds) -> Result<(), Memory>
+    ensures { OnOk result (Adds page.old page.new (λ drawn. flat_map block_line (spec.details item.now (ids_at drawn ids)))) }
+{
+    picture(page, item)?;
+    pages_line(page, item)?;
+    price_line(page, item)?;
+    page.item_link(b"/shopping_cart", item.id, ids, b"Add to cart")?;
+    Ok(())
+}
+
+/// Writes the page of an item and its author.
+#[tactic(auto, unfolding(shop_model::specs::PageText::page_text, shop_model::specs::Products::product_page))]
+fn write_page(draft: &mut Draft, item: &Item, author: &Label, ids: PageIds) -> Result<(), Memory>
+    ensures { OnOk result (Shows draft.new (λ drawn. spec.product_page item.now (named author.now) (ids_at drawn ids))) }
+{
+    draft.status = 200;
+    let page = &mut draft.page;
+    page.begin(b"Product Detail")?;
+    heading(page, item)?;
+    author_line(page, author)?;
+    subject_line(page, item)?;
+    about_line(page, item)?;
+    details(page, item, ids)?;
+    page.nav(ids)?;
+    page.end()?;
+    Ok(())
 }
 
 /// What is done next by what was read of the item.
-fn by_item(alloc: Global, asked: &ProductDetail, item: &ReadOf) -> Result<Next, Memory>
+fn by_item(
+    alloc: Global,
+    asked: &ProductDetail,
+    item: &ReadOf,
+    draft: &mut Draft,
+) -> Result<Next, Memory>
     requires { item.now.key ≡ key_kinds.Item asked.now.item }
-    ensures { IfOk result (λ next. (ask : Ask) → IsNext (FollowsProduct asked.now) (Request.ProductDetail asked.now) ask 1 (item.now ∷ []) next) }
+    ensures { IfOk result (λ next. (ask : Ask) → IsNext (FollowsProduct asked.now) (Request.ProductDetail asked.now) ask 1 (item.now ∷ []) draft.new next) }
 {
     match &item.row {
-        Row::Absent => Ok(Next::Show(refusal_page(alloc, Refusal::NoItem)?)),
+        Row::Absent => {
+            refusal(draft, Refusal::NoItem)?;
+            Ok(Next::Show)
+        }
         Row::Item(_) => Ok(Next::Read(one_key(alloc, Key::Label(asked.item))?)),
         _ => Ok(Next::Never),
     }
@@ -136,19 +144,25 @@ fn by_item(alloc: Global, asked: &ProductDetail, item: &ReadOf) -> Result<Next, 
 
 /// What is done by what was read of the item and of its label.
 fn by_label(
-    alloc: Global,
     asked: &ProductDetail,
     item: &ReadOf,
     label: &ReadOf,
+    draft: &mut Draft,
 ) -> Result<Next, Memory>
     requires item { item.now.key ≡ key_kinds.Item asked.now.item }
     requires label { label.now.key ≡ key_kinds.Label asked.now.item }
-    ensures { IfOk result (λ next. (ask : Ask) (round : ℕ) → IsNext (FollowsProduct asked.now) (Request.ProductDetail asked.now) ask round (item.now ∷ label.now ∷ []) next) }
+    ensures { IfOk result (λ next. (ask : Ask) (round : ℕ) → IsNext (FollowsProduct asked.now) (Request.ProductDetail asked.now) ask round (item.now ∷ label.now ∷ []) draft.new next) }
 {
     match &item.row {
-        Row::Absent => Ok(Next::Show(refusal_page(alloc, Refusal::NoItem)?)),
+        Row::Absent => {
+            refusal(draft, Refusal::NoItem)?;
+            Ok(Next::Show)
+        }
         Row::Item(item) => match &label.row {
-            Row::Label(names) => Ok(Next::Show(product_page(alloc, item, names, asked.ids)?)),
+            Row::Label(names) => {
+                write_page(draft, item, names, PageIds::of(asked.ids))?;
+                Ok(Next::Show)
+            }
             _ => Ok(Next::Never),
         },
         _ => Ok(Next::Never),
@@ -162,28 +176,36 @@ impl Interaction for ProductDetail {
 
     ghost follows = { λ asked ask. FollowsProduct asked };
 
-    fn next(&self, alloc: Global, ask: &Ask, round: u32, reads: &[ReadOf]) -> Result<Next, Memory> {
+    fn next(
+        &self,
+        alloc: Global,
+        ask: &Ask,
+        round: u32,
+        reads: &[ReadOf],
+        draft: &mut Draft,
+    ) -> Result<Next, Memory> {
         let _ = ask;
         if round == 0 {
             return Ok(Next::Read(one_key(alloc, Key::Item(self.item))?));
         }
         if round == 1 {
-            return by_item(alloc, self, &reads[0]);
+            return by_item(alloc, self, &reads[0], draft);
         }
-        by_label(alloc, self, &reads[0], &reads[1])
+        by_label(self, &reads[0], &reads[1], draft)
     }
 }
 
-/// The page of the item with this number.
+/// An attempt at the page of the item with this number, which it writes into the draft.
 pub fn product_detail<St: Store>(
     alloc: Global,
     store: &mut St,
     ask: &Ask,
     asked: &ProductDetail,
+    draft: &mut Draft,
 ) -> Attempted
     requires suits { Suits ask.now (St.seat store.old) }
     ensures looks { Looks St.seat St.marked store.old store.new }
-    ensures attempted { AttemptedAs (St.seat store.old) (St.seat store.new) (Request.ProductDetail asked.now) ask.now.moment ask.now.draw result }
+    ensures attempted { AttemptedAs (St.seat store.old) (St.seat store.new) (Request.ProductDetail asked.now) ask.now.moment ask.now.draw draft.new result }
 {
-    attempt_by(alloc, store, ask, asked)
+    attempt_by(alloc, store, ask, asked, draft)
 }

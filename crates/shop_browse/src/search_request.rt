@@ -1,5 +1,9 @@
-ghost use Rattle.std.specs.Prelude.{◌≡◌, IfOk};
-ghost use Rattle.shop_model.specs.Show as spec;
+ghost use Rattle.std.specs.Prelude.{◌≡◌, OnOk, codes};
+ghost use Rattle.shop_model.specs.PageText.{block_line};
+ghost use Rattle.shop_model.specs.declared.page.Block.TheVariants as block;
+ghost use Rattle.shop_draft.specs.Drawing.{ids_at};
+ghost use Rattle.shop_draft.specs.Pages.{Shows};
+ghost use Rattle.shop_draft.specs.Templates.{Says};
 ghost use Rattle.shop_attempt.specs.Marks.{Looks};
 ghost use Rattle.shop_browse.specs.Attempts.{AttemptedAs, Suits};
 ghost use Rattle.shop_browse.specs.Home.{drawn_key};
@@ -8,58 +12,36 @@ ghost use Rattle.shop_browse.specs.SearchRequest.{search_in};
 
 use crate::driver::{Interaction, Next, attempt_by};
 use crate::home::drawn_key;
-use crate::labels::{labels_asked, push_promotion};
-use crate::links::{push_id_fields, push_nav};
+use crate::labels::{labels_asked, promotion};
 use crate::{Ask, Attempted};
 use shop_attempt::{ReadOf, Store};
-use shop_model::{Block, Field, IdsAsked, Page, Request, SearchRequest};
-use shop_text::{Listed, Memory, Text};
+use shop_draft::{Draft, PageIds, Template};
+use shop_model::{Request, SearchRequest};
+use shop_text::Memory;
 use std::alloc::Global;
 
-/// How many blocks the page has.
-const BLOCKS: usize = 10;
-
-/// The most fields of the form.
-const FIELDS: usize = 4;
-
-fn field(alloc: Global, name: &[u8], value: &[u8]) -> Result<Field, Memory>
-    ensures { IfOk result (λ field. field ≡ record { name = name.now; value = value.now }) }
+/// Adds the heading.
+#[tactic(auto, unfolding(shop_model::specs::PageText::block_text))]
+fn heading(page: &mut Template) -> Result<(), Memory>
+    ensures { OnOk result (Says page.old page.new (block_line (block.Heading (codes "Search")))) }
 {
-    Ok(Field {
-        name: Text::copy(alloc, name)?,
-        value: Text::copy(alloc, value)?,
-    })
+    page.put(b"<h1>Search</h1>\n")?;
+    Ok(())
 }
 
-#[tactic(auto, unfolding(shop_model::specs::Show::search_form))]
-fn search_form(alloc: Global, ids: IdsAsked) -> Result<Block, Memory>
-    ensures { IfOk result (λ block. block ≡ spec.search_form ids) }
+/// Writes the form of a search, with a promotion by these labels.
+fn write_page(draft: &mut Draft, ids: PageIds, labels: &[ReadOf]) -> Result<(), Memory>
+    ensures { OnOk result (Shows draft.new (λ drawn. search_in (ids_at drawn ids) labels.now)) }
 {
-    let mut fields = Listed::with_capacity(alloc, FIELDS)?;
-    fields.push(field(alloc, b"kind", b"title")?)?;
-    fields.push(field(alloc, b"text", b"")?)?;
-    push_id_fields(alloc, &mut fields, ids)?;
-    Ok(Block::Form {
-        target: Text::copy(alloc, b"/search_results")?,
-        fields,
-    })
-}
-
-/// The form of a search, with a promotion by these labels.
-#[tactic(auto, unfolding(crate::specs::SearchRequest::search_in))]
-fn search_page(alloc: Global, ids: IdsAsked, labels: &[ReadOf]) -> Result<Page, Memory>
-    ensures { IfOk result (λ page. page ≡ search_in ids labels.now) }
-{
-    let mut blocks = Listed::with_capacity(alloc, BLOCKS)?;
-    blocks.push(Block::Heading(Text::copy(alloc, b"Search")?))?;
-    push_promotion(alloc, &mut blocks, ids, labels)?;
-    blocks.push(search_form(alloc, ids)?)?;
-    push_nav(alloc, &mut blocks, ids)?;
-    Ok(Page {
-        status: 200,
-        title: Text::copy(alloc, b"Search Request")?,
-        blocks,
-    })
+    draft.status = 200;
+    let page = &mut draft.page;
+    page.begin(b"Search Request")?;
+    heading(page)?;
+    promotion(page, ids, labels)?;
+    page.search_form(ids)?;
+    page.nav(ids)?;
+    page.end()?;
+    Ok(())
 }
 
 impl Interaction for SearchRequest {
@@ -69,10 +51,20 @@ impl Interaction for SearchRequest {
 
     ghost follows = { λ asked ask. FollowsLabels (drawn_key ask) };
 
-    fn next(&self, alloc: Global, ask: &Ask, round: u32, reads: &[ReadOf]) -> Result<Next, Memory> {
+    fn next(
+        &self,
+        alloc: Global,
+        ask: &Ask,
+        round: u32,
+        reads: &[ReadOf],
+        draft: &mut Draft,
+    ) -> Result<Next, Memory> {
         match labels_asked(alloc, ask, drawn_key(ask), round, reads)? {
             Some(keys) => Ok(Next::Read(keys)),
-            None => Ok(Next::Show(search_page(alloc, self.ids, &reads[1..])?)),
+            None => {
+                write_page(draft, PageIds::of(self.ids), &reads[1..])?;
+                Ok(Next::Show)
+            }
         }
     }
 }
@@ -83,10 +75,11 @@ pub fn search_request<St: Store>(
     store: &mut St,
     ask: &Ask,
     asked: &SearchRequest,
+    draft: &mut Draft,
 ) -> Attempted
     requires suits { Suits ask.now (St.seat store.old) }
     ensures looks { Looks St.seat St.marked store.old store.new }
-    ensures attempted { AttemptedAs (St.seat store.old) (St.seat store.new) (Request.SearchRequest asked.now) ask.now.moment ask.now.draw result }
+    ensures attempted { AttemptedAs (St.seat store.old) (St.seat store.new) (Request.SearchRequest asked.now) ask.now.moment ask.now.draw draft.new result }
 {
-    attempt_by(alloc, store, ask, asked)
+    attempt_by(alloc, store, ask, asked, draft)
 }

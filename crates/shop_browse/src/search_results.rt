@@ -1,34 +1,44 @@
-ghost use Rattle.std.specs.Prelude.{◌≡◌, ◌∷◌, ◌++◌, [], IfOk, codes};
-ghost use Rattle.shop_model.specs.declared.page.Block.TheVariants.{Heading, Para};
-ghost use Rattle.shop_model.specs.Kinds.{kind_name};
+ghost use Rattle.std.specs.Prelude.{◌≡◌, OnOk, codes};
+ghost use Rattle.std.specs.List.{flat_map};
+ghost use Rattle.shop_model.specs.PageText.{block_line};
+ghost use Rattle.shop_draft.specs.Pages.{Shows};
+ghost use Rattle.shop_draft.specs.Templates.{Says};
 ghost use Rattle.shop_attempt.specs.Marks.{Looks};
 ghost use Rattle.shop_browse.specs.Attempts.{AttemptedAs, Suits};
-ghost use Rattle.shop_browse.specs.SearchResults.{FollowsSearch};
+ghost use Rattle.shop_browse.specs.Lists.{page_in};
+ghost use Rattle.shop_browse.specs.SearchResults.{FollowsSearch, head_of};
 
 use crate::driver::{Interaction, Next, attempt_by};
 use crate::labels::label_keys;
-use crate::lists::list_page;
+use crate::lists::finish;
 use crate::{Ask, Attempted};
 use shop_attempt::{ReadOf, Store};
-use shop_model::{Block, Request, SearchResults};
-use shop_text::{Listed, Memory, Text};
+use shop_draft::{Draft, PageIds, Template};
+use shop_model::{Request, SearchResults};
+use shop_text::Memory;
 use std::alloc::Global;
 
-/// The bytes for which the words of a search make room at first.
-const SEARCH_ROOM: usize = 48;
-
-/// The heading, and what was searched for.
-fn search_heading(alloc: Global, asked: &SearchResults) -> Result<Listed<Block>, Memory>
-    ensures { IfOk result (λ head. head ≡ Heading (codes "Search Results") ∷ Para (kind_name asked.now.kind ++ codes ": " ++ asked.now.text) ∷ []) }
+/// Adds the heading, and what was searched for.
+#[tactic(auto, using(shop_text::proofs::Plain::escape_append), unfolding(shop_model::specs::PageText::block_text))]
+fn heading(page: &mut Template, asked: &SearchResults) -> Result<(), Memory>
+    ensures { OnOk result (Says page.old page.new (flat_map block_line (head_of asked.now))) }
 {
-    let mut text = Text::with_capacity(alloc, SEARCH_ROOM)?;
-    text.push(asked.kind.name())?;
-    text.push(b": ")?;
-    text.push(asked.text.bytes())?;
-    let mut head = Listed::new(alloc);
-    head.push(Block::Heading(Text::copy(alloc, b"Search Results")?))?;
-    head.push(Block::Para(text))?;
-    Ok(head)
+    page.escaped(b"<h1>Search Results</h1>\n<p>", asked.kind.name())?;
+    page.escaped(b": ", asked.text.bytes())?;
+    page.put(b"</p>\n")?;
+    Ok(())
+}
+
+/// Writes the page of what was found.
+fn write_page(draft: &mut Draft, asked: &SearchResults, labels: &[ReadOf]) -> Result<(), Memory>
+    ensures { OnOk result (Shows draft.new (λ drawn. page_in asked.now.ids (codes "Search Results") (head_of asked.now) labels.now)) }
+{
+    draft.status = 200;
+    let page = &mut draft.page;
+    page.begin(b"Search Results")?;
+    heading(page, asked)?;
+    finish(page, PageIds::of(asked.ids), labels)?;
+    Ok(())
 }
 
 impl Interaction for SearchResults {
@@ -38,13 +48,20 @@ impl Interaction for SearchResults {
 
     ghost follows = { FollowsSearch };
 
-    fn next(&self, alloc: Global, ask: &Ask, round: u32, reads: &[ReadOf]) -> Result<Next, Memory> {
+    fn next(
+        &self,
+        alloc: Global,
+        ask: &Ask,
+        round: u32,
+        reads: &[ReadOf],
+        draft: &mut Draft,
+    ) -> Result<Next, Memory> {
         if round == 0 {
             let found = ask.index.search(self.kind, self.text.bytes())?;
             return Ok(Next::Read(label_keys(alloc, found.as_slice())?));
         }
-        let head = search_heading(alloc, self)?;
-        Ok(Next::Show(list_page(alloc, b"Search Results", head, self.ids, reads)?))
+        write_page(draft, self, reads)?;
+        Ok(Next::Show)
     }
 }
 
@@ -54,10 +71,11 @@ pub fn search_results<St: Store>(
     store: &mut St,
     ask: &Ask,
     asked: &SearchResults,
+    draft: &mut Draft,
 ) -> Attempted
     requires suits { Suits ask.now (St.seat store.old) }
     ensures looks { Looks St.seat St.marked store.old store.new }
-    ensures attempted { AttemptedAs (St.seat store.old) (St.seat store.new) (Request.SearchResults asked.now) ask.now.moment ask.now.draw result }
+    ensures attempted { AttemptedAs (St.seat store.old) (St.seat store.new) (Request.SearchResults asked.now) ask.now.moment ask.now.draw draft.new result }
 {
-    attempt_by(alloc, store, ask, asked)
+    attempt_by(alloc, store, ask, asked, draft)
 }

@@ -1,4 +1,4 @@
-use shop_text::Memory;
+use shop_text::{Memory, Text};
 use std::alloc::Global;
 use std::marker::Model;
 
@@ -49,6 +49,16 @@ fn write_over(bytes: &mut Vec<u8>, start: usize, more: &[u8])
     ensures { bytes.new.items ≡ take start bytes.old.items ++ more.now ++ drop (start + length more.now) bytes.old.items }
 {
     bytes[start..start + more.len()].copy_from_slice(more);
+}
+
+/// Drops the first bytes, so many.
+fn remove_front(bytes: &mut Vec<u8>, count: usize)
+    requires { count ≤ length bytes.old.items }
+    ensures { bytes.new.items ≡ drop count bytes.old.items }
+{
+    let len = bytes.len();
+    bytes.as_mut_slice().copy_within(count..len, 0);
+    bytes.truncate(len - count);
 }
 
 impl Flat {
@@ -107,5 +117,17 @@ impl Flat {
         ensures { self.new ≡ take start self.old ++ bytes.now ++ drop (start + length bytes.now) self.old }
     {
         write_over(&mut self.bytes, start, bytes);
+    }
+
+    /// The bytes from a place on; takes no memory.
+    pub(crate) fn into_text(self, start: usize) -> Text
+        requires { start ≤ length self }
+        ensures { result ≡ drop start self }
+    {
+        let Flat { bytes, at } = self;
+        let mut bytes = bytes;
+        bytes.truncate(at);
+        remove_front(&mut bytes, start);
+        Text::from_vec(bytes)
     }
 }

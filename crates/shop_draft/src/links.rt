@@ -71,7 +71,7 @@ impl Template {
     /// A link about an item up to its label; the path is plain.
     #[tactic(auto, using(shop_text::proofs::Plain::escape_append), unfolding(shop_model::specs::Targets::pairs, crate::specs::Links::link_front))]
     #[inline(always)]
-    fn item_front(&mut self, path: &[u8], item: u32, ids: PageIds) -> Result<(), Memory>
+    pub fn item_front(&mut self, path: &[u8], item: u32, ids: PageIds) -> Result<(), Memory>
         requires path { escape path.now ≡ path.now }
         ensures { OnOk result (Adds self.old self.new (λ drawn. link_front (spec.item_target path.now item (ids_at drawn ids)))) }
     {

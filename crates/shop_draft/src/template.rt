@@ -8,7 +8,7 @@ use crate::flat::Flat;
 use crate::holes::{HOLE_ROOM, Hole, hole_len, put_hole};
 use crate::out::Out;
 use shop_history::Drawn;
-use shop_text::Memory;
+use shop_text::{Memory, Text};
 use std::alloc::Global;
 use std::marker::Model;
 
@@ -159,5 +159,18 @@ impl Template {
     {
         let (_, bytes) = self.bytes.bytes().split_at(self.start);
         bytes
+    }
+
+    /// The head, and the text as it is before its holes are filled; takes no memory.
+    pub fn into_text(self) -> Text
+        ensures { result ≡ self.head ++ self.text }
+    {
+        let Template {
+            bytes,
+            start,
+            gaps: _,
+            front: _,
+        } = self;
+        bytes.into_text(start)
     }
 }

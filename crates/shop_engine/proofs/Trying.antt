@@ -19,14 +19,13 @@ use Rattle.shop_history.specs.declared.acts.Act.TheVariants.{Cart}
 use Rattle.shop_history.specs.declared.acts.Drawn.{Drawn}
 use Rattle.shop_history.specs.declared.acts.Entry.{Entry}
 use Rattle.shop_history.specs.declared.acts.Ids.{Ids}
-use Rattle.shop_history.specs.declared.drafts.Draft.{Draft}
-use Rattle.shop_history.specs.declared.drafts.Draft.TheVariants.{Fixed}
 use Rattle.shop_history.specs.Acts.{play, request_of, IsActOf}
-use Rattle.shop_history.specs.Drafts.{filled}
 use Rattle.shop_history.specs.Drawing.{new_ids}
 use Rattle.shop_history.specs.Logs.{tables, version_of, entries_of, page_at, Legal, MayFollow}
 use Rattle.shop_history.proofs.Places.{push_here, row_there}
 use Rattle.shop_history.proofs.Rows.{tables_push}
+use Rattle.shop_draft.specs.declared.draft.Draft.{Draft}
+use Rattle.shop_draft.specs.Pages.{IsPage}
 use Rattle.shop_attempt.specs.declared.attempts.Attempt.{Attempt}
 use Rattle.shop_attempt.specs.declared.attempts.Conflict.{Conflict}
 use Rattle.shop_attempt.specs.declared.attempts.ReadOf.{ReadOf}
@@ -106,16 +105,12 @@ some_act : (act : Option Act) → is_some act ≡ true → (does : Act) × (act 
 some_act None is = absurd cc
 some_act (Some act) is = (act, refl)
 
-fixed_is : (stamp : ℕ) (ids : Ids) (draft : Draft) (page : Page) → draft ≡ Fixed page → filled stamp ids draft ≡ page
-unfolding filled
-fixed_is stamp ids draft page is = ap (filled stamp ids) is
-
 -- a settle that was done without a change
 
-pub shown_is : (start old new : Seat) (asking : Asking) (attempt : Attempt) (draft : Draft) (drawn : Drawn) (form : Form) (bytes : List ℕ) → Looked start old → Follows old new → IsSeat new
-    → RoseOnce old.settles new.settles → IsReady start old asking.request asking.moment asking.draw attempt draft → DoneAs old new attempt attempt.act drawn → is_some attempt.act ≡ false
-    → bytes ≡ reply (filled drawn.stamp drawn.ids draft) form → IsAnswer start new asking form bytes (record { kind = At; front = drawn.front; tries = 1 })
-shown_is start old new asking attempt draft drawn form bytes looked follows seat rose ready done reads bytes_are =
+pub shown_is : (start old new : Seat) (asking : Asking) (draft : Draft) (attempt : Attempt) (drawn : Drawn) (form : Form) (bytes : List ℕ) → Looked start old → Follows old new → IsSeat new
+    → RoseOnce old.settles new.settles → IsReady start old asking.request asking.moment asking.draw draft attempt → DoneAs old new attempt attempt.act drawn → is_some attempt.act ≡ false
+    → ((page : Page) → IsPage draft drawn page → bytes ≡ reply page form) → IsAnswer start new asking form bytes (record { kind = At; front = drawn.front; tries = 1 })
+shown_is start old new asking draft attempt drawn form bytes looked follows seat rose ready done reads bytes_are =
     let none : attempt.act ≡ None = no_act attempt.act reads in
     let was : Confirmed old new attempt drawn = subst (λ o. DoneAs old new attempt o drawn) none done in
     let t : Tables = tables new.opening new.seen in
@@ -135,7 +130,7 @@ shown_is start old new asking attempt draft drawn form bytes looked follows seat
         cause = (refl, was.accepted.front);
         shows = shown.shows;
       };
-      bytes_are = bytes_are ∙ ap (λ (page : Page). reply page form) (fixed_is drawn.stamp drawn.ids draft shown.page shown.draft_is);
+      bytes_are = bytes_are shown.page (shown.written drawn);
     }
 
 -- a settle that was done as a change
@@ -156,10 +151,10 @@ exact_stamp latest now moment stamp is rose told same =
     same_stamp : (one other : ℕ) → Some one ≡ Some other → one ≡ other
     same_stamp one other is = cc
 
-pub changed_is : (start old new : Seat) (asking : Asking) (attempt : Attempt) (draft : Draft) (drawn : Drawn) (form : Form) (bytes : List ℕ) → Looked start old → Follows old new → IsSeat new
-    → RoseOnce old.settles new.settles → IsReady start old asking.request asking.moment asking.draw attempt draft → DoneAs old new attempt attempt.act drawn → is_some attempt.act ≡ true
-    → bytes ≡ reply (filled drawn.stamp drawn.ids draft) form → IsAnswer start new asking form bytes (record { kind = Change; front = drawn.front; tries = 1 })
-changed_is start old new asking attempt draft drawn form bytes looked follows seat rose ready done changes bytes_are =
+pub changed_is : (start old new : Seat) (asking : Asking) (draft : Draft) (attempt : Attempt) (drawn : Drawn) (form : Form) (bytes : List ℕ) → Looked start old → Follows old new → IsSeat new
+    → RoseOnce old.settles new.settles → IsReady start old asking.request asking.moment asking.draw draft attempt → DoneAs old new attempt attempt.act drawn → is_some attempt.act ≡ true
+    → ((page : Page) → IsPage draft drawn page → bytes ≡ reply page form) → IsAnswer start new asking form bytes (record { kind = Change; front = drawn.front; tries = 1 })
+changed_is start old new asking draft attempt drawn form bytes looked follows seat rose ready done changes bytes_are =
     let some = some_act attempt.act changes in
     let act : Act = some.0 in
     let was : Added old new attempt act drawn = subst (λ o. DoneAs old new attempt o drawn) some.1 done in
@@ -173,8 +168,12 @@ changed_is start old new asking attempt draft drawn form bytes looked follows se
     let ids_are : drawn.ids ≡ new_ids t (play t was.entry.stamp act).tables
     = was.ids
     ∙ ap (new_ids t) (ap (tables new.opening) was.seen ∙ tables_push new.opening was.before was.entry ∙ ap (λ a. (play t was.entry.stamp a).tables) was.does) in
-    let filled_is : filled drawn.stamp drawn.ids draft ≡ (play t was.entry.stamp was.entry.act).page
-    = ap (λ s. filled s drawn.ids draft) (sym was.stamp) ∙ ap (λ i. filled was.entry.stamp i draft) ids_are ∙ becomes.page_is ∙ ap (λ a. (play t was.entry.stamp a).page) (sym was.does) in
+    let at : Ids → ℕ → Drawn = λ ids stamp. record { front = drawn.front; stamp = stamp; ids = ids } in
+    let same : at (new_ids t (play t was.entry.stamp act).tables) was.entry.stamp ≡ drawn
+    = ap (at (new_ids t (play t was.entry.stamp act).tables)) was.stamp ∙ ap (λ ids. at ids drawn.stamp) (sym ids_are) in
+    let page_is : IsPage draft drawn (play t was.entry.stamp was.entry.act).page
+    = subst (λ a. IsPage draft drawn (play t was.entry.stamp a).page) (sym was.does)
+    (subst (λ d. IsPage draft d (play t was.entry.stamp act).page) same (becomes drawn.front)) in
     let shows : page_at new.opening new.seen (length new.seen) ≡ Some (play t was.entry.stamp was.entry.act).page
     = ap (λ (log : List Entry). page_at new.opening log (length log)) was.seen ∙ last_page new.opening was.before was.entry (length (was.before ++ was.entry ∷ [])) refl in
     let caller : was.entry.caller ≡ old.caller = was.caller ∙ follows.caller in
@@ -208,7 +207,7 @@ changed_is start old new asking attempt draft drawn form bytes looked follows se
         );
         shows = shows;
       };
-      bytes_are = bytes_are ∙ ap (λ (page : Page). reply page form) filled_is;
+      bytes_are = bytes_are (play t was.entry.stamp was.entry.act).page page_is;
     }
 
 -- a settle that found the log full
@@ -221,10 +220,10 @@ passes_there : (opening : Tables) (reads : List ReadOf) (act : Act) (writes : Op
 passes_there opening reads act None t stamp makes agrees bound = absurd makes
 passes_there opening reads act (Some writes) t stamp makes agrees bound = (makes t stamp agrees bound).passes
 
-pub full_is : (start old new : Seat) (asking : Asking) (attempt : Attempt) (draft : Draft) (size : ℕ) (form : Form) (bytes : List ℕ) → Looked start old → Follows old new → IsSeat new → RoseOnce old.settles new.settles
-    → IsReady start old asking.request asking.moment asking.draw attempt draft → SettledAs old new attempt (settle.Full size)
+pub full_is : (start old new : Seat) (asking : Asking) (draft : Draft) (attempt : Attempt) (size : ℕ) (form : Form) (bytes : List ℕ) → Looked start old → Follows old new → IsSeat new → RoseOnce old.settles new.settles
+    → IsReady start old asking.request asking.moment asking.draw draft attempt → SettledAs old new attempt (settle.Full size)
     → bytes ≡ reply (page_of FullLog) form → IsAnswer start new asking form bytes (record { kind = FullKind; front = size; tries = 1 })
-full_is start old new asking attempt draft size form bytes looked follows seat rose ready settled bytes_are =
+full_is start old new asking draft attempt size form bytes looked follows seat rose ready settled bytes_are =
     let some = some_act attempt.act settled.0.changes in
     let t : Tables = tables new.opening new.seen in
     let agrees : Agrees old.opening t attempt.reads

@@ -1,4 +1,5 @@
 use Rattle.shop_engine.specs.declared.worker.Worker.TheInside.{Inside}
+use Rattle.shop_pages.specs.Replies.{bytes_of}
 use Rattle.shop_engine.specs.Workers.{WorkerState}
 
 abbrev pub state_of : {St : Type 0} → Inside St → WorkerState St
@@ -6,5 +7,5 @@ state_of i = record {
   store = i.store;
   caller = record { number = i.caller; seed = i.seed; scale = i.scale };
   progress = record { accepted = i.accepted; last = i.last };
-  reply = i.reply.bytes;
+  reply = bytes_of i.reply;
 }

@@ -2,11 +2,11 @@ ghost use Rattle.std.specs.Prelude.{◌≡◌, OnOk};
 ghost use Rattle.shop_model.specs.Refusals.{page_of};
 ghost use Rattle.shop_pages.specs.Replies as replies;
 
-use shop_history::{Draft, Drawn, Ids};
-use shop_model::{Refusal, refusal_page};
+use shop_draft::refusal as write_refusal;
+use shop_history::{Drawn, Ids};
+use shop_model::Refusal;
 use shop_pages::{Form, Reply};
 use shop_text::Memory;
-use std::alloc::Global;
 
 /// What a settle draws that makes no rows.
 const NOTHING: Drawn = Drawn {
@@ -21,16 +21,11 @@ const NOTHING: Drawn = Drawn {
 };
 
 /// Makes the reply around the page of a refusal.
-pub(crate) fn refusal_reply(
-    alloc: Global,
-    reply: &mut Reply,
-    refusal: Refusal,
-    form: Form,
-) -> Result<(), Memory>
-    ensures { OnOk result (reply.new.bytes ≡ replies.reply (page_of refusal) form) }
+pub(crate) fn refusal_reply(reply: &mut Reply, refusal: Refusal, form: Form) -> Result<(), Memory>
+    ensures { OnOk result (replies.bytes_of reply.new ≡ replies.reply (page_of refusal) form) }
 {
-    let draft = Draft::Fixed(refusal_page(alloc, refusal)?);
-    reply.reserve(&draft)?;
-    reply.finish(&draft, &NOTHING, form);
+    write_refusal(reply.draft(), refusal)?;
+    reply.reserve()?;
+    reply.finish(&NOTHING, form);
     Ok(())
 }

@@ -127,7 +127,7 @@ fn serve_all<St: Store, S: Source, K: Sink, C: Clock>(
             Next::Message(message) => message,
             Next::End => return Ended::Closed,
             Next::Cut => return Ended::Cut,
-            Next::Bad(refusal) => return refuse(alloc, worker, sink, points, refusal),
+            Next::Bad(refusal) => return refuse(worker, sink, points, refusal),
             Next::ReadFault => return Ended::ReadFault,
             Next::Memory => return Ended::Memory,
         };
@@ -185,7 +185,6 @@ fn add_point(points: &mut Vec<Point>, point: Point)
 
 /// Tells that a message is refused: writes the page, and adds a plain point.
 fn refuse<St: Store, K: Sink>(
-    alloc: Global,
     worker: &mut Worker<St>,
     sink: &mut K,
     points: &mut Vec<Point>,
@@ -196,7 +195,7 @@ fn refuse<St: Store, K: Sink>(
     ensures writes { K.faults sink.old ≤ K.faults sink.new }
     ensures worker { worker.new ≡ record { store = worker.old.store; caller = worker.old.caller; progress = worker.old.progress; reply = worker.new.reply } }
 {
-    let Ok(()) = worker.refuse(alloc, refusal, CLOSING) else {
+    let Ok(()) = worker.refuse(refusal, CLOSING) else {
         return Ended::Memory;
     };
     let Ok(()) = points.push(plain_point()) else {

@@ -2,6 +2,7 @@ ghost use Rattle.std.specs.Prelude.{◌≤◌, [], IfSome, IsNone};
 ghost use Rattle.shop_model.specs.Limits.{stamp_limit};
 ghost use Rattle.shop_attempt.specs.Marks.{KeepsMarks};
 ghost use Rattle.shop_browse.specs.Attempts.{Suits};
+ghost use Rattle.shop_pages.specs.Replies.{bytes_of};
 ghost use Rattle.shop_engine.specs.Tries.{TriedAs, IsAnswer, StaysWithin};
 
 use crate::replies::refusal_reply;
@@ -34,7 +35,8 @@ pub(crate) struct Outcome {
     pub(crate) tries: u32,
 }
 
-/// Reads what the request is about, makes room for its reply, settles it, and finishes the reply.
+/// Reads what the request is about, writes its page, makes room for its reply, settles it, and finishes
+/// the reply.
 fn try_once<St: Store>(
     alloc: Global,
     store: &mut St,
@@ -46,18 +48,18 @@ fn try_once<St: Store>(
     requires suits { Suits ask.now (St.seat store.old) }
     requires moment { ask.now.moment ≤ stamp_limit }
     ensures tried { TriedAs (St.seat store.old) (St.seat store.new)
-        (record { request = request.now; moment = ask.now.moment; draw = ask.now.draw }) form reply.new.bytes result }
+        (record { request = request.now; moment = ask.now.moment; draw = ask.now.draw }) form (bytes_of reply.new) result }
     ensures marks { KeepsMarks (St.marked store.old) (St.marked store.new) (St.seat store.old) (St.seat store.new) }
 {
-    match attempt(alloc, store, ask, request) {
-        Attempted::Ready(attempt, draft) => {
-            let Ok(()) = reply.reserve(&draft) else {
+    match attempt(alloc, store, ask, request, reply.draft()) {
+        Attempted::Ready(attempt) => {
+            let Ok(()) = reply.reserve() else {
                 return Tried::Memory;
             };
             let changes = attempt.act.is_some();
             match store.settle(attempt) {
                 Settle::Done(drawn) => {
-                    reply.finish(&draft, &drawn, form);
+                    reply.finish(&drawn, form);
                     if changes {
                         Tried::Settled(PointKind::Change, drawn.front)
                     } else {
@@ -65,7 +67,7 @@ fn try_once<St: Store>(
                     }
                 }
                 Settle::Stale(conflict) => Tried::Again(conflict),
-                Settle::Full(size) => match refusal_reply(alloc, reply, Refusal::FullLog, form) {
+                Settle::Full(size) => match refusal_reply(reply, Refusal::FullLog, form) {
                     Ok(()) => Tried::Settled(PointKind::Full, size),
                     Err(_) => Tried::Memory,
                 },
@@ -92,7 +94,7 @@ pub(crate) fn try_all<St: Store>(
     requires suits { Suits ask.now (St.seat store.old) }
     requires moment { ask.now.moment ≤ stamp_limit }
     ensures answer { IfSome result (IsAnswer (St.seat store.old) (St.seat store.new)
-        (record { request = request.now; moment = ask.now.moment; draw = ask.now.draw }) form reply.new.bytes) }
+        (record { request = request.now; moment = ask.now.moment; draw = ask.now.draw }) form (bytes_of reply.new)) }
     ensures memory { IsNone result → StaysWithin (St.seat store.old) (St.seat store.new) [] 8 ask.now.moment }
     ensures marks { KeepsMarks (St.marked store.old) (St.marked store.new) (St.seat store.old) (St.seat store.new) }
 {
@@ -111,7 +113,7 @@ pub(crate) fn try_all<St: Store>(
             Tried::Memory => return None,
         }
     }
-    let Ok(()) = refusal_reply(alloc, reply, Refusal::RowsKeptChanging, form) else {
+    let Ok(()) = refusal_reply(reply, Refusal::RowsKeptChanging, form) else {
         return None;
     };
     Some(Outcome {

@@ -154,7 +154,7 @@ impl<St: Store> Worker<St> {
         let form = form_of(message, last);
         match request(alloc, &self.routes, message) {
             Asked::Request(request) => self.answer_request(alloc, &request, form, clock),
-            Asked::Refuse(refusal) => match self.refuse(alloc, refusal.told(), form) {
+            Asked::Refuse(refusal) => match self.refuse(refusal.told(), form) {
                 Ok(()) => Some(plain_point()),
                 Err(Memory) => None,
             },
@@ -215,15 +215,10 @@ impl<St: Store> Worker<St> {
     }
 
     /// Makes the reply around the page of a refusal.
-    pub(crate) fn refuse(
-        &mut self,
-        alloc: Global,
-        refusal: Refusal,
-        form: Form,
-    ) -> Result<(), Memory>
+    pub(crate) fn refuse(&mut self, refusal: Refusal, form: Form) -> Result<(), Memory>
         ensures reply { OnOk result (self.new.reply ≡ replies.reply (page_of refusal) form) }
         ensures worker { self.new ≡ record { store = self.old.store; caller = self.old.caller; progress = self.old.progress; reply = self.new.reply } }
     {
-        refusal_reply(alloc, &mut self.reply, refusal, form)
+        refusal_reply(&mut self.reply, refusal, form)
     }
 }

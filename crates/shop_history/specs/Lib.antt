@@ -5,4 +5,3 @@ pub mod Drawing
 pub mod MayChange
 pub mod Logs
 pub mod Lawful
-pub mod Drafts

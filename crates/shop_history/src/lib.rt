@@ -3,9 +3,7 @@
 #![tactic(auto)]
 
 mod acts;
-mod drafts;
 mod keys;
 
 pub use acts::{Act, Drawn, Entry, Ids};
-pub use drafts::{Draft, DraftBlock, DraftField, Part, Waiting};
 pub use keys::{Key, Label, Row};

@@ -1,4 +1,3 @@
-pub mod DraftsLemmas
 pub mod CartsLemmas
 pub mod TableLemmas
 pub mod ShoppingCartLemmas

@@ -3,7 +3,6 @@ use Rattle.std.proofs.Common.{◌≡◌, ℕ, zero, suc, ◌+◌, ◌%◌, List,
 use Rattle.std.proofs.lemmas.Bool.{cond-false, ne_eqb}
 use Rattle.std.proofs.lemmas.List.{append-nil}
 use Rattle.std.proofs.lemmas.List.Elements.{All-nil, All-cons, All-map}
-use Rattle.shop_model.specs.declared.page.Page.{Page}
 use Rattle.shop_model.specs.declared.refusal.Refusal.{Refusal}
 use Rattle.shop_model.specs.declared.requests.Request.TheVariants.{CartRequest}
 use Rattle.shop_model.specs.declared.tables.Tables.{Tables}
@@ -15,21 +14,22 @@ use Rattle.shop_model.specs.Rows.{CartRow}
 use Rattle.shop_model.specs.Show.{show, refused_or}
 use Rattle.shop_model.specs.Sound.{Sound, IsFit}
 use Rattle.shop_history.specs.declared.acts.Act.TheVariants.{Cart}
-use Rattle.shop_history.specs.declared.acts.Ids.{Ids}
-use Rattle.shop_history.specs.declared.drafts.Draft.TheVariants as draft
-use Rattle.shop_history.specs.declared.drafts.Waiting.{Waiting}
+use Rattle.shop_history.specs.declared.acts.Drawn.{Drawn}
 use Rattle.shop_history.specs.declared.acts.Entry.{Entry}
 use Rattle.shop_history.specs.declared.keys.Key.{Key}
 use Rattle.shop_history.specs.declared.keys.Key.TheVariants as key
 use Rattle.shop_history.specs.declared.keys.Row.{Row}
 use Rattle.shop_history.specs.declared.keys.Row.TheVariants as row
 use Rattle.shop_history.specs.Acts.{play}
-use Rattle.shop_history.specs.Drafts.{filled, HasIds}
 use Rattle.shop_history.specs.Drawing.{new_id, new_ids}
 use Rattle.shop_history.specs.Keys.{row_of, shown}
 use Rattle.shop_history.specs.Logs.{history, tables}
 use Rattle.shop_history.proofs.Drawing.{id_pushed}
 use Rattle.shop_history.proofs.Places.{is_there, all_numbered}
+use Rattle.shop_draft.specs.declared.draft.Draft.{Draft}
+use Rattle.shop_draft.specs.Drawing.{or_zero}
+use Rattle.shop_draft.specs.Pages as pages
+use Rattle.shop_draft.specs.Pages.{IsPage}
 use Rattle.shop_attempt.specs.declared.attempts.ReadOf.{ReadOf}
 use Rattle.shop_attempt.specs.Faithful.{Makes}
 use Rattle.shop_attempt.specs.Reads.{Shows, AreTrue}
@@ -40,10 +40,9 @@ use Rattle.shop_browse.specs.Attempts.{Becomes}
 use Rattle.shop_browse.specs.Driver.{keys_of, Fits, AreSeen, IsWhole, WereRead, AsksFor, IsNext}
 use Rattle.shop_browse.specs.Footprints.{drawn_item, IsAmong, WasOnCart, LeavesNoLine, IsCartItem, InFootprint}
 use Rattle.shop_browse.proofs.LabelsLemmas.{size_of, size_after}
-use Rattle.shop_order.specs.Drafts.{IsCartOf, cart_draft}
+use Rattle.shop_order.specs.Page.{cart_at, page_at}
 use Rattle.shop_order.specs.ShoppingCart.{cart_keys, cart_reads, IsNamed, IsFitRow, IsFitRead, lines_in, begun_with, MakesOfCart, AreItems, FollowsItems, FollowsNamed, FollowsCart, put_lines, IsChangeTo}
 use Rattle.shop_order.proofs.CartsLemmas.{made_on}
-use Rattle.shop_order.proofs.DraftsLemmas.{becomes_page, asks_cart_alone}
 
 -- the cart that was read
 
@@ -208,13 +207,13 @@ shows_append : (t : Tables) (one other : List ReadOf) → Shows t (one ++ other)
 shows_append t [] other shows = (tt, shows)
 shows_append t (read ∷ one) other shows = let rest = shows_append t one other shows.1 in ((shows.0, rest.0), rest.1)
 
-pub refusal_shown : (asked : CartAsked) (ask : Ask) (cart : Option ReadOf) (items : List ReadOf) (refusal : Refusal) (page : Page) → IsWhole ask
-    → ((t : Tables) → length t.items ≡ ask.scale.now.items → Shows t (cart_reads cart) → check_cart t asked ≡ Some refusal) → page ≡ page_of refusal
-    → (t : Tables) → Fits ask.index.now t (cart_reads cart ++ items) → show t (CartRequest asked) ask.draw ≡ Some page
-refusal_shown asked ask cart items refusal page whole refuses is t fits =
+pub refusal_shown : (asked : CartAsked) (ask : Ask) (cart : Option ReadOf) (items : List ReadOf) (refusal : Refusal) → IsWhole ask
+    → ((t : Tables) → length t.items ≡ ask.scale.now.items → Shows t (cart_reads cart) → check_cart t asked ≡ Some refusal)
+    → (t : Tables) → Fits ask.index.now t (cart_reads cart ++ items) → show t (CartRequest asked) ask.draw ≡ Some (page_of refusal)
+refusal_shown asked ask cart items refusal whole refuses t fits =
     let same : check_cart t asked ≡ Some refusal
     = refuses t (size_of ask.index.now t fits.named ∙ sym whole) (shows_append t (cart_reads cart) items fits.shows).0 in
-    ap (λ o. refused_or o None) same ∙ ap Some (sym is)
+    ap (λ o. refused_or o None) same
 
 pub never_fits : (ask : Ask) (cart : Option ReadOf) (items : List ReadOf) → ((t : Tables) → Shows t (cart_reads cart) → ⊥) → (t : Tables) → Fits ask.index.now t (cart_reads cart ++ items) → ⊥
 never_fits ask cart items never t fits = never t (shows_append t (cart_reads cart) items fits.shows).0
@@ -265,34 +264,29 @@ makes_lines t stamp asked draw lines leaves = record {
 
 -- the draft becomes the page
 
-is_cart_of : (carts : List CartRow) (named : Option ℕ) (lines : List (ℕ × ℕ)) (drawn : Ids) → drawn.cart ≡ new_id carts (carts_with carts named lines)
-    → IsCartOf named drawn (cart_meant carts named)
-is_cart_of carts None lines drawn is = is ∙ id_pushed carts (record { id = length carts + 1; lines = lines })
-is_cart_of carts (Some id) lines drawn is = refl
+cart_drawn : (carts : List CartRow) (named : Option ℕ) (lines : List (ℕ × ℕ)) (drawn : Drawn) → drawn.ids.cart ≡ new_id carts (carts_with carts named lines)
+    → cart_at drawn named ≡ cart_meant carts named
+cart_drawn carts None lines drawn is = ap or_zero (is ∙ id_pushed carts (record { id = length carts + 1; lines = lines }))
+cart_drawn carts (Some id) lines drawn is = refl
 
-becomes : (t : Tables) (stamp : ℕ) (asked : CartAsked) (draw : ℕ) (lines : List (ℕ × ℕ)) (page : Waiting) → Leaves t asked draw lines → page ≡ cart_draft t asked.ids lines
-    → Becomes t stamp (Cart asked draw) (draft.Waiting page)
-becomes t stamp asked draw lines page leaves is =
-    let drawn : Ids = new_ids t (play t stamp (Cart asked draw)).tables in
+becomes : (t : Tables) (stamp : ℕ) (asked : CartAsked) (draw : ℕ) (lines : List (ℕ × ℕ)) (draft : Draft) → Leaves t asked draw lines → pages.Shows draft (page_at t asked.ids lines)
+    → Becomes t stamp (Cart asked draw) draft
+becomes t stamp asked draw lines draft leaves shows front =
+    let drawn : Drawn = record { front = front; stamp = stamp; ids = new_ids t (play t stamp (Cart asked draw)).tables } in
     let cart : ℕ = cart_meant t.carts asked.ids.cart in
-    let of : IsCartOf asked.ids.cart drawn cart = is_cart_of t.carts asked.ids.cart (lines_after t asked draw) drawn refl in
-    record {
-      asks = subst (λ (w : Waiting). HasIds drawn (draft.Waiting w)) (sym is) (asks_cart_alone stamp drawn t asked.ids lines cart of);
-      page_is =
-          ap (λ (w : Waiting). filled stamp drawn (draft.Waiting w)) is
-          ∙ becomes_page stamp drawn t asked.ids lines cart of
-          ∙ ap (λ (l : List (ℕ × ℕ)). cart_page t (ids_with asked.ids cart) cart l) (sym leaves.after);
-    }
+    subst (λ (l : List (ℕ × ℕ)). IsPage draft drawn (cart_page t (ids_with asked.ids cart) cart l)) (sym leaves.after)
+    (subst (λ (n : ℕ). IsPage draft drawn (cart_page t (ids_with asked.ids n) n lines)) (cart_drawn t.carts asked.ids.cart (lines_after t asked draw) drawn refl) (shows drawn))
 
-pub changed : (asked : CartAsked) (ask : Ask) (cart : Option ReadOf) (round : ℕ) (items : List ReadOf) (lines : List (ℕ × ℕ)) (next : Next) → IsWhole ask → MakesOfCart ask.scale.now.items asked ask.draw cart lines
-    → IsChangeTo asked ask.draw lines items next → IsNext (FollowsCart asked ask) (CartRequest asked) ask round (cart_reads cart ++ items) next
-changed asked ask cart round items lines next whole makes change =
+pub changed : (asked : CartAsked) (ask : Ask) (cart : Option ReadOf) (round : ℕ) (items : List ReadOf) (lines : List (ℕ × ℕ)) (draft : Draft) (next : Next) → IsWhole ask
+    → MakesOfCart ask.scale.now.items asked ask.draw cart lines → IsChangeTo asked ask.draw lines items draft next
+    → IsNext (FollowsCart asked ask) (CartRequest asked) ask round (cart_reads cart ++ items) draft next
+changed asked ask cart round items lines draft next whole makes change =
     let reads : List ReadOf = cart_reads cart ++ items in
     let here : (t : Tables) → Fits ask.index.now t reads → Leaves t asked ask.draw lines
     = λ t fits. leaves t ask.scale.now.items asked ask.draw cart lines (size_of ask.index.now t fits.named ∙ sym whole) (shows_append t (cart_reads cart) items fits.shows).0 makes in
-    subst (IsNext (FollowsCart asked ask) (CartRequest asked) ask round reads) (sym change.is) (record {
+    subst (IsNext (FollowsCart asked ask) (CartRequest asked) ask round reads draft) (sym change.is) (record {
       does = record { does = refl; drew = refl };
       makes = λ t stamp fits bound. makes_lines t stamp asked ask.draw lines (here t fits);
       becomes = λ t stamp fits bound.
-          becomes t stamp asked ask.draw lines change.page (here t fits) (change.drafts t (shows_append t (cart_reads cart) items fits.shows).1);
+          becomes t stamp asked ask.draw lines draft (here t fits) (change.written t (shows_append t (cart_reads cart) items fits.shows).1);
     })

@@ -1,18 +1,20 @@
 -- The rows of the table and their sum, from reads of the items.
 use Rattle.std.proofs.Common.{◌≡◌, ℕ, ◌+◌, ◌*◌, ◌<◌, ◌≤◌, List, ◌∷◌, [], ◌++◌, length, map, take, get_or, Option, Some, None, option_map, unwrap_or, refl, sym, ◌∙◌, ap, arith}
-use Rattle.std.specs.List.{sum_by}
+use Rattle.std.specs.List.{sum_by, flat_map}
 use Rattle.std.proofs.Math.Nat.{mul-le-mul}
-use Rattle.std.proofs.lemmas.List.{length-map, get_or-map, map_more}
+use Rattle.std.proofs.lemmas.List.{append-nil, length-map, get_or-map, map_more}
 use Rattle.std.proofs.lemmas.List.Sums.{sum_by_more}
 use Rattle.shop_model.specs.declared.tables.Tables.{Tables}
 use Rattle.shop_model.specs.Carts.{line_cells, line_cost}
 use Rattle.shop_model.specs.Lookups.{row_numbered, title_of, cost_of}
+use Rattle.shop_model.specs.PageText.{row_text}
 use Rattle.shop_model.specs.Rows.{ItemRow}
 use Rattle.shop_history.specs.declared.keys.Key.{Key}
 use Rattle.shop_history.specs.declared.keys.Key.TheVariants as key
 use Rattle.shop_history.specs.declared.keys.Row.{Row}
 use Rattle.shop_history.specs.declared.keys.Row.TheVariants as row
 use Rattle.shop_history.specs.Keys.{row_of, shown}
+use Rattle.shop_draft.proofs.PageTexts.{both}
 use Rattle.shop_attempt.specs.declared.attempts.ReadOf.{ReadOf}
 use Rattle.shop_attempt.specs.Reads.{Shows}
 use Rattle.shop_attempt.proofs.Looks.{shows_at}
@@ -54,14 +56,16 @@ module _ (lines : List (ℕ × ℕ)) (items : List ReadOf) (i : ℕ) (read : Rea
       ∙ get_or-map key_of lines i (0, 0) read.key within in
       ap (row_of t) (sym key_is) ∙ shows_at t items i read behind at shows
 
-  pub rows_more : (rows new : List (List (List ℕ))) → new ≡ rows ++ cells_in (line_at lines i) read.row ∷ [] → ((t : Tables) → Shows t items → rows ≡ map (line_cells t) (take i lines))
-      → (t : Tables) → Shows t items → new ≡ map (line_cells t) (take (i + 1) lines)
-  rows_more rows new pushed so_far t shows =
-      let cells = cells_shown t (line_at lines i) read.row (item_shown t shows) in
-      pushed
-      ∙ ap (λ (r : List (List (List ℕ))). r ++ cells_in (line_at lines i) read.row ∷ []) (so_far t shows)
-      ∙ ap (λ (c : List (List ℕ)). map (line_cells t) (take i lines) ++ c ∷ []) (sym cells)
-      ∙ sym (map_more (line_cells t) lines i (0, 0) within)
+  pub rows_more : (old rows new : List ℕ) → new ≡ rows ++ row_text (cells_in (line_at lines i) read.row)
+      → (t : Tables) → Shows t items → rows ≡ old ++ flat_map row_text (map (line_cells t) (take i lines)) → new ≡ old ++ flat_map row_text (map (line_cells t) (take (i + 1) lines))
+  rows_more old rows new added t shows so_far =
+      let first : List (List (List ℕ)) = map (line_cells t) (take i lines) in
+      let cells : List (List ℕ) = cells_in (line_at lines i) read.row in
+      let one : line_cells t (line_at lines i) ≡ cells = cells_shown t (line_at lines i) read.row (item_shown t shows) in
+      let more : map (line_cells t) (take (i + 1) lines) ≡ first ++ cells ∷ []
+      = map_more (line_cells t) lines i (0, 0) within ∙ ap (λ (c : List (List ℕ)). first ++ c ∷ []) one in
+      both row_text first (cells ∷ []) old rows new so_far (added ∙ ap (λ (l : List ℕ). rows ++ l) (sym (append-nil (row_text cells))))
+      ∙ ap (λ (r : List (List (List ℕ))). old ++ flat_map row_text r) (sym more)
 
   pub sum_more : (sum cost : ℕ) → cost ≡ cost_in read.row * (line_at lines i).1 → ((t : Tables) → Shows t items → sum ≡ sum_by (line_cost t) (take i lines))
       → (t : Tables) → Shows t items → sum + cost ≡ sum_by (line_cost t) (take (i + 1) lines)

@@ -1,3 +1,3 @@
-pub mod Drafts
+pub mod Page
 pub mod Table
 pub mod ShoppingCart

@@ -5,12 +5,12 @@ use Rattle.shop_model.specs.CartAsked.{CartAsked}
 use Rattle.shop_model.specs.Carts.{wanted, cart_lines, check_lines, lines_named, check_cart}
 use Rattle.shop_model.specs.Sound.{IsFit}
 use Rattle.shop_history.specs.declared.acts.Act.TheVariants.{Cart}
-use Rattle.shop_history.specs.declared.drafts.Draft.TheVariants as draft
-use Rattle.shop_history.specs.declared.drafts.Waiting.{Waiting}
 use Rattle.shop_history.specs.declared.keys.Key.{Key}
 use Rattle.shop_history.specs.declared.keys.Key.TheVariants as key
 use Rattle.shop_history.specs.declared.keys.Row.{Row}
 use Rattle.shop_history.specs.declared.keys.Row.TheVariants as row
+use Rattle.shop_draft.specs.declared.draft.Draft.{Draft}
+use Rattle.shop_draft.specs.Pages as pages
 use Rattle.shop_attempt.specs.declared.attempts.ReadOf.{ReadOf}
 use Rattle.shop_attempt.specs.declared.attempts.Write.{Write}
 use Rattle.shop_attempt.specs.declared.attempts.Write.TheVariants.{PutCart}
@@ -22,7 +22,7 @@ use Rattle.shop_browse.specs.declared.driver.Next.TheVariants.{Change}
 use Rattle.shop_browse.specs.Driver.{keys_of}
 use Rattle.shop_order.specs.declared.shopping_cart.Begun.{Begun}
 use Rattle.shop_order.specs.declared.shopping_cart.Begun.TheVariants.{Lines, Refused, Never}
-use Rattle.shop_order.specs.Drafts.{cart_draft}
+use Rattle.shop_order.specs.Page.{page_at}
 
 -- the key of a cart, if one is named
 abbrev pub cart_keys : Option ℕ → List Key
@@ -107,8 +107,7 @@ FollowsCart asked ask (suc round) reads = FollowsNamed asked ask (suc round) rea
 abbrev pub put_lines : Option ℕ → List (ℕ × ℕ) → List Write
 put_lines named lines = PutCart (record { id = unwrap_or named 0; lines = lines }) ∷ []
 
--- the change that leaves a cart with these lines, with the draft of the page in whichever tables show the items
-pub record IsChangeTo (asked : CartAsked) (draw : ℕ) (lines : List (ℕ × ℕ)) (items : List ReadOf) (next : Next) : Type 0 where
-  pub page : Waiting
-  pub drafts : (t : Tables) → Shows t items → page ≡ cart_draft t asked.ids lines
-  pub is : next ≡ Change (Cart asked draw) (put_lines asked.ids.cart lines) (draft.Waiting page)
+-- the change that leaves a cart with these lines, with the draft of its page in whichever tables show the items
+pub record IsChangeTo (asked : CartAsked) (draw : ℕ) (lines : List (ℕ × ℕ)) (items : List ReadOf) (draft : Draft) (next : Next) : Type 0 where
+  pub written : (t : Tables) → Shows t items → pages.Shows draft (page_at t asked.ids lines)
+  pub is : next ≡ Change (Cart asked draw) (put_lines asked.ids.cart lines)

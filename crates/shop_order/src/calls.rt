@@ -10,22 +10,29 @@ use shop_browse::product_detail::product_detail;
 use shop_browse::search_request::search_request;
 use shop_browse::search_results::search_results;
 use shop_browse::{Ask, Attempted};
+use shop_draft::Draft;
 use shop_model::Request;
 use std::alloc::Global;
 
-/// An attempt at what a request asks for.
-pub fn attempt<St: Store>(alloc: Global, store: &mut St, ask: &Ask, request: &Request) -> Attempted
+/// An attempt at what a request asks for, which writes its page into the draft.
+pub fn attempt<St: Store>(
+    alloc: Global,
+    store: &mut St,
+    ask: &Ask,
+    request: &Request,
+    draft: &mut Draft,
+) -> Attempted
     requires suits { Suits ask.now (St.seat store.old) }
     ensures looks { Looks St.seat St.marked store.old store.new }
-    ensures attempted { AttemptedAs (St.seat store.old) (St.seat store.new) request.now ask.now.moment ask.now.draw result }
+    ensures attempted { AttemptedAs (St.seat store.old) (St.seat store.new) request.now ask.now.moment ask.now.draw draft.new result }
 {
     match request {
-        Request::Home(asked) => home(alloc, store, ask, asked),
-        Request::NewProducts(asked) => new_products(alloc, store, ask, asked),
-        Request::BestSellers(asked) => best_sellers(alloc, store, ask, asked),
-        Request::ProductDetail(asked) => product_detail(alloc, store, ask, asked),
-        Request::SearchRequest(asked) => search_request(alloc, store, ask, asked),
-        Request::SearchResults(asked) => search_results(alloc, store, ask, asked),
-        Request::CartRequest(asked) => shopping_cart(alloc, store, ask, asked),
+        Request::Home(asked) => home(alloc, store, ask, asked, draft),
+        Request::NewProducts(asked) => new_products(alloc, store, ask, asked, draft),
+        Request::BestSellers(asked) => best_sellers(alloc, store, ask, asked, draft),
+        Request::ProductDetail(asked) => product_detail(alloc, store, ask, asked, draft),
+        Request::SearchRequest(asked) => search_request(alloc, store, ask, asked, draft),
+        Request::SearchResults(asked) => search_results(alloc, store, ask, asked, draft),
+        Request::CartRequest(asked) => shopping_cart(alloc, store, ask, asked, draft),
     }
 }

@@ -1,10 +1,9 @@
 //! Attempts at the interactions that change rows, beside those that only read: each is a function of
-//! the rows that it has read, and makes of them the act, its writes, and the draft of its page.
+//! the rows that it has read, which makes of them the act and its writes, and writes its page.
 #![tactic(auto)]
 
 mod calls;
-mod drafts;
-mod parts;
+mod page;
 pub mod shopping_cart;
 mod table;
 

@@ -7,11 +7,12 @@ ghost use Rattle.shop_browse.specs.Driver.{IsWhole, AreSeen, IsNext};
 ghost use Rattle.shop_pricing.specs.Bounds.{AreLines};
 ghost use Rattle.shop_order.specs.ShoppingCart as spec;
 
-use crate::drafts::cart_draft;
+use crate::page::write_page;
 use shop_attempt::{ReadOf, Store, Write};
 use shop_browse::{Ask, Attempted, Interaction, Next, attempt_by};
-use shop_history::{Act, Draft, Key, Row};
-use shop_model::{Cart, CartRequest, Refusal, Request, refusal_page};
+use shop_draft::{Draft, refusal as write_refusal};
+use shop_history::{Act, Key, Row};
+use shop_model::{Cart, CartRequest, Refusal, Request};
 use shop_pricing::{Filled, Lines as CartLines, fill};
 use shop_text::{Listed, Memory};
 use std::alloc::Global;
@@ -92,21 +93,22 @@ fn put_lines(
     Ok(writes)
 }
 
-/// The change that leaves a cart with these lines, by what was read of their items.
+/// The change that leaves a cart with these lines, whose page it writes by what was read of their items.
 fn change(
     alloc: Global,
     ask: &Ask,
     asked: &CartRequest,
     lines: Listed<(u32, u32)>,
     items: &[ReadOf],
+    draft: &mut Draft,
 ) -> Result<Next, Memory>
     requires items { spec.AreItems lines items.now }
     requires lines { AreLines lines }
-    ensures { IfOk result (spec.IsChangeTo asked.now ask.now.draw lines items.now) }
+    ensures { IfOk result (spec.IsChangeTo asked.now ask.now.draw lines items.now draft.new) }
 {
-    let draft = cart_draft(alloc, asked.ids, lines.as_slice(), items)?;
+    write_page(draft, asked.ids, lines.as_slice(), items)?;
     let writes = put_lines(alloc, asked.ids.cart, lines)?;
-    Ok(Next::Change(act(asked, ask.draw)?, writes, Draft::Waiting(draft)))
+    Ok(Next::Change(act(asked, ask.draw)?, writes))
 }
 
 /// The keys of the items of lines.
@@ -139,22 +141,26 @@ fn by_cart(
     cart: Option<&ReadOf>,
     round: u32,
     items: &[ReadOf],
+    draft: &mut Draft,
 ) -> Result<Next, Memory>
     requires whole { IsWhole ask.now }
     requires named { spec.IsNamed asked.now.ids.cart (option_copied cart) }
     requires fit { spec.IsFitRead (option_copied cart) }
     requires follows { spec.FollowsItems asked.now ask.now (option_copied cart) round items.now }
-    ensures { IfOk result (IsNext (spec.FollowsCart asked.now ask.now) (Request.CartRequest asked.now) ask.now round (spec.cart_reads (option_copied cart.entry) ++ items.now)) }
+    ensures { IfOk result (IsNext (spec.FollowsCart asked.now ask.now) (Request.CartRequest asked.now) ask.now round (spec.cart_reads (option_copied cart.entry) ++ items.now) draft.new) }
 {
     let begun = begin(alloc, ask, asked, cart)?;
     match begun {
-        Begun::Refused(refusal) => Ok(Next::Show(refusal_page(alloc, refusal)?)),
+        Begun::Refused(refusal) => {
+            write_refusal(draft, refusal)?;
+            Ok(Next::Show)
+        }
         Begun::Never => Ok(Next::Never),
         Begun::Lines(lines) => {
             if round == 1 {
                 Ok(Next::Read(item_keys(alloc, lines.as_slice())?))
             } else {
-                change(alloc, ask, asked, lines, items)
+                change(alloc, ask, asked, lines, items, draft)
             }
         }
     }
@@ -173,28 +179,44 @@ impl<'a> Interaction for ShoppingCart<'a> {
 
     ghost follows = { λ cart. spec.FollowsCart cart.asked.now };
 
-    fn next(&self, alloc: Global, ask: &Ask, round: u32, reads: &[ReadOf]) -> Result<Next, Memory> {
+    fn next(
+        &self,
+        alloc: Global,
+        ask: &Ask,
+        round: u32,
+        reads: &[ReadOf],
+        draft: &mut Draft,
+    ) -> Result<Next, Memory> {
         let asked = self.asked;
         if round == 0 {
             return Ok(Next::Read(cart_keys(alloc, asked.ids.cart)?));
         }
         match asked.ids.cart {
-            None => by_cart(alloc, ask, asked, None, round, reads),
-            Some(_) => by_cart(alloc, ask, asked, Some(&reads[0]), round, &reads[1..]),
+            None => by_cart(alloc, ask, asked, None, round, reads, draft),
+            Some(_) => by_cart(
+                alloc,
+                ask,
+                asked,
+                Some(&reads[0]),
+                round,
+                &reads[1..],
+                draft,
+            ),
         }
     }
 }
 
-/// The cart that is named, or a new one, with what the request sets of it.
+/// An attempt at the cart that is named, or a new one, with what the request sets of it.
 pub fn shopping_cart<St: Store>(
     alloc: Global,
     store: &mut St,
     ask: &Ask,
     asked: &CartRequest,
+    draft: &mut Draft,
 ) -> Attempted
     requires suits { Suits ask.now (St.seat store.old) }
     ensures looks { Looks St.seat St.marked store.old store.new }
-    ensures attempted { AttemptedAs (St.seat store.old) (St.seat store.new) (Request.CartRequest asked.now) ask.now.moment ask.now.draw result }
+    ensures attempted { AttemptedAs (St.seat store.old) (St.seat store.new) (Request.CartRequest asked.now) ask.now.moment ask.now.draw draft.new result }
 {
-    attempt_by(alloc, store, ask, &ShoppingCart { asked })
+    attempt_by(alloc, store, ask, &ShoppingCart { asked }, draft)
 }

@@ -1,21 +1,21 @@
 //! The table of a cart's lines, and their sum.
-ghost use Rattle.std.specs.Prelude.{◌≡◌, ◌*◌, ◌≤◌, ◌++◌, IfOk, map};
+ghost use Rattle.std.specs.Prelude.{◌≡◌, ◌*◌, ◌≤◌, OnOk, map};
+ghost use Rattle.std.specs.List.{flat_map};
+ghost use Rattle.shop_model.specs.declared.page.Block.TheVariants as block;
 ghost use Rattle.shop_model.specs.declared.tables.Tables.{Tables};
 ghost use Rattle.shop_model.specs.Carts.{line_cells};
 ghost use Rattle.shop_model.specs.Limits.{price_limit, quantity_limit};
+ghost use Rattle.shop_model.specs.PageText.{block_line, row_text};
+ghost use Rattle.shop_draft.specs.Templates.{Says};
 ghost use Rattle.shop_attempt.specs.Reads.{Shows};
 ghost use Rattle.shop_pricing.specs.Bounds.{AreLines};
 ghost use Rattle.shop_order.specs.ShoppingCart.{AreItems};
 ghost use Rattle.shop_order.specs.Table as spec;
 
-use crate::parts::digits;
 use shop_attempt::ReadOf;
+use shop_draft::Template;
 use shop_history::Row;
-use shop_text::{Listed, Memory, Text, cents_text};
-use std::alloc::Global;
-
-/// How many columns the table has.
-const COLUMNS: usize = 5;
+use shop_text::Memory;
 
 /// The title of the item in a row; another row has none.
 fn title(row: &Row) -> &[u8]
@@ -48,35 +48,46 @@ fn line_cost(line: (u32, u32), row: &Row) -> u64
     cost(row) * u64::from(line.1)
 }
 
-/// Item, title, quantity, cost of one, cost of all.
-fn line_cells(alloc: Global, line: (u32, u32), row: &Row) -> Result<Listed<Text>, Memory>
+/// Adds item, title, quantity, cost of one, cost of all.
+fn row(page: &mut Template, line: (u32, u32), row: &Row) -> Result<(), Memory>
     requires { line.1 ≤ quantity_limit }
-    ensures { IfOk result (λ cells. cells ≡ spec.cells_in line row.now) }
+    ensures { OnOk result (Says page.old page.new (row_text (spec.cells_in line row.now))) }
 {
-    let mut cells = Listed::with_capacity(alloc, COLUMNS)?;
-    cells.push(digits(alloc, line.0)?)?;
-    cells.push(Text::copy(alloc, title(row))?)?;
-    cells.push(digits(alloc, line.1)?)?;
-    cells.push(cents_text(alloc, cost(row))?)?;
-    cells.push(cents_text(alloc, line_cost(line, row))?)?;
-    Ok(cells)
+    page.number(b"<tr><td>", u64::from(line.0))?;
+    page.escaped(b"</td><td>", title(row))?;
+    page.number(b"</td><td>", u64::from(line.1))?;
+    page.money(b"</td><td>", cost(row))?;
+    page.money(b"</td><td>", line_cost(line, row))?;
+    page.put(b"</td></tr>")?;
+    Ok(())
 }
 
-/// The rows of the table.
-pub(crate) fn rows(
-    alloc: Global,
-    lines: &[(u32, u32)],
-    items: &[ReadOf],
-) -> Result<Listed<Listed<Text>>, Memory>
+fn rows(page: &mut Template, lines: &[(u32, u32)], items: &[ReadOf]) -> Result<(), Memory>
     requires items { AreItems lines.now items.now }
     requires lines { AreLines lines.now }
-    ensures { IfOk result (λ rows. (t : Tables) → Shows t items.now → rows ≡ map (line_cells t) lines.now) }
+    ensures { OnOk result ((t : Tables) → Shows t items.now → Says page.old page.new (flat_map row_text (map (line_cells t) lines.now))) }
 {
-    let mut rows = Listed::with_capacity(alloc, lines.len())?;
     for (place, line) in lines.iter().enumerate() {
-        rows.push(line_cells(alloc, *line, &items[place].row)?)?;
+        row(page, *line, &items[place].row)?;
     }
-    Ok(rows)
+    Ok(())
+}
+
+/// Adds the table.
+#[tactic(auto, unfolding(shop_model::specs::PageText::block_text))]
+pub(crate) fn table(
+    page: &mut Template,
+    lines: &[(u32, u32)],
+    items: &[ReadOf],
+) -> Result<(), Memory>
+    requires items { AreItems lines.now items.now }
+    requires lines { AreLines lines.now }
+    ensures { OnOk result ((t : Tables) → Shows t items.now → Says page.old page.new (block_line (block.Table (map (line_cells t) lines.now)))) }
+{
+    page.put(b"<table>")?;
+    rows(page, lines, items)?;
+    page.put(b"</table>\n")?;
+    Ok(())
 }
 
 /// What lines cost together, in cents.

@@ -1,23 +1,15 @@
--- A head and a filled template are the reply to a draft.
-use Rattle.std.proofs.Common.{◌≡◌, ℕ, List, [], ◌++◌, length, refl}
-use Rattle.shop_history.specs.declared.acts.Ids.{Ids}
-use Rattle.shop_history.specs.declared.drafts.Draft.{Draft}
-use Rattle.shop_history.specs.declared.drafts.Draft.TheVariants.{Fixed, Waiting}
-use Rattle.shop_history.specs.Drafts.{filled}
+-- A head and a filled draft are the reply with its page.
+use Rattle.std.proofs.Common.{◌≡◌, ℕ, List, ◌++◌, length, refl}
+use Rattle.shop_model.specs.declared.page.Page.{Page}
+use Rattle.shop_history.specs.declared.acts.Drawn.{Drawn}
+use Rattle.shop_draft.specs.declared.draft.Draft.{Draft}
+use Rattle.shop_draft.specs.Pages.{IsPage}
+use Rattle.shop_draft.specs.Templates.{filled}
 use Rattle.shop_pages.specs.declared.reply.Form.{Form}
-use Rattle.shop_pages.specs.Templates.{template_text}
-use Rattle.shop_pages.specs.Replies.{ReplyState, IsReserved, reply, reply_head, body_of, status_of}
-
-status_is : (stamp : ℕ) (ids : Ids) (draft : Draft) → (filled stamp ids draft).status ≡ status_of draft
-unfolding filled
-status_is stamp ids (Fixed page) = refl
-status_is stamp ids (Waiting page) = refl
+use Rattle.shop_pages.specs.Replies.{reply, reply_head, body_of}
 
 -- what is written in turn
-pub finished : (stamp : ℕ) (ids : Ids) (s : ReplyState) (draft : Draft) (form : Form) (len : ℕ) (head now : List ℕ) → IsReserved s draft
-    → len ≡ length (template_text stamp ids s.template)
-    → head ≡ [] ++ reply_head (status_of draft) len form
-    → now ≡ head ++ body_of (template_text stamp ids s.template) form → now ≡ reply (filled stamp ids draft) form
+pub finished : (draft : Draft) (drawn : Drawn) (page : Page) (form : Form) (len : ℕ) (head now : List ℕ) → IsPage draft drawn page
+    → len ≡ length (filled drawn draft.page) → head ≡ reply_head draft.status len form → now ≡ head ++ body_of (filled drawn draft.page) form → now ≡ reply page form
 unfolding reply
-finished stamp ids s draft form len head now reserved size is_head is =
-    rw (is, is_head, size, reserved.page stamp ids, ← status_is stamp ids draft) refl
+finished draft drawn page form len head now is size is_head is_now = rw (is_now, is_head, size, is.text, is.status) refl

@@ -1,4 +1,2 @@
 pub mod Finished
-pub mod Plain
-pub mod Splices
 mod Phrases

@@ -1,14 +1,12 @@
 -- The bytes of replies (RFC 9112).
-use Rattle.std.specs.Prelude.{◌≡◌, ◌==◌, ℕ, ◌+◌, ◌≤◌, List, [], ◌++◌, length, codes, decimal, unwrap_or, if◌then◌else◌}
+use Rattle.std.specs.Prelude.{◌==◌, ℕ, Bool, ◌+◌, ◌≤◌, List, [], ◌++◌, length, codes, decimal, unwrap_or, if◌then◌else◌}
 use Rattle.http.specs.StatusCode.{reason_phrase}
 use Rattle.shop_model.specs.declared.page.Page.{Page}
 use Rattle.shop_model.specs.PageText.{page_text}
-use Rattle.shop_history.specs.declared.acts.Ids.{Ids}
-use Rattle.shop_history.specs.declared.drafts.Draft.{Draft}
-use Rattle.shop_history.specs.declared.drafts.Draft.TheVariants.{Fixed, Waiting}
-use Rattle.shop_history.specs.Drafts.{filled}
+use Rattle.shop_draft.specs.declared.draft.Draft.{Draft}
+use Rattle.shop_draft.specs.Outs.{OutState}
+use Rattle.shop_draft.specs.Templates.{TemplateState, template_room}
 use Rattle.shop_pages.specs.declared.reply.Form.{Form}
-use Rattle.shop_pages.specs.Templates.{TemplateState, template_text, template_room}
 
 -- the reason phrase of a status; none where the status has no name
 unfoldable pub phrase_of : ℕ → List ℕ
@@ -46,18 +44,20 @@ reply page form =
 abbrev pub head_room : ℕ
 head_room = 191
 
--- the status of a draft's page
-abbrev pub status_of : Draft → ℕ
-status_of (Fixed page) = page.status
-status_of (Waiting page) = page.status
+-- what is sent: head and page as they stand in a draft's own room, or else what a buffer has
+abbrev pub sent_by : Bool → TemplateState → OutState → List ℕ
+sent_by whole page out = if whole then page.head ++ page.text else out.bytes
 
--- a buffer: the reply in it, the template of the next one, and the room for its bytes
+-- the draft of the next reply, whether the last one stands in its room, the buffer where it does not
 pub record ReplyState : Type 0 where
-  pub bytes : List ℕ
-  pub template : TemplateState
-  pub room : ℕ
+  pub draft : Draft
+  pub whole : Bool
+  pub out : OutState
 
--- whatever is drawn for the draft, its page stands in the template, and there is room for the reply
-pub record IsReserved (s : ReplyState) (draft : Draft) : Type 0 where
-  pub page : (stamp : ℕ) (ids : Ids) → template_text stamp ids s.template ≡ page_text (filled stamp ids draft)
-  pub fits : head_room + template_room s.template ≤ s.room
+-- the reply that was made last
+abbrev pub bytes_of : ReplyState → List ℕ
+bytes_of s = sent_by s.whole s.draft.page s.out
+
+-- there is room for the reply to the draft, whatever is drawn for it
+abbrev pub IsReserved : ReplyState → Type 0
+IsReserved s = head_room + template_room s.draft.page ≤ s.out.room

@@ -2,9 +2,9 @@
 ghost use Rattle.std.specs.Prelude.{◌≡◌, ◌≤◌, ◌+◌, ◌++◌, length};
 ghost use Rattle.shop_pages.specs.Replies as spec;
 
-use crate::out::Out;
 use crate::reply::Form;
 use http::StatusCode;
+use shop_draft::Out;
 
 /// The most bytes of a head.
 pub(crate) const HEAD_ROOM: usize = 191;

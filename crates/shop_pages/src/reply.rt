@@ -1,12 +1,10 @@
 ghost use Rattle.std.specs.Prelude.{◌≡◌, ◌≤◌, ◌+◌, ◌++◌, IfSome};
-ghost use Rattle.shop_pages.specs.Templates.{template_room, template_text};
+ghost use Rattle.shop_draft.specs.Templates.{filled, template_room};
 ghost use Rattle.shop_pages.specs.Replies as spec;
 
-use crate::drafts::push_draft;
 use crate::head::{HEAD_ROOM, put_head};
-use crate::out::Out;
-use crate::template::Template;
-use shop_history::{Draft, Drawn};
+use shop_draft::{Draft, HEAD_ROOM as ROOM_BEFORE, Out, Template};
+use shop_history::Drawn;
 use shop_text::{Memory, Text};
 use std::alloc::Global;
 use std::marker::Model;
@@ -23,39 +21,38 @@ pub struct Form {
     pub bodiless: bool,
 }
 
-/// The status of a draft's page.
-fn status_of(draft: &Draft) -> u16
-    ensures { result ≡ spec.status_of draft.now }
+/// The most bytes of the reply with this page; none where no memory could hold them.
+fn reply_room(page: &Template) -> Option<usize>
+    ensures { IfSome result (λ room. room ≡ spec.head_room + template_room page.now) }
 {
-    match draft {
-        Draft::Fixed(page) => page.status,
-        Draft::Waiting(page) => page.status,
+    page.room()?.checked_add(HEAD_ROOM)
+}
+
+/// Joins a head with its page, unless this is left out, and tells where they stand then: in the page's
+/// own room where it waits for nothing, so that it is not copied, and else in the buffer, behind the
+/// head; takes no memory.
+fn join(page: &mut Template, out: &mut Out, drawn: &Drawn, form: Form) -> bool
+    requires { template_room page.old ≤ out.old.room }
+    ensures { spec.sent_by result page.new out.new ≡ out.old.bytes ++ spec.body_of (filled drawn.now page.old) form }
+{
+    if form.bodiless {
+        return false;
     }
-}
-
-/// The most bytes of the reply with a template's page; none where no memory could hold them.
-fn reply_room(template: &Template) -> Option<usize>
-    ensures { IfSome result (λ room. room ≡ spec.head_room + template_room template.now) }
-{
-    template.room()?.checked_add(HEAD_ROOM)
-}
-
-/// Adds the page, unless it is left out; takes no memory.
-fn put_body(out: &mut Out, template: &Template, drawn: &Drawn, form: Form)
-    requires { template_room template.now ≤ out.old.room }
-    ensures { out.new.bytes
-        ≡ out.old.bytes ++ spec.body_of (template_text drawn.now.stamp drawn.now.ids template.now) form }
-{
-    if !form.bodiless {
-        template.put(out, drawn);
+    if page.is_whole() && out.bytes().len() <= ROOM_BEFORE {
+        page.put_before(out.bytes());
+        return true;
     }
+    page.fill(out, drawn);
+    false
 }
 
-/// A buffer in which the whole reply to a request is made room for before its settle, and then
-/// finished without taking memory. It serves one reply after another, and keeps its room.
+/// The draft of a page, and room for the whole reply with it, which is made before its settle; it is
+/// then finished without taking memory. It serves one reply after another, and keeps its room.
 #[derive(Debug, Drop)]
 pub struct Reply {
-    template: Template,
+    draft: Draft,
+    /// The reply stands in the draft's room, and else in the buffer.
+    whole: bool,
     out: Out,
 }
 
@@ -64,62 +61,86 @@ impl Model for Reply {
 
     ghost Value = { ReplyState };
 
-    ghost view = { λ r. record { bytes = r.out.bytes; template = r.template; room = r.out.room } };
+    ghost view = { λ r. record { draft = r.draft; whole = r.whole; out = r.out } };
 }
 
 impl Reply {
     ghost use Rattle.std.specs.Prelude.{◌≡◌, [], IfOk, OnOk};
-    ghost use Rattle.shop_history.specs.Drafts.{filled};
+    ghost use Rattle.std.specs.Borrow.{sem};
+    ghost use Rattle.shop_model.specs.declared.page.Page.{Page};
+    ghost use Rattle.shop_draft.specs.Pages.{IsPage};
+    ghost use Rattle.shop_pages.specs.Lending.{LendsDraft};
     ghost use Rattle.shop_pages.specs.Replies as spec;
-    ghost use Rattle.shop_pages.specs.Replies.{IsReserved};
 
     /// A buffer with no reply.
     pub fn new(alloc: Global) -> Result<Reply, Memory>
-        ensures { IfOk result (λ reply. reply.bytes ≡ []) }
+        ensures { IfOk result (λ reply. spec.bytes_of reply ≡ []) }
     {
         Ok(Reply {
-            template: Template::with_capacity(alloc, FIRST_ROOM)?,
+            draft: Draft {
+                status: 0,
+                page: Template::with_room(alloc, FIRST_ROOM)?,
+            },
+            whole: false,
             out: Out::with_capacity(alloc, FIRST_ROOM)?,
         })
     }
 
-    /// Drops the last reply, and makes room for the one to this draft.
-    pub fn reserve(&mut self, draft: &Draft) -> Result<(), Memory>
-        ensures empty { self.new.bytes ≡ [] }
-        ensures reserved { OnOk result (IsReserved self.new draft.now) }
+    /// The draft of the next reply, to write its page into.
+    pub fn draft(&mut self) -> &mut Draft
+        ensures* lends { sem 𝓛 (LendsDraft self.entry result) }
     {
-        self.out.clear();
-        self.template.clear();
-        push_draft(&mut self.template, draft)?;
-        let Some(room) = reply_room(&self.template) else {
-            return Err(Memory);
-        };
-        self.out.reserve(room)
+        &mut self.draft
     }
 
-    /// Writes the reply to the draft, with what its settle drew; takes no memory.
-    pub fn finish(&mut self, draft: &Draft, drawn: &Drawn, form: Form)
-        requires { IsReserved self.old draft.now }
-        ensures { self.new.bytes ≡ spec.reply (filled drawn.now.stamp drawn.now.ids draft.now) form }
+    /// Drops the last reply, and makes room for the one to the draft.
+    pub fn reserve(&mut self) -> Result<(), Memory>
+        ensures empty { spec.bytes_of self.new ≡ [] }
+        ensures draft { self.new.draft ≡ self.old.draft }
+        ensures reserved { OnOk result (spec.IsReserved self.new) }
+    {
+        self.whole = false;
+        self.out.clear();
+        let Some(room) = reply_room(&self.draft.page) else {
+            return Err(Memory);
+        };
+        self.out.reserve(room)?;
+        Ok(())
+    }
+
+    /// Makes the reply of the draft, with what its settle drew; takes no memory.
+    pub fn finish(&mut self, drawn: &Drawn, form: Form)
+        requires { spec.IsReserved self.old }
+        ensures { (page : Page) → IsPage self.old.draft drawn.now page → spec.bytes_of self.new ≡ spec.reply page form }
     {
         self.out.clear();
-        let len = self.template.len(drawn);
-        put_head(&mut self.out, status_of(draft), len as u64, form);
-        put_body(&mut self.out, &self.template, drawn, form);
+        let len = self.draft.page.len(drawn);
+        put_head(&mut self.out, self.draft.status, len as u64, form);
+        let whole = join(&mut self.draft.page, &mut self.out, drawn, form);
+        self.whole = whole;
     }
 
     /// The reply that was finished last; none after a reserve.
     pub fn bytes(&self) -> &[u8]
-        ensures { result.now ≡ self.now.bytes }
+        ensures { result.now ≡ spec.bytes_of self.now }
     {
-        self.out.bytes()
+        if self.whole {
+            self.draft.page.bytes()
+        } else {
+            self.out.bytes()
+        }
     }
 
     /// The reply; takes no memory.
     pub fn into_text(self) -> Text
-        ensures { result ≡ self.bytes }
+        ensures { result ≡ spec.bytes_of self }
     {
-        let Reply { template: _, out } = self;
-        out.into_text()
+        let Reply { draft, whole, out } = self;
+        let Draft { status: _, page } = draft;
+        if whole {
+            page.into_text()
+        } else {
+            out.into_text()
+        }
     }
 }

@@ -16,11 +16,12 @@ returns-in_default g c =
     let ask = c.args.ask.now in
     let start = g.St.Store.seat c.args.store.now in
     let now = g.St.Store.seat c.loop-round.store in
-    let next = subst (λ (l : List ReadOf). IsNext (i.follows self ask) (i.request self) ask c.loop-round.round l c.in_ok-next.next) c.deref.ensures.value c.in_ok-next.ensures.next in
+    let draft = c.next.new.draft in
+    let next = subst (λ (l : List ReadOf). IsNext (i.follows self ask) (i.request self) ask c.loop-round.round l draft c.in_ok-next.next) c.deref.ensures.value c.in_ok-next.ensures.next in
     record {
       looks = c.loop-round.invariant.looks;
-      attempted = subst (AttemptedAs start now (i.request self) ask.moment ask.draw) (sym c.attempted.ensures)
-          (decided start now (i.follows self ask) (i.request self) ask c.loop-round.round c.loop-round.reads.items c.in_ok-next.next c.loop-round.invariant.has next);
+      attempted = subst (AttemptedAs start now (i.request self) ask.moment ask.draw draft) (sym c.attempted.ensures)
+          (decided start now (i.follows self ask) (i.request self) ask c.loop-round.round c.loop-round.reads.items draft c.in_ok-next.next c.loop-round.invariant.has next);
     }
 
 pub loop-round-preserved : goal.loop-round-preserved
@@ -32,8 +33,8 @@ loop-round-preserved g c =
     let reads = c.loop-round.reads.items in
     let so_far = c.loop-round.invariant in
     let asks : AsksFor (i.follows self ask) (i.request self) ask round reads c.in-Read.keys
-    = subst (IsNext (i.follows self ask) (i.request self) ask round reads) c.in-Read.is
-    (subst (λ (l : List ReadOf). IsNext (i.follows self ask) (i.request self) ask round l c.in_ok-next.next) c.deref.ensures.value c.in_ok-next.ensures.next) in
+    = subst (IsNext (i.follows self ask) (i.request self) ask round reads c.next.new.draft) c.in-Read.is
+    (subst (λ (l : List ReadOf). IsNext (i.follows self ask) (i.request self) ask round l c.next.new.draft c.in_ok-next.next) c.deref.ensures.value c.in_ok-next.ensures.next) in
     let more = has_more _ _ _ (i.follows self ask) (i.request self) ask round reads c.read_all.new.reads.items c.in-Read.keys
     so_far.looks.looked c.read_all.ensures.looks.looked so_far.has asks c.in_ok-read_all-in-Read.ensures.reads in
     let few = asks.few in

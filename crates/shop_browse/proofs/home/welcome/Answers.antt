@@ -1,7 +1,12 @@
-use Rattle.std.proofs.Common.{◌∙◌, ap, subst}
+use Rattle.std.proofs.Common.{List, ◌-◌, length, take, drop, sym, subst}
+use Rattle.std.specs.Prelude.{option_copied}
+use Rattle.shop_model.specs.declared.page.Page.{Page}
+use Rattle.shop_model.specs.declared.requests.IdsAsked.{IdsAsked}
+use Rattle.shop_draft.specs.Pages.{Shows}
+use Rattle.shop_attempt.specs.declared.attempts.ReadOf.{ReadOf}
 use Rattle.shop_browse.specs.Home.{drawn_key, home_in}
 use Rattle.shop_browse.specs.Labels.{AsksLabels}
-use Rattle.shop_browse.proofs.DriverLemmas.{behind}
+use Rattle.shop_browse.proofs.DriverLemmas.{behind, with_ids}
 use Rattle.shop_browse.proofs.HomeLemmas.{home_shown}
 use Rattle.shop_browse.proofs.home.welcome.Goals as goal
 
@@ -11,10 +16,14 @@ returns-in-Some c =
     subst (AsksLabels (drawn_key ask) ask c.args.round c.args.reads.now) c.in-Some.is
     (subst (λ k. AsksLabels k ask c.args.round c.args.reads.now c.in_ok-keys.field-0) c.drawn_key.ensures c.in_ok-keys.ensures)
 
-pub returns-in_ok-page-in-None : goal.returns-in_ok-page-in-None
-returns-in_ok-page-in-None c =
+pub returns-in_ok-write_page-in-None : goal.returns-in_ok-write_page-in-None
+returns-in_ok-write_page-in-None c t fits =
     let ask = c.args.ask.now in
-    let have = subst (AsksLabels (drawn_key ask) ask c.args.round c.args.reads.now) c.in-None.is
-    (subst (λ k. AsksLabels k ask c.args.round c.args.reads.now c.in_ok-keys.field-0) c.drawn_key.ensures c.in_ok-keys.ensures) in
-    home_shown ask c.args.ids _ c.args.reads.now c.in_ok-page-in-None.page c.requires.whole have
-    (c.in_ok-page-in-None.ensures ∙ ap (home_in c.args.ids ask.draw _) (behind c.args.reads.now))
+    let reads = c.args.reads.now in
+    let draft = c.write_page.new.draft in
+    let customer = option_copied c.args.customer in
+    let have = subst (AsksLabels (drawn_key ask) ask c.args.round reads) c.in-None.is
+    (subst (λ k. AsksLabels k ask c.args.round reads c.in_ok-keys.field-0) c.drawn_key.ensures c.in_ok-keys.ensures) in
+    let written = with_ids draft (λ (ids : IdsAsked). home_in ids ask.draw customer (take (length reads - 1) (drop 1 reads))) c.of.result c.args.ids c.of.ensures c.in_ok-write_page-in-None.ensures in
+    subst (λ (page : Page). Shows draft (λ drawn. page)) (sym (home_shown ask c.args.ids customer reads c.requires.whole have t fits))
+    (subst (λ (l : List ReadOf). Shows draft (λ drawn. home_in c.args.ids ask.draw customer l)) (behind reads) written)

@@ -1,17 +1,14 @@
+use Rattle.std.proofs.Common.{refl, codes, decimal}
+use Rattle.shop_text.specs.Texts.{cents_text}
+use Rattle.shop_model.specs.PageText.{block_text}
 use Rattle.shop_model.specs.Products.{price_line}
+use Rattle.shop_draft.proofs.PageTexts.{three_values}
 use Rattle.shop_browse.proofs.product_detail.price_line.Goals as goal
 
 pub returns : goal.returns
-unfolding price_line
-returns c =
-    rw (
-      c.in_ok-push_decimal.ensures.ok,
-      c.from.ensures,
-      c.in_ok-push-3.ensures.ok,
-      c.in_ok-push_cents-2.ensures.ok,
-      c.in_ok-push-2.ensures.ok,
-      c.in_ok-push_cents.ensures.ok,
-      c.in_ok-push.ensures.ok,
-      c.in_ok-text.ensures,
-      ← c.item.view_is,
-    )
+unfolding block_text price_line
+returns c drawn =
+    rw (← c.item.view_is)
+    (three_values (codes "<p>") (codes "List ") (codes ", our price ") (codes ", in stock ") (codes "</p>") (codes "\n") _ _ _ _ _
+    (cents_text c.item.inside.srp) (cents_text c.item.inside.cost) (decimal c.item.inside.stock) refl refl refl
+    (c.in_ok-money.ensures drawn) (c.in_ok-money-2.ensures drawn) (rw c.from.ensures at (c.in_ok-number.ensures drawn)) (c.in_ok-put.ensures drawn))

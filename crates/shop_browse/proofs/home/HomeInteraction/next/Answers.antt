@@ -11,7 +11,7 @@ use Rattle.shop_browse.proofs.home.HomeInteraction.next.Goals as goal
 pub returns-in-None : goal.returns-in-None
 returns-in-None c = record {
   next = IfOk-weaker c.welcome.result _ _
-      (λ next welcome. anyone_next c.args.self.now c.args.ask.now c.args.round c.args.reads.now next c.in-None.is c.requires.whole welcome) c.welcome.ensures;
+      (λ next welcome. anyone_next c.args.self.now c.args.ask.now c.args.round c.args.reads.now c.welcome.new.draft next c.in-None.is c.requires.whole welcome) c.welcome.ensures;
 }
 
 pub returns-in_ok-first_keys-in-Some : goal.returns-in_ok-first_keys-in-Some
@@ -29,6 +29,6 @@ returns-else-round-eq0 c =
     ∙ ap (λ (l : List ReadOf). c.index-reads-0.result ∷ l) (sym (behind reads)) in
     record {
       next = IfOk-weaker c.greet.result _ _
-          (λ next is. subst (λ n. IsNext (FollowsHome n ask) (Home asked) ask c.args.round reads next) (sym c.in-Some.is)
-          (subst (λ (l : List ReadOf). IsNext (FollowsHome (Some c.in-Some.number) ask) (Home asked) ask c.args.round l next) (sym split) is)) c.greet.ensures;
+          (λ next is. subst (λ n. IsNext (FollowsHome n ask) (Home asked) ask c.args.round reads c.greet.new.draft next) (sym c.in-Some.is)
+          (subst (λ (l : List ReadOf). IsNext (FollowsHome (Some c.in-Some.number) ask) (Home asked) ask c.args.round l c.greet.new.draft next) (sym split) is)) c.greet.ensures;
     }

@@ -1,13 +1,16 @@
-use Rattle.std.proofs.Common.{List, [], ◌∷◌, ◌++◌, drop, codes, Some, refl, sym, ◌∙◌, ap, subst}
+use Rattle.std.proofs.Common.{List, [], ◌∷◌, ◌++◌, ◌-◌, length, take, drop, codes, Some, refl, ap, subst}
 use Rattle.shop_model.specs.declared.page.Block.{Block}
 use Rattle.shop_model.specs.declared.page.Block.TheVariants.{Heading}
+use Rattle.shop_model.specs.declared.requests.IdsAsked.{IdsAsked}
 use Rattle.shop_model.specs.declared.requests.Request.TheVariants.{NewProducts}
 use Rattle.shop_model.specs.Lines.{new_products}
 use Rattle.shop_model.specs.Subjects.{subject_name}
 use Rattle.shop_history.specs.declared.keys.Key.TheVariants.{NewIn}
+use Rattle.shop_draft.specs.Pages.{Shows}
+use Rattle.shop_attempt.specs.declared.attempts.ReadOf.{ReadOf}
 use Rattle.shop_browse.specs.Labels.{AsksLabels}
 use Rattle.shop_browse.specs.Lists.{page_in}
-use Rattle.shop_browse.proofs.DriverLemmas.{behind}
+use Rattle.shop_browse.proofs.DriverLemmas.{behind, shows_page, with_ids}
 use Rattle.shop_browse.proofs.ListsLemmas.{list_shown}
 use Rattle.shop_browse.proofs.new_products.NewProductsInteraction.next.Goals as goal
 
@@ -16,17 +19,18 @@ returns-in-Some c =
     let asks = subst (AsksLabels (NewIn c.args.self.now.subject) c.args.ask.now c.args.round c.args.reads.now) c.in-Some.is c.in_ok-keys.ensures in
     record { next = asks (NewProducts c.args.self.now) (λ opening log named. refl) }
 
-pub returns-in_ok-page-in-None : goal.returns-in_ok-page-in-None
+pub returns-in_ok-subject_page-in-None : goal.returns-in_ok-subject_page-in-None
 unfolding new_products
-returns-in_ok-page-in-None c =
+returns-in_ok-subject_page-in-None c =
     let asked = c.args.self.now in
-    let index = c.args.ask.now.index.now in
+    let ask = c.args.ask.now in
     let reads = c.args.reads.now in
+    let title = codes "New Products" in
     let head : List Block = Heading (codes "New " ++ subject_name asked.subject) ∷ [] in
-    let have = subst (AsksLabels (NewIn asked.subject) c.args.ask.now c.args.round reads) c.in-None.is c.in_ok-keys.ensures in
+    let have = subst (AsksLabels (NewIn asked.subject) ask c.args.round reads) c.in-None.is c.in_ok-keys.ensures in
+    let written = with_ids c.subject_page.new.draft (λ (ids : IdsAsked). page_in ids title head (take (length reads - 1) (drop 1 reads))) c.of.result asked.ids c.of.ensures c.in_ok-subject_page-in-None.ensures in
     record {
-      next = λ t fits. ap Some
-          (list_shown index t (NewIn asked.subject) asked.ids (codes "New Products") head reads have fits
-          ∙ sym (c.in_ok-page-in-None.ensures ∙ ap (page_in asked.ids (codes "New Products") c.in_ok-head-in-None.head) (behind reads)
-          ∙ ap (λ (h : List Block). page_in asked.ids (codes "New Products") h (drop 1 reads)) c.in_ok-head-in-None.ensures));
+      next = λ t fits. shows_page t (NewProducts asked) ask.draw _ _
+          (ap Some (list_shown ask.index.now t (NewIn asked.subject) asked.ids title head reads have fits))
+          (subst (λ (l : List ReadOf). Shows c.subject_page.new.draft (λ drawn. page_in asked.ids title head l)) (behind reads) written);
     }

@@ -18,8 +18,8 @@ returns-then-round-eq1 c =
     let one : reads ≡ item ∷ [] = (one_read (Item asked.item) reads item (subst (λ r. FollowsProduct asked r reads) c.if-round-eq1.true c.requires.follows) c.index-reads-0.is).0 in
     record {
       next = IfOk-weaker c.by_item.result _ _
-          (λ next is. subst (λ r. IsNext (FollowsProduct asked) (ProductDetail asked) ask r reads next) (sym c.if-round-eq1.true)
-          (subst (λ (l : List ReadOf). IsNext (FollowsProduct asked) (ProductDetail asked) ask 1 l next) (sym one) (is ask))) c.by_item.ensures;
+          (λ next is. subst (λ r. IsNext (FollowsProduct asked) (ProductDetail asked) ask r reads c.by_item.new.draft next) (sym c.if-round-eq1.true)
+          (subst (λ (l : List ReadOf). IsNext (FollowsProduct asked) (ProductDetail asked) ask 1 l c.by_item.new.draft next) (sym one) (is ask))) c.by_item.ensures;
     }
 
 pub returns : goal.returns
@@ -34,5 +34,5 @@ returns c =
     = (two_reads (Item asked.item) (Label asked.item) reads item label (both_follow asked round reads c.if-round-eq0.false c.if-round-eq1.false c.requires.follows) c.index-reads-0-2.is c.index-reads-1.is).0 in
     record {
       next = IfOk-weaker c.by_label.result _ _
-          (λ next is. subst (λ (l : List ReadOf). IsNext (FollowsProduct asked) (ProductDetail asked) ask round l next) (sym both) (is ask round)) c.by_label.ensures;
+          (λ next is. subst (λ (l : List ReadOf). IsNext (FollowsProduct asked) (ProductDetail asked) ask round l c.by_label.new.draft next) (sym both) (is ask round)) c.by_label.ensures;
     }

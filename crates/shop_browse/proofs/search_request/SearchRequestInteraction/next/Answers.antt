@@ -1,9 +1,12 @@
-use Rattle.std.proofs.Common.{Some, ◌∙◌, ap, subst}
+use Rattle.std.proofs.Common.{List, ◌-◌, length, take, drop, Some, ap, subst}
+use Rattle.shop_model.specs.declared.requests.IdsAsked.{IdsAsked}
 use Rattle.shop_model.specs.declared.requests.Request.TheVariants.{SearchRequest}
+use Rattle.shop_draft.specs.Pages.{Shows}
+use Rattle.shop_attempt.specs.declared.attempts.ReadOf.{ReadOf}
 use Rattle.shop_browse.specs.Home.{drawn_key}
 use Rattle.shop_browse.specs.Labels.{AsksLabels}
 use Rattle.shop_browse.specs.SearchRequest.{search_in}
-use Rattle.shop_browse.proofs.DriverLemmas.{behind}
+use Rattle.shop_browse.proofs.DriverLemmas.{behind, shows_page, with_ids}
 use Rattle.shop_browse.proofs.HomeLemmas.{drawn_after}
 use Rattle.shop_browse.proofs.SearchRequestLemmas.{search_shown}
 use Rattle.shop_browse.proofs.search_request.SearchRequestInteraction.next.Goals as goal
@@ -15,12 +18,15 @@ returns-in-Some c =
     (subst (λ k. AsksLabels k ask c.args.round c.args.reads.now c.in_ok-keys.field-0) c.drawn_key.ensures c.in_ok-keys.ensures) in
     record { next = asks (SearchRequest c.args.self.now) (λ opening log named. drawn_after ask opening log c.requires.whole named) }
 
-pub returns-in_ok-search_page-in-None : goal.returns-in_ok-search_page-in-None
-returns-in_ok-search_page-in-None c =
+pub returns-in_ok-write_page-in-None : goal.returns-in_ok-write_page-in-None
+returns-in_ok-write_page-in-None c =
+    let asked = c.args.self.now in
     let ask = c.args.ask.now in
-    let have = subst (AsksLabels (drawn_key ask) ask c.args.round c.args.reads.now) c.in-None.is
-    (subst (λ k. AsksLabels k ask c.args.round c.args.reads.now c.in_ok-keys.field-0) c.drawn_key.ensures c.in_ok-keys.ensures) in
-    let is = c.in_ok-search_page-in-None.ensures ∙ ap (search_in c.args.self.now.ids) (behind c.args.reads.now) in
+    let reads = c.args.reads.now in
+    let have = subst (AsksLabels (drawn_key ask) ask c.args.round reads) c.in-None.is
+    (subst (λ k. AsksLabels k ask c.args.round reads c.in_ok-keys.field-0) c.drawn_key.ensures c.in_ok-keys.ensures) in
+    let written = with_ids c.write_page.new.draft (λ (ids : IdsAsked). search_in ids (take (length reads - 1) (drop 1 reads))) c.of.result asked.ids c.of.ensures c.in_ok-write_page-in-None.ensures in
     record {
-      next = λ t fits. ap Some (search_shown ask c.args.self.now.ids c.args.reads.now c.in_ok-search_page-in-None.field-0 c.requires.whole have is t fits);
+      next = λ t fits. shows_page t (SearchRequest asked) ask.draw _ _ (ap Some (search_shown ask asked.ids reads c.requires.whole have t fits))
+          (subst (λ (l : List ReadOf). Shows c.write_page.new.draft (λ drawn. search_in asked.ids l)) (behind reads) written);
     }

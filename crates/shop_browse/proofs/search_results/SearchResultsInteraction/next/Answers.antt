@@ -1,8 +1,9 @@
-use Rattle.std.proofs.Common.{◌≡◌, map, codes, ap, ◌∙◌, subst}
+use Rattle.std.proofs.Common.{map, ap, ◌∙◌}
+use Rattle.shop_model.specs.declared.requests.Request.TheVariants.{SearchResults}
 use Rattle.shop_model.specs.Catalogues.{found}
 use Rattle.shop_model.specs.SearchAsked.{SearchAsked}
 use Rattle.shop_history.specs.declared.keys.Key.TheVariants.{Label}
-use Rattle.shop_browse.specs.Lists.{page_in}
+use Rattle.shop_browse.proofs.DriverLemmas.{shows_page}
 use Rattle.shop_browse.proofs.SearchResultsLemmas.{asks_found, found_shown}
 use Rattle.shop_browse.proofs.search_results.SearchResultsInteraction.next.Goals as goal
 
@@ -14,7 +15,9 @@ returns-then-round-eq0 c =
     record { next = asks_found c.args.self.now c.args.ask.now c.args.round c.args.reads.now c.in_ok-label_keys.field-0 c.if-round-eq0.true c.requires.follows are }
 
 pub returns : goal.returns
-returns c = record {
-  next = found_shown c.args.self.now c.args.ask.now c.args.round c.args.reads.now c.in_ok-head.head c.in_ok-list_page.field-0 c.if-round-eq0.false c.requires.follows c.in_ok-head.ensures
-      (subst (λ (a : SearchAsked). c.in_ok-list_page.field-0 ≡ page_in a.ids (codes "Search Results") c.in_ok-head.head c.args.reads.now) c.self.view_is c.in_ok-list_page.ensures);
-}
+returns c =
+    let ask = c.args.ask.now in
+    record {
+      next = λ t fits. shows_page t (SearchResults c.args.self.now) ask.draw _ _
+          (found_shown c.args.self.now ask c.args.round c.args.reads.now c.if-round-eq0.false c.requires.follows t fits) c.in_ok-write_page.ensures;
+    }

@@ -36,5 +36,5 @@ returns-in-Some c =
     let are = has.are ∙ ap (λ (l : List ReadOf). cart ∷ l) (sym (behind reads)) in
     record {
       next = IfOk-weaker c.by_cart-in-Some.result _ _
-          (λ next is. subst (λ (l : List ReadOf). IsNext (FollowsCart asked ask) (CartRequest asked) ask c.args.round l next) (sym are) is) c.by_cart-in-Some.ensures;
+          (λ next is. subst (λ (l : List ReadOf). IsNext (FollowsCart asked ask) (CartRequest asked) ask c.args.round l c.by_cart-in-Some.new.draft next) (sym are) is) c.by_cart-in-Some.ensures;
     }

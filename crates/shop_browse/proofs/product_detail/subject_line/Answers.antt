@@ -1,0 +1,15 @@
+use Rattle.std.proofs.Common.{refl, codes}
+use Rattle.shop_text.specs.Texts.{day_text}
+use Rattle.shop_model.specs.PageText.{block_text}
+use Rattle.shop_model.specs.Products.{subject_line}
+use Rattle.shop_model.specs.Subjects.{subject_name}
+use Rattle.shop_draft.proofs.PageTexts.{three_values}
+use Rattle.shop_browse.proofs.product_detail.subject_line.Goals as goal
+
+pub returns : goal.returns
+unfolding block_text subject_line
+returns c drawn =
+    rw (← c.item.view_is)
+    (three_values (codes "<p>") (codes "Subject ") (codes ", published ") (codes " by ") (codes "</p>") (codes "\n") _ _ _ _ _
+    (subject_name c.item.inside.subject) (day_text c.item.inside.published) c.item.inside.publisher refl refl refl
+    (rw c.name.ensures at (c.in_ok-escaped.ensures drawn)) (c.in_ok-day.ensures drawn) (rw c.bytes.ensures at (c.in_ok-escaped-2.ensures drawn)) (c.in_ok-put.ensures drawn))

@@ -1,9 +1,0 @@
-use Rattle.std.proofs.Common.{◌≡◌, ◌≤◌, ◌+◌, ◌*◌, length, take}
-use Rattle.shop_pages.proofs.Splices.{holes_len}
-use Rattle.shop_pages.proofs.template.Template.len.Given as goal
-
-abbrev pub invariant-loop-gap : goal.invariant-loop-gap
-invariant-loop-gap l = record {
-  sum : l.len ≡ length l.self.text + holes_len l.drawn.stamp l.drawn.ids (take l.gap-index l.gap-items);
-  most : l.len ≤ length l.self.text + 20 * l.gap-index;
-}

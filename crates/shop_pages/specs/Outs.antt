@@ -1,7 +1,0 @@
--- Bytes whose room is made before they are written.
-use Rattle.std.specs.Prelude.{ℕ, List}
-
--- the bytes that were written, and for how many more there is room
-pub record OutState : Type 0 where
-  pub bytes : List ℕ
-  pub room : ℕ
