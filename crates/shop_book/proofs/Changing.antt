@@ -22,12 +22,12 @@ use Rattle.shop_book.specs.declared.versions.Versions.{Versions}
 use Rattle.shop_book.specs.Books.{BookValue, IsBook, tables_of}
 use Rattle.shop_book.specs.Counted.{count_in, with_count}
 use Rattle.shop_book.specs.Keeping.{IsKept}
-use Rattle.shop_book.specs.Puts.{IdsFit, AreReady, named, count_after}
+use Rattle.shop_book.specs.Puts.{IdsFit, AreReady}
 use Rattle.shop_book.specs.RowsNow.{tables_with, HasRoom}
 use Rattle.shop_book.specs.Settles.{IsNext}
 use Rattle.shop_book.specs.Stored.{stored, HasPlaces, MorePlaces}
 use Rattle.shop_book.proofs.Callers.{entries_mine, entries_theirs}
-use Rattle.shop_book.proofs.Puts.{count_fits, are_ready, named_written}
+use Rattle.shop_book.proofs.Puts.{are_ready}
 
 -- the book after an entry
 abbrev pub with_entry : BookValue → Entry → BookValue
@@ -92,29 +92,16 @@ module _ (b now : BookValue) (is_book : IsBook b) (entry : Entry) (writes : List
       fits_kept : IdsFit (written (tables_with b.opening.tables rows) entry.stamp writes)
       fits_kept = subst (λ (t : Tables). IdsFit (written t entry.stamp writes)) (sym kept.rows_are) ids_fit
 
-      pub names_fit : count_after (length rows.customers.items) writes < 2 ^ 32
-      names_fit = count_fits (tables_with b.opening.tables rows) entry.stamp writes fits_kept
-
       -- rows with room are the same rows
       module _ (roomy : Rows) (same : tables_with b.opening.tables roomy ≡ tables_with b.opening.tables rows) where
-        count_same : length roomy.customers.items ≡ length rows.customers.items
-        count_same = ap (λ (t : Tables). length t.customers) same
-
-        pub ready : HasRoom roomy (length writes) → AreReady roomy entry.stamp (named (length rows.customers.items) writes)
-        ready room = subst (λ count. AreReady roomy entry.stamp (named count writes)) count_same
-            (are_ready b.opening.tables roomy entry.stamp writes room (subst (λ (t : Tables). IdsFit (written t entry.stamp writes)) (sym same) fits_kept) next.bound)
-
-        named_same : written (tables_with b.opening.tables roomy) entry.stamp (named (length rows.customers.items) writes) ≡ written (tables_of b) entry.stamp writes
-        named_same =
-            ap (λ count. written (tables_with b.opening.tables roomy) entry.stamp (named count writes)) (sym count_same)
-            ∙ named_written (tables_with b.opening.tables roomy) entry.stamp writes
-            ∙ ap (λ (t : Tables). written t entry.stamp writes) (same ∙ kept.rows_are)
+        pub ready : HasRoom roomy (length writes) → AreReady roomy entry.stamp writes
+        ready room = are_ready b.opening.tables roomy entry.stamp writes room (subst (λ (t : Tables). IdsFit (written t entry.stamp writes)) (sym same) fits_kept) next.bound
 
         -- and what a change makes of them, and of the versions and counts with room
         module _ (later : Rows) (wide raised : Versions) (counted : Counts)
-            (made : tables_with b.opening.tables later ≡ written (tables_with b.opening.tables roomy) entry.stamp (named (length rows.customers.items) writes)) where
+            (made : tables_with b.opening.tables later ≡ written (tables_with b.opening.tables roomy) entry.stamp writes) where
           later_are : tables_with b.opening.tables later ≡ tables_of (with_entry b entry)
-          later_are = made ∙ named_same ∙ tables_after
+          later_are = made ∙ ap (λ (t : Tables). written t entry.stamp writes) (same ∙ kept.rows_are) ∙ tables_after
 
           pub kept_after : (keys : List Key) → keys ≡ may_change (tables_with b.opening.tables rows) entry.act → HasPlaces raised later → ((key : Key) → stored wide key ≡ stored versions key)
               → RaisedFor (tables_with b.opening.tables roomy) (tables_with b.opening.tables later) (length b.log + 1) keys (stored wide) (stored raised)

@@ -214,9 +214,6 @@ impl Book {
             return Settle::Memory;
         };
         let more = writes.len();
-        let Ok(writes) = self.rows.named(alloc, writes) else {
-            return Settle::Memory;
-        };
         if !make_room(
             &mut self.log,
             &mut self.rows,

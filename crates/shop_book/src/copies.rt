@@ -15,14 +15,14 @@ trait Copied: Sized {
 }
 
 impl Copied for Item {
-    fn copied(&self, alloc: Global) -> Result<Item, Memory> {
-        self.copy(alloc)
+    fn copied(&self, _alloc: Global) -> Result<Item, Memory> {
+        self.share()
     }
 }
 
 impl Copied for Customer {
-    fn copied(&self, alloc: Global) -> Result<Customer, Memory> {
-        self.copy(alloc)
+    fn copied(&self, _alloc: Global) -> Result<Customer, Memory> {
+        self.share()
     }
 }
 
@@ -34,7 +34,7 @@ impl Copied for Option<u32> {
 
 impl Copied for Cart {
     fn copied(&self, _alloc: Global) -> Result<Cart, Memory> {
-        self.copy()
+        self.share()
     }
 }
 

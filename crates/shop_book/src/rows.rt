@@ -9,7 +9,7 @@ ghost use Rattle.shop_book.specs.RowsNow.{tables_with, HasRoom};
 use crate::copies::copies;
 use shop_history::{Key, Label, Row};
 use shop_model::{Address, Cart, Customer, Item, Order, Tables, row_numbered};
-use shop_text::{Memory, Text};
+use shop_text::Memory;
 use std::alloc::Global;
 
 /// The rows of the tables that writes change.
@@ -53,40 +53,39 @@ impl Rows {
     }
 
     /// What a key of an item shows.
-    pub(crate) fn item_row(&self, alloc: Global, id: u32) -> Result<Row, Memory>
+    pub(crate) fn item_row(&self, id: u32) -> Result<Row, Memory>
         ensures { IfOk result (λ row. row ≡ keys.shown Row.Item (spec.row_numbered self.now.items.items id)) }
     {
         match row_numbered(&self.items, id) {
             None => Ok(Row::Absent),
-            Some(item) => Ok(Row::Item(item.copy(alloc)?)),
+            Some(item) => Ok(Row::Item(item.share()?)),
         }
     }
 
     /// What a key of a label shows; authors are those of these tables.
-    pub(crate) fn label_row(&self, alloc: Global, tables: &Tables, id: u32) -> Result<Row, Memory>
+    pub(crate) fn label_row(&self, tables: &Tables, id: u32) -> Result<Row, Memory>
         requires { Sound (tables_with tables.now self.now) }
         ensures { IfOk result (λ row. row ≡ keys.row_of (tables_with tables.now self.now) (Key.Label id)) }
     {
         match row_numbered(&self.items, id) {
             None => Ok(Row::Absent),
-            Some(item) => match row_numbered(tables.authors.as_slice(), item.author) {
+            Some(item) => match row_numbered(tables.authors.as_slice(), item.details.get().author) {
                 None => unreachable!(),
                 Some(author) => Ok(Row::Label(Label {
-                    title: Text::copy(alloc, item.title.bytes())?,
-                    first: Text::copy(alloc, author.first.bytes())?,
-                    last: Text::copy(alloc, author.last.bytes())?,
+                    item: item.details.share()?,
+                    author: author.share()?,
                 })),
             },
         }
     }
 
     /// What a key of a customer shows.
-    pub(crate) fn customer_row(&self, alloc: Global, id: u32) -> Result<Row, Memory>
+    pub(crate) fn customer_row(&self, id: u32) -> Result<Row, Memory>
         ensures { IfOk result (λ row. row ≡ keys.shown Row.Customer (spec.row_numbered self.now.customers.items id)) }
     {
         match row_numbered(&self.customers, id) {
             None => Ok(Row::Absent),
-            Some(customer) => Ok(Row::Customer(customer.copy(alloc)?)),
+            Some(customer) => Ok(Row::Customer(customer.share()?)),
         }
     }
 
@@ -96,7 +95,7 @@ impl Rows {
     {
         match row_numbered(&self.carts, id) {
             None => Ok(Row::Absent),
-            Some(cart) => Ok(Row::Cart(cart.copy()?)),
+            Some(cart) => Ok(Row::Cart(cart.share()?)),
         }
     }
 }

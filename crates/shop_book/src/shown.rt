@@ -19,9 +19,9 @@ pub(crate) fn shown(alloc: Global, tables: &Tables, rows: &Rows, key: &Key) -> R
     ensures { IfOk result (λ row. row ≡ row_of (tables_with tables.now rows.now) key.now) }
 {
     match key {
-        Key::Item(id) => rows.item_row(alloc, *id),
-        Key::Label(id) => rows.label_row(alloc, tables, *id),
-        Key::Customer(id) => rows.customer_row(alloc, *id),
+        Key::Item(id) => rows.item_row(*id),
+        Key::Label(id) => rows.label_row(tables, *id),
+        Key::Customer(id) => rows.customer_row(*id),
         Key::Cart(id) => rows.cart_row(*id),
         Key::NewIn(subject) => Ok(Row::Items(newest(alloc, tables, *subject)?)),
         Key::BestIn(subject) => Ok(Row::Items(best(alloc, tables, *subject)?)),

@@ -61,7 +61,7 @@ pub(crate) fn watch(alloc: Global, rows: &Rows, act: &Act) -> Result<Vec<Watched
 fn same_cart(cart: &Cart, other: &Cart) -> bool
     ensures { IsTrue result ↔ (cart.now ≡ other.now) }
 {
-    cart.id == other.id && cart.lines.as_slice() == other.lines.as_slice()
+    cart.id == other.id && cart.lines.get().as_slice() == other.lines.get().as_slice()
 }
 
 /// Whether a row is that of the cart with an id.

@@ -1,4 +1,4 @@
-ghost use Rattle.std.specs.Prelude.{◌≡◌, ◌∷◌, ◌++◌, [], ◌+◌, ◌^◌, ◌<◌, ◌≤◌, length, IfOk, OnOk, vec_len, vec_capacity};
+ghost use Rattle.std.specs.Prelude.{◌≡◌, ◌∷◌, ◌++◌, [], ◌+◌, ◌^◌, ◌<◌, ◌≤◌, length, vec_len, vec_capacity};
 ghost use Rattle.shop_model.specs.Limits.{stamp_limit, day_of};
 ghost use Rattle.shop_model.specs.declared.tables.Tables.{Tables};
 ghost use Rattle.shop_attempt.specs.Writes as write;
@@ -11,39 +11,9 @@ use shop_attempt::{Stock, Write};
 use shop_model::{
     Address, AddressText, CardUse, Cart, Customer, DAY_LIMIT, Item, Order, SESSION_TIME,
 };
-use shop_text::{Memory, digsyl, digsyl_lower};
-use std::alloc::Global;
 
 /// How long a day lasts, in milliseconds.
 const DAY_LENGTH: u64 = 86_400_000;
-
-/// Writes the names of a new customer, behind so many; answers how many there are then.
-fn name_customer(alloc: Global, write: &mut Write, count: u32) -> Result<u32, Memory>
-    requires { spec.count_after_one count write.old < 2 ^ 32 }
-    ensures named { OnOk result (write.new ≡ spec.named_one count write.old) }
-    ensures count { IfOk result (λ after. after ≡ spec.count_after_one count write.old) }
-{
-    match write {
-        Write::AddCustomer(customer) => {
-            let id = count + 1;
-            customer.user = digsyl(alloc, id)?;
-            customer.password = digsyl_lower(alloc, id)?;
-            Ok(id)
-        }
-        _ => Ok(count),
-    }
-}
-
-/// Writes the names of new customers, behind so many. A refusal may come after some of them.
-fn name_customers(alloc: Global, writes: &mut [Write], mut count: u32) -> Result<(), Memory>
-    requires { spec.count_after count writes.old < 2 ^ 32 }
-    ensures { OnOk result (writes.new ≡ spec.named count writes.old) }
-{
-    for write in writes.iter_mut() {
-        count = name_customer(alloc, write, count)?;
-    }
-    Ok(())
-}
 
 /// Puts a cart in its place, or a new one behind the others.
 fn put_cart(carts: &mut Vec<Cart>, cart: Cart)
@@ -184,15 +154,6 @@ impl Rows {
             Write::SetStock(stock) => set_stock(&mut self.items, &stock),
             Write::PutItem(item) => put_item(&mut self.items, item, stamp),
         }
-    }
-
-    /// Writes in which new customers have their names.
-    pub(crate) fn named(&self, alloc: Global, mut writes: Vec<Write>) -> Result<Vec<Write>, Memory>
-        requires { spec.count_after (length self.now.customers.items) writes.items < 2 ^ 32 }
-        ensures { IfOk result (λ named. named.items ≡ spec.named (length self.now.customers.items) writes.items) }
-    {
-        name_customers(alloc, &mut writes, self.customers.len() as u32)?;
-        Ok(writes)
     }
 
     /// Makes the writes, one after another.

@@ -7,7 +7,7 @@ use Rattle.shop_model.specs.Rows.{ItemRow}
 use Rattle.shop_model.specs.Sound.{Sound, Has}
 use Rattle.shop_history.specs.declared.acts.Entry.{Entry}
 use Rattle.shop_history.specs.declared.keys.Key.TheVariants as key
-use Rattle.shop_history.specs.declared.keys.Label.{Label}
+use Rattle.shop_history.specs.Labels.{LabelRow}
 use Rattle.shop_history.specs.declared.keys.Row.{Row}
 use Rattle.shop_history.specs.declared.keys.Row.TheVariants as row
 use Rattle.shop_history.specs.Keys.{row_of, shown, label_of, is_item}
@@ -46,9 +46,9 @@ pub item_within : (t : Tables) (id : ℕ) (r : Row) → r ≡ row_of t (key.Item
 item_within t id r is found = found_within t.items id (row_numbered t.items id) refl (subst (λ x. is_item x ≡ true) is found)
 
 -- the label of an item that is there
-pub same_label : (one other : Label) → row.Label one ≡ row.Label other → one ≡ other
+pub same_label : (one other : LabelRow) → row.Label one ≡ row.Label other → one ≡ other
 same_label one other is = cc
 
-pub label_found : (t : Tables) (o : Option ItemRow) (x : ItemRow) (label : Label) → o ≡ Some x → shown (λ item. row.Label (label_of t item)) o ≡ row.Label label → label ≡ label_of t x
+pub label_found : (t : Tables) (o : Option ItemRow) (x : ItemRow) (label : LabelRow) → o ≡ Some x → shown (λ item. row.Label (label_of t item)) o ≡ row.Label label → label ≡ label_of t x
 label_found t o x label found is =
     sym (same_label (label_of t x) label (sym (ap (shown (λ item. row.Label (label_of t item))) found) ∙ is))

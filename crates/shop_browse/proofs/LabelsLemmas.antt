@@ -1,13 +1,11 @@
 -- Reads of labels: which ids they are of, that they may be read, and the links that they give.
-use Rattle.std.proofs.Common.{◌≡◌, ℕ, zero, suc, ◌+◌, ◌<◌, cond, true, false, List, [], ◌∷◌, ◌++◌, length, map, filter, take, drop, get_or, All, codes, append_assoc, Option, Some, None, option_map, unwrap_or, refl, sym, ◌∙◌, ap, subst, inr, arith}
+use Rattle.std.proofs.Common.{◌≡◌, ℕ, zero, suc, ◌+◌, ◌<◌, cond, true, false, List, [], ◌∷◌, ◌++◌, length, map, filter, take, drop, get_or, All, Option, Some, None, option_map, unwrap_or, refl, sym, ◌∙◌, ap, subst, inr, arith}
 use Rattle.std.specs.declared.cmp.Ordering.{Ordering}
 use Rattle.std.specs.Ordering.{is_gt}
 use Rattle.std.specs.List.{flat_map}
 use Rattle.std.proofs.lemmas.List.{append-nil, length-map, map_more}
 use Rattle.std.proofs.lemmas.List.Elements.{All-nil, All-cons, All-map, All-filter, All-take}
-use Rattle.shop_text.specs.Escape.{escape}
 use Rattle.shop_model.specs.declared.page.Block.{Block}
-use Rattle.shop_model.specs.declared.page.Block.TheVariants.{Link}
 use Rattle.shop_model.specs.declared.requests.IdsAsked.{IdsAsked}
 use Rattle.shop_model.specs.declared.requests.Request.{Request}
 use Rattle.shop_model.specs.declared.requests.SearchKind.{SearchKind}
@@ -16,7 +14,7 @@ use Rattle.shop_model.specs.declared.tables.Tables.{Tables}
 use Rattle.shop_model.specs.Catalogues.{Catalogue, Naming, naming, catalogue, matches, by_title, found}
 use Rattle.shop_model.specs.Limits.{list_limit}
 use Rattle.shop_model.specs.Lookups.{row_numbered}
-use Rattle.shop_model.specs.PageText.{block_text, block_line}
+use Rattle.shop_model.specs.PageText.{block_line}
 use Rattle.shop_model.specs.Rankings.{Sale, put_among, in_order, in_subject, newer, newest, sold_lately, sales, better, best}
 use Rattle.shop_model.specs.Rows.{ItemRow}
 use Rattle.shop_model.specs.Show.{promoted, promo}
@@ -30,7 +28,6 @@ use Rattle.shop_history.specs.declared.keys.Row.TheVariants as row
 use Rattle.shop_history.specs.Keys.{shown, label_of, row_of}
 use Rattle.shop_history.specs.Logs.{tables}
 use Rattle.shop_history.proofs.Places.{all_numbered}
-use Rattle.shop_draft.specs.Links.{link_front}
 use Rattle.shop_draft.proofs.PageTexts.{both}
 use Rattle.shop_attempt.specs.declared.attempts.ReadOf.{ReadOf}
 use Rattle.shop_attempt.specs.Reads.{Shows}
@@ -39,12 +36,6 @@ use Rattle.shop_browse.specs.Driver.{keys_of, Fits, AreSeen}
 use Rattle.shop_browse.specs.Footprints.{drawn_item, InFootprint}
 use Rattle.shop_browse.specs.Labels.{ids_in, HaveLabels, FollowsLabels, AsksLabels, title_in, promoted_in}
 use Rattle.shop_browse.proofs.Items.{same_size}
-
--- a link is written when its label is between its front and its end
-pub linked : (old s1 s2 now target label : List ℕ) → s1 ≡ old ++ link_front target → s2 ≡ s1 ++ escape label → now ≡ s2 ++ codes "</a>\n"
-    → now ≡ old ++ block_line (Link target label)
-unfolding block_text link_front
-linked old s1 s2 now target label is1 is2 is = rw (is, is2, is1) (simp append_assoc refl)
 
 -- what holds of all elements holds of all in order
 

@@ -61,13 +61,6 @@ pub no_lines : (ids : IdsAsked) (labels : List ReadOf) → length labels ≡ 0 �
 no_lines ids [] none = refl
 no_lines ids (read ∷ labels) none = absurd (omega (arith, none))
 
--- the name of an item, by what was written in turn
-pub name_written : (v w : List ℕ) (old s1 s2 now a b c : List ℕ) → escape v ≡ v → escape w ≡ w
-    → s1 ≡ old ++ escape a → s2 ≡ s1 ++ (v ++ escape b) → now ≡ s2 ++ (w ++ escape c) → now ≡ old ++ escape (a ++ v ++ b ++ w ++ c)
-name_written v w old s1 s2 now a b c is_v is_w is1 is2 is =
-    rw (is, is2, is1, escape_append (a ++ v ++ b ++ w) c, escape_append (a ++ v ++ b) w, escape_append (a ++ v) b, escape_append a v, is_v, is_w)
-    (simp append_assoc)
-
 -- the page of a list, by what was written in turn
 pub list_written : (ids : IdsAsked) (title : List ℕ) (head : List Block) (labels : List ReadOf) (begun headed now : List ℕ) → begun ≡ page_front title
     → headed ≡ begun ++ flat_map block_line head → now ≡ headed ++ list_end ids labels → now ≡ page_text (page_in ids title head labels)

@@ -18,7 +18,7 @@ use Rattle.shop_model.specs.Sound.{Has}
 use Rattle.shop_history.specs.declared.acts.Entry.{Entry}
 use Rattle.shop_history.specs.declared.keys.Key.{Key}
 use Rattle.shop_history.specs.declared.keys.Key.TheVariants as key
-use Rattle.shop_history.specs.declared.keys.Label.{Label}
+use Rattle.shop_history.specs.Labels.{LabelRow}
 use Rattle.shop_history.specs.declared.keys.Row.TheVariants as row
 use Rattle.shop_history.specs.Keys.{row_of, label_of}
 use Rattle.shop_history.specs.Logs.{history, tables}
@@ -68,11 +68,11 @@ none_shown asked item draw t item_is absent is =
     let none : row_numbered t.items asked.item ≡ None = row_missing row.Item (λ (x : ItemRow) is. absurd cc) (row_numbered t.items asked.item) (ap (row_of t) (sym item_is) ∙ is ∙ absent) in
     ap (λ (o : Option ItemRow). refused_or (check_there NoItem o) (option_map (λ item. product_page item (author_of t item) asked.ids) o)) none
 
-pub product_shown : (asked : asked_for.ProductDetail) (item label : ReadOf) (x : ItemRow) (names : Label) (draw : ℕ) (c : Catalogue) (t : Tables)
+pub product_shown : (asked : asked_for.ProductDetail) (item label : ReadOf) (x : ItemRow) (names : LabelRow) (draw : ℕ) (c : Catalogue) (t : Tables)
     → item.key ≡ key.Item asked.item → label.key ≡ key.Label asked.item → item.row ≡ row.Item x → label.row ≡ row.Label names
     → Fits c t (item ∷ label ∷ []) → show t (ProductDetail asked) draw ≡ Some (product_page x (named names) asked.ids)
 product_shown asked item label x names draw c t item_is label_is is_x is_names fits =
     let found : row_numbered t.items asked.item ≡ Some x = item_found (row_numbered t.items asked.item) x (ap (row_of t) (sym item_is) ∙ fits.shows.0 ∙ is_x) in
     let same : names ≡ label_of t x = label_found t (row_numbered t.items asked.item) x names found (ap (row_of t) (sym label_is) ∙ fits.shows.1.0 ∙ is_names) in
     ap (λ (o : Option ItemRow). refused_or (check_there NoItem o) (option_map (λ item. product_page item (author_of t item) asked.ids) o)) found
-    ∙ ap Some (sym (ap (λ (l : Label). product_page x (named l) asked.ids) same ∙ same_page x (author_of t x) asked.ids))
+    ∙ ap Some (sym (ap (λ (l : LabelRow). product_page x (named l) asked.ids) same ∙ same_page x (author_of t x) asked.ids))

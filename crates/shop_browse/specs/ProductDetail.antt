@@ -3,12 +3,12 @@ use Rattle.std.specs.Prelude.{◌≡◌, ℕ, zero, suc, List, [], ◌∷◌}
 use Rattle.shop_model.specs.declared.author.Author.{Author}
 use Rattle.shop_model.specs.declared.requests.ProductDetail as asked_for
 use Rattle.shop_history.specs.declared.keys.Key.TheVariants.{Item, Label}
-use Rattle.shop_history.specs.declared.keys.Label as label
+use Rattle.shop_history.specs.Labels.{LabelRow}
 use Rattle.shop_attempt.specs.declared.attempts.ReadOf.{ReadOf}
 use Rattle.shop_browse.specs.Driver.{keys_of}
 
 -- an author of these names
-abbrev pub named : label.Label → Author
+abbrev pub named : LabelRow → Author
 named label = record { id = 0; first = label.first; last = label.last }
 
 -- after one round the item was read, after two its label too

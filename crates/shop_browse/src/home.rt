@@ -36,8 +36,9 @@ fn heading(page: &mut Template) -> Result<(), Memory>
 fn greeting(page: &mut Template, customer: &Customer) -> Result<(), Memory>
     ensures { OnOk result (Says page.old page.new (block_line (block.Para (spec.greeting customer.now)))) }
 {
-    page.escaped(b"<p>Hello ", customer.first.bytes())?;
-    page.escaped(b" ", customer.last.bytes())?;
+    let details = customer.details.get();
+    page.text(b"<p>Hello ", &details.first)?;
+    page.text(b" ", &details.last)?;
     page.put(b"</p>\n")?;
     Ok(())
 }

@@ -22,7 +22,7 @@ fn ids_in(row: &Row) -> &[u32]
 {
     match row {
         Row::Items(ids) => ids.as_slice(),
-        Row::Item(item) => &item.related,
+        Row::Item(item) => &item.details.get().related,
         _ => &[],
     }
 }
@@ -69,24 +69,15 @@ pub(crate) fn id_in(key: &Key) -> u32
     }
 }
 
-/// The title in the row of a label; another row has none.
-fn title_in(row: &Row) -> &[u8]
-    ensures { result.now ≡ spec.title_in row.now }
-{
-    match row {
-        Row::Label(label) => label.title.bytes(),
-        _ => b"",
-    }
-}
-
 /// A link to the page of an item whose label was read, labelled with its title.
-#[tactic(auto, unfolding(shop_model::specs::PageText::block_text, shop_draft::specs::Links::link_front))]
 fn promoted(page: &mut Template, ids: PageIds, read: &ReadOf) -> Result<(), Memory>
     ensures { OnOk result (Adds page.old page.new (λ drawn. block_line (spec.promoted_in (ids_at drawn ids) read.now))) }
 {
-    page.item_front(b"/product_detail", id_in(&read.key), ids)?;
-    page.escaped(b"", title_in(&read.row))?;
-    page.put(b"</a>\n")?;
+    let item = id_in(&read.key);
+    match &read.row {
+        Row::Label(label) => page.title_link(b"/product_detail", item, ids, label.title())?,
+        _ => page.item_link(b"/product_detail", item, ids, b"")?,
+    }
     Ok(())
 }
 

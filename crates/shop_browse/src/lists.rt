@@ -2,7 +2,6 @@
 ghost use Rattle.std.specs.Prelude.{◌≡◌, ◌∷◌, ◌++◌, [], OnOk, map};
 ghost use Rattle.std.specs.List.{flat_map};
 ghost use Rattle.shop_text.specs.Texts.{escape};
-ghost use Rattle.shop_model.specs.Lines.{line_label};
 ghost use Rattle.shop_model.specs.PageText.{block_line};
 ghost use Rattle.shop_model.specs.Subjects.{subject_name};
 ghost use Rattle.shop_model.specs.declared.page.Block.TheVariants as block;
@@ -14,39 +13,26 @@ ghost use Rattle.shop_browse.specs.Lists as spec;
 use crate::labels::id_in;
 use shop_attempt::ReadOf;
 use shop_draft::{Draft, PageIds, Template};
-use shop_history::{Label, Row};
+use shop_history::Row;
 use shop_model::Subject;
 use shop_text::Memory;
 
-#[tactic(auto, unfolding(shop_model::specs::Lines::line_label))]
-fn label_name(page: &mut Template, label: &Label) -> Result<(), Memory>
-    ensures { OnOk result (Says page.old page.new (escape (line_label label.now.title label.now.first label.now.last))) }
-{
-    page.escaped(b"", label.title.bytes())?;
-    page.escaped(b" by ", label.first.bytes())?;
-    page.escaped(b" ", label.last.bytes())?;
-    Ok(())
-}
-
-/// How the item in the row of a label is named; another row has no name.
-fn name(page: &mut Template, row: &Row) -> Result<(), Memory>
-    ensures { OnOk result (Says page.old page.new (escape (spec.label_in row.now))) }
-{
-    match row {
-        Row::Label(label) => label_name(page, label)?,
-        _ => {}
-    }
-    Ok(())
-}
-
 /// A link to the page of an item whose label was read.
-#[tactic(auto, unfolding(shop_model::specs::PageText::block_text, shop_draft::specs::Links::link_front))]
 fn line(page: &mut Template, ids: PageIds, read: &ReadOf) -> Result<(), Memory>
     ensures { OnOk result (Adds page.old page.new (λ drawn. block_line (spec.line_in (ids_at drawn ids) read.now))) }
 {
-    page.item_front(b"/product_detail", id_in(&read.key), ids)?;
-    name(page, &read.row)?;
-    page.put(b"</a>\n")?;
+    let item = id_in(&read.key);
+    match &read.row {
+        Row::Label(label) => page.author_link(
+            b"/product_detail",
+            item,
+            ids,
+            label.title(),
+            label.first(),
+            label.last(),
+        )?,
+        _ => page.item_link(b"/product_detail", item, ids, b"")?,
+    }
     Ok(())
 }
 

@@ -22,12 +22,10 @@ use shop_model::{Item, ProductDetail, Refusal, Request};
 use shop_text::Memory;
 use std::alloc::Global;
 
-#[tactic(auto, unfolding(shop_model::specs::PageText::block_text))]
 fn heading(page: &mut Template, item: &Item) -> Result<(), Memory>
     ensures { OnOk result (Says page.old page.new (block_line (block.Heading item.now.title))) }
 {
-    page.escaped(b"<h1>", item.title.bytes())?;
-    page.put(b"</h1>\n")?;
+    page.heading(&item.details.get().title)?;
     Ok(())
 }
 
@@ -35,8 +33,8 @@ fn heading(page: &mut Template, item: &Item) -> Result<(), Memory>
 fn author_line(page: &mut Template, author: &Label) -> Result<(), Memory>
     ensures { OnOk result (Says page.old page.new (block_line (block.Para (spec.author_line (named author.now))))) }
 {
-    page.escaped(b"<p>By ", author.first.bytes())?;
-    page.escaped(b" ", author.last.bytes())?;
+    page.text(b"<p>By ", author.first())?;
+    page.text(b" ", author.last())?;
     page.put(b"</p>\n")?;
     Ok(())
 }
@@ -45,29 +43,26 @@ fn author_line(page: &mut Template, author: &Label) -> Result<(), Memory>
 fn subject_line(page: &mut Template, item: &Item) -> Result<(), Memory>
     ensures { OnOk result (Says page.old page.new (block_line (block.Para (spec.subject_line item.now)))) }
 {
-    page.escaped(b"<p>Subject ", item.subject.name())?;
+    let details = item.details.get();
+    page.escaped(b"<p>Subject ", details.subject.name())?;
     page.day(b", published ", item.published)?;
-    page.escaped(b" by ", item.publisher.bytes())?;
+    page.text(b" by ", &details.publisher)?;
     page.put(b"</p>\n")?;
     Ok(())
 }
 
-#[tactic(auto, unfolding(shop_model::specs::PageText::block_text))]
 fn about_line(page: &mut Template, item: &Item) -> Result<(), Memory>
     ensures { OnOk result (Says page.old page.new (block_line (block.Para item.now.about))) }
 {
-    page.escaped(b"<p>", item.about.bytes())?;
-    page.put(b"</p>\n")?;
+    page.para(&item.details.get().about)?;
     Ok(())
 }
 
-#[tactic(auto, unfolding(shop_model::specs::PageText::block_text))]
 fn picture(page: &mut Template, item: &Item) -> Result<(), Memory>
     ensures { OnOk result (Says page.old page.new (block_line (block.Picture item.now.image item.now.title))) }
 {
-    page.escaped(b"<img src=\"", item.image.bytes())?;
-    page.escaped(b"\" alt=\"", item.title.bytes())?;
-    page.put(b"\">\n")?;
+    let details = item.details.get();
+    page.picture(&details.image, &details.title)?;
     Ok(())
 }
 
@@ -75,8 +70,9 @@ fn picture(page: &mut Template, item: &Item) -> Result<(), Memory>
 fn pages_line(page: &mut Template, item: &Item) -> Result<(), Memory>
     ensures { OnOk result (Says page.old page.new (block_line (block.Para (spec.pages_line item.now)))) }
 {
-    page.escaped(b"<p>", item.backing.name())?;
-    page.number(b", ", u64::from(item.pages))?;
+    let details = item.details.get();
+    page.escaped(b"<p>", details.backing.name())?;
+    page.number(b", ", u64::from(details.pages))?;
     page.put(b" pages</p>\n")?;
     Ok(())
 }
@@ -85,8 +81,9 @@ fn pages_line(page: &mut Template, item: &Item) -> Result<(), Memory>
 fn price_line(page: &mut Template, item: &Item) -> Result<(), Memory>
     ensures { OnOk result (Says page.old page.new (block_line (block.Para (spec.price_line item.now)))) }
 {
-    page.money(b"<p>List ", item.srp)?;
-    page.money(b", our price ", item.cost)?;
+    let details = item.details.get();
+    page.money(b"<p>List ", details.srp)?;
+    page.money(b", our price ", details.cost)?;
     page.number(b", in stock ", u64::from(item.stock))?;
     page.put(b"</p>\n")?;
     Ok(())

@@ -6,7 +6,7 @@ use Rattle.shop_model.specs.Rankings.{newest, best}
 use Rattle.shop_model.specs.Rows.{ItemRow}
 use Rattle.shop_history.specs.declared.keys.Key as key
 use Rattle.shop_history.specs.declared.keys.Key.{Key}
-use Rattle.shop_history.specs.declared.keys.Label.{Label}
+use Rattle.shop_history.specs.Labels.{LabelRow}
 use Rattle.shop_history.specs.declared.keys.Row as row
 use Rattle.shop_history.specs.declared.keys.Row.{Row}
 
@@ -16,7 +16,7 @@ shown make None = row.TheVariants.Absent
 shown make (Some x) = make x
 
 -- how an item is named in lists
-abbrev pub label_of : Tables → ItemRow → Label
+abbrev pub label_of : Tables → ItemRow → LabelRow
 label_of t item =
     record { title = item.title; first = (author_of t item).first; last = (author_of t item).last }
 

@@ -1,3 +1,4 @@
+pub mod Labels
 pub mod Keys
 pub mod Same
 pub mod Acts

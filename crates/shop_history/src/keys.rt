@@ -1,8 +1,8 @@
-ghost use Rattle.std.specs.Prelude.{◌≡◌, IfOk};
+ghost use Rattle.std.specs.Prelude.{◌≡◌};
 
-use shop_model::{Cart, Customer, Item, Subject};
-use shop_text::{Listed, Memory, Text};
-use std::alloc::Global;
+use shop_model::{Author, Cart, Customer, Item, ItemDetails, Subject};
+use shop_text::{Caption, Listed, Shared};
+use std::marker::Model;
 
 /// What a request can read of the shop, one row at a time.
 #[derive(Debug, Drop)]
@@ -24,9 +24,36 @@ pub enum Key {
 /// How an item is named in lists: its title, and its author's names.
 #[derive(Debug, Drop)]
 pub struct Label {
-    pub title: Text,
-    pub first: Text,
-    pub last: Text,
+    pub item: Shared<ItemDetails>,
+    pub author: Shared<Author>,
+}
+
+impl Model for Label {
+    ghost use Rattle.shop_history.specs.Labels.{LabelRow};
+
+    ghost Value = { LabelRow };
+
+    ghost view = { λ l. record { title = l.item.title; first = l.author.first; last = l.author.last } };
+}
+
+impl Label {
+    pub fn title(&self) -> &Caption
+        ensures { result.now ≡ self.now.title }
+    {
+        &self.item.get().title
+    }
+
+    pub fn first(&self) -> &Caption
+        ensures { result.now ≡ self.now.first }
+    {
+        &self.author.get().first
+    }
+
+    pub fn last(&self) -> &Caption
+        ensures { result.now ≡ self.now.last }
+    {
+        &self.author.get().last
+    }
 }
 
 /// What a key shows.
@@ -40,31 +67,4 @@ pub enum Row {
     Cart(Cart),
     /// The ids of items in the order in which they are listed, 50 at most.
     Items(Listed<u32>),
-}
-
-impl Label {
-    pub fn copy(&self, alloc: Global) -> Result<Label, Memory>
-        ensures { IfOk result (λ copy. copy ≡ self.now) }
-    {
-        Ok(Label {
-            title: Text::copy(alloc, self.title.bytes())?,
-            first: Text::copy(alloc, self.first.bytes())?,
-            last: Text::copy(alloc, self.last.bytes())?,
-        })
-    }
-}
-
-impl Row {
-    pub fn copy(&self, alloc: Global) -> Result<Row, Memory>
-        ensures { IfOk result (λ copy. copy ≡ self.now) }
-    {
-        match self {
-            Row::Absent => Ok(Row::Absent),
-            Row::Item(item) => Ok(Row::Item(item.copy(alloc)?)),
-            Row::Label(label) => Ok(Row::Label(label.copy(alloc)?)),
-            Row::Customer(customer) => Ok(Row::Customer(customer.copy(alloc)?)),
-            Row::Cart(cart) => Ok(Row::Cart(cart.copy()?)),
-            Row::Items(ids) => Ok(Row::Items(ids.copy()?)),
-        }
-    }
 }

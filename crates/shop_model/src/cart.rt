@@ -1,6 +1,6 @@
 ghost use Rattle.std.specs.Prelude.{◌≡◌, IfOk};
 
-use shop_text::{Listed, Memory};
+use shop_text::{Listed, Memory, Shared};
 use std::marker::Model;
 
 /// A shopping cart.
@@ -8,7 +8,7 @@ use std::marker::Model;
 pub struct Cart {
     pub id: u32,
     /// Pairs of an item's id and a quantity, 999 at most, in the order in which the items came.
-    pub lines: Listed<(u32, u32)>,
+    pub lines: Shared<Listed<(u32, u32)>>,
 }
 
 impl Model for Cart {
@@ -24,13 +24,13 @@ impl Model for Cart {
 }
 
 impl Cart {
-    /// A copy of the row, from the allocator of its lines.
-    pub fn copy(&self) -> Result<Cart, Memory>
-        ensures { IfOk result (λ copy. copy ≡ self.now) }
+    /// The row again, with the same lines; takes no memory.
+    pub fn share(&self) -> Result<Cart, Memory>
+        ensures { IfOk result (λ shared. shared ≡ self.now) }
     {
         Ok(Cart {
             id: self.id,
-            lines: self.lines.copy()?,
+            lines: self.lines.share()?,
         })
     }
 }

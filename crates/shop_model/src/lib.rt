@@ -36,10 +36,10 @@ pub use card_type::CardType;
 pub use card_use::CardUse;
 pub use cart::Cart;
 pub use country::Country;
-pub use customer::Customer;
+pub use customer::{Customer, CustomerDetails};
 pub use drawing::{Words, drawn, word};
 pub use interaction::Interaction;
-pub use item::Item;
+pub use item::{Item, ItemDetails};
 pub use limits::{
     DAY_LIMIT, DISCOUNT_LIMIT, LINES_LIMIT, PRICE_LIMIT, QUANTITY_LIMIT, SESSION_TIME, SETS_LIMIT,
     STAMP_LIMIT, STOCK_LIMIT, TEXT_LIMIT,

@@ -14,7 +14,7 @@ use shop_draft::{Draft, refusal as write_refusal};
 use shop_history::{Act, Key, Row};
 use shop_model::{Cart, CartRequest, Refusal, Request};
 use shop_pricing::{Filled, Lines as CartLines, fill};
-use shop_text::{Listed, Memory};
+use shop_text::{Listed, Memory, Shared};
 use std::alloc::Global;
 
 /// What a request comes to by what was read of its cart.
@@ -88,6 +88,7 @@ fn put_lines(
     ensures { IfOk result (λ writes. writes ≡ spec.put_lines named lines) }
 {
     let id = named.unwrap_or(0);
+    let lines = Shared::new(alloc, lines)?;
     let mut writes = Listed::with_capacity(alloc, 1)?;
     writes.push(Write::PutCart(Cart { id, lines }))?;
     Ok(writes)

@@ -1,6 +1,7 @@
 //! The table of a cart's lines, and their sum.
-ghost use Rattle.std.specs.Prelude.{◌≡◌, ◌*◌, ◌≤◌, OnOk, map};
+ghost use Rattle.std.specs.Prelude.{◌≡◌, ◌*◌, ◌≤◌, ◌++◌, OnOk, codes, map};
 ghost use Rattle.std.specs.List.{flat_map};
+ghost use Rattle.shop_text.specs.Texts.{escape};
 ghost use Rattle.shop_model.specs.declared.page.Block.TheVariants as block;
 ghost use Rattle.shop_model.specs.declared.tables.Tables.{Tables};
 ghost use Rattle.shop_model.specs.Carts.{line_cells};
@@ -17,14 +18,15 @@ use shop_draft::Template;
 use shop_history::Row;
 use shop_text::Memory;
 
-/// The title of the item in a row; another row has none.
-fn title(row: &Row) -> &[u8]
-    ensures { result.now ≡ spec.title_in row.now }
+/// Adds a cell's front, and the title of the item in a row; another row has none.
+fn title(page: &mut Template, row: &Row) -> Result<(), Memory>
+    ensures { OnOk result (Says page.old page.new (codes "</td><td>" ++ escape (spec.title_in row.now))) }
 {
     match row {
-        Row::Item(item) => item.title.bytes(),
-        _ => b"",
+        Row::Item(item) => page.text(b"</td><td>", &item.details.get().title)?,
+        _ => page.put(b"</td><td>")?,
     }
+    Ok(())
 }
 
 /// The cost of one unit of the item in a row, in cents.
@@ -33,7 +35,7 @@ fn cost(row: &Row) -> u64
     ensures most { result ≤ price_limit }
 {
     match row {
-        Row::Item(item) => item.cost,
+        Row::Item(item) => item.details.get().cost,
         _ => 0,
     }
 }
@@ -54,7 +56,7 @@ fn row(page: &mut Template, line: (u32, u32), row: &Row) -> Result<(), Memory>
     ensures { OnOk result (Says page.old page.new (row_text (spec.cells_in line row.now))) }
 {
     page.number(b"<tr><td>", u64::from(line.0))?;
-    page.escaped(b"</td><td>", title(row))?;
+    title(page, row)?;
     page.number(b"</td><td>", u64::from(line.1))?;
     page.money(b"</td><td>", cost(row))?;
     page.money(b"</td><td>", line_cost(line, row))?;

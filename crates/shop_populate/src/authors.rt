@@ -3,7 +3,7 @@ ghost use Rattle.shop_model.specs.Population as spec;
 
 use shop_model::words::{first_name, last_name};
 use shop_model::{Author, Scale, drawn};
-use shop_text::{Listed, Memory, Text};
+use shop_text::{Caption, Listed, Memory, Shared};
 use std::alloc::Global;
 
 /// The table's number in the drawn words.
@@ -17,8 +17,8 @@ fn author_row(alloc: Global, seed: u32, scale: &Scale, id: u32) -> Result<Author
     let [first, last] = drawn::<2>(seed, scale, AUTHORS, id);
     Ok(Author {
         id,
-        first: Text::copy(alloc, first_name(first))?,
-        last: Text::copy(alloc, last_name(last))?,
+        first: Caption::copy(alloc, first_name(first))?,
+        last: Caption::copy(alloc, last_name(last))?,
     })
 }
 
@@ -28,12 +28,13 @@ pub(crate) fn authors_table(
     alloc: Global,
     seed: u32,
     scale: &Scale,
-) -> Result<Listed<Author>, Memory>
+) -> Result<Listed<Shared<Author>>, Memory>
     ensures { IfOk result (λ table. table ≡ spec.authors_table seed scale.now) }
 {
     let mut table = Listed::with_capacity(alloc, scale.authors as usize)?;
     for made in 0..scale.authors {
-        table.push(author_row(alloc, seed, scale, made + 1)?)?;
+        let author = author_row(alloc, seed, scale, made + 1)?;
+        table.push(Shared::new(alloc, author)?)?;
     }
     Ok(table)
 }

@@ -27,9 +27,10 @@ fn card_name(alloc: Global, customer: &Customer) -> Result<Text, Memory>
     ensures { IfOk result (λ text. text ≡ spec.card_name customer.now) }
 {
     let mut text = Text::with_capacity(alloc, LONGEST_NAME)?;
-    text.push(customer.first.bytes())?;
+    let details = customer.details.get();
+    text.push(details.first.bytes())?;
     text.push(b" ")?;
-    text.push(customer.last.bytes())?;
+    text.push(details.last.bytes())?;
     Ok(text)
 }
 

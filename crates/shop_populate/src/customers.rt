@@ -2,8 +2,8 @@ ghost use Rattle.std.specs.Prelude.{◌≡◌, ◌≤◌, ◌++◌, IfOk};
 ghost use Rattle.shop_model.specs.Population as spec;
 
 use shop_model::words::{first_name, last_name};
-use shop_model::{Customer, Scale, drawn};
-use shop_text::{Listed, Memory, Text, digsyl, digsyl_lower};
+use shop_model::{Customer, CustomerDetails, Scale, drawn};
+use shop_text::{Caption, Listed, Memory, Shared, Text};
 use std::alloc::Global;
 
 /// The table's number in the drawn words.
@@ -15,22 +15,22 @@ const PHONE: usize = 10;
 
 /// Ten digits.
 #[tactic(auto, unfolding(shop_model::specs::Population::phone))]
-fn phone(alloc: Global, word: u32) -> Result<Text, Memory>
+fn phone(alloc: Global, word: u32) -> Result<Caption, Memory>
     ensures { IfOk result (λ text. text ≡ spec.phone word) }
 {
     let mut text = Text::with_capacity(alloc, PHONE)?;
     text.push_decimal(2_000_000_000 + word as u64 % 1_000_000_000)?;
-    Ok(text)
+    Ok(Caption::of(text))
 }
 
 #[tactic(auto, unfolding(shop_model::specs::Population::email))]
-fn email(alloc: Global, id: u32) -> Result<Text, Memory>
+fn email(alloc: Global, id: u32) -> Result<Caption, Memory>
     ensures { IfOk result (λ text. text ≡ spec.email id) }
 {
     let mut text = Text::with_capacity(alloc, LONGEST_EMAIL)?;
     text.push_digsyl_lower(id)?;
     text.push(b"@shop.example")?;
-    Ok(text)
+    Ok(Caption::of(text))
 }
 
 /// The customer with this id.
@@ -39,18 +39,19 @@ fn customer_row(alloc: Global, seed: u32, scale: &Scale, id: u32) -> Result<Cust
     ensures { IfOk result (λ row. row ≡ spec.customer_row seed scale.now id) }
 {
     let [first, last, address, discount, number] = drawn::<5>(seed, scale, CUSTOMERS, id);
-    Ok(Customer {
-        id,
-        user: digsyl(alloc, id)?,
-        password: digsyl_lower(alloc, id)?,
-        first: Text::copy(alloc, first_name(first))?,
-        last: Text::copy(alloc, last_name(last))?,
-        address: 1 + address % scale.addresses,
+    let details = CustomerDetails {
+        first: Caption::copy(alloc, first_name(first))?,
+        last: Caption::copy(alloc, last_name(last))?,
         discount: discount % 51,
         phone: phone(alloc, number)?,
         email: email(alloc, id)?,
+    };
+    Ok(Customer {
+        id,
+        address: 1 + address % scale.addresses,
         login: 0,
         expiry: 0,
+        details: Shared::new(alloc, details)?,
     })
 }
 

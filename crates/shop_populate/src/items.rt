@@ -2,8 +2,8 @@ ghost use Rattle.std.specs.Prelude.{◌≡◌, ◌≤◌, ◌<◌, ◌++◌, IfO
 ghost use Rattle.shop_model.specs.Population as spec;
 
 use shop_model::words::{adjective, noun, publisher};
-use shop_model::{Backing, Item, Scale, Subject, drawn};
-use shop_text::{Listed, Memory, Text};
+use shop_model::{Backing, Item, ItemDetails, Scale, Subject, drawn};
+use shop_text::{Caption, Listed, Memory, Shared, Text};
 use std::alloc::Global;
 
 /// The table's number in the drawn words.
@@ -17,7 +17,7 @@ const LONGEST_PICTURE: usize = b"/img/thumb_10000.gif".len();
 
 /// `ADJECTIVE NOUN SYLLABLES`.
 #[tactic(auto, unfolding(shop_model::specs::Population::title))]
-fn title(alloc: Global, adjective_word: u32, noun_word: u32, id: u32) -> Result<Text, Memory>
+fn title(alloc: Global, adjective_word: u32, noun_word: u32, id: u32) -> Result<Caption, Memory>
     ensures { IfOk result (λ text. text ≡ spec.title adjective_word noun_word id) }
 {
     let mut text = Text::with_capacity(alloc, LONGEST_TITLE)?;
@@ -26,12 +26,12 @@ fn title(alloc: Global, adjective_word: u32, noun_word: u32, id: u32) -> Result<
     text.push(noun(noun_word))?;
     text.push(b" ")?;
     text.push_digsyl(id)?;
-    Ok(text)
+    Ok(Caption::of(text))
 }
 
 /// `About a ADJECTIVE NOUN.`
 #[tactic(auto, unfolding(shop_model::specs::Population::about))]
-fn about(alloc: Global, adjective_word: u32, noun_word: u32) -> Result<Text, Memory>
+fn about(alloc: Global, adjective_word: u32, noun_word: u32) -> Result<Caption, Memory>
     ensures { IfOk result (λ text. text ≡ spec.about adjective_word noun_word) }
 {
     let mut text = Text::with_capacity(alloc, LONGEST_ABOUT)?;
@@ -40,19 +40,19 @@ fn about(alloc: Global, adjective_word: u32, noun_word: u32) -> Result<Text, Mem
     text.push(b" ")?;
     text.push(noun(noun_word))?;
     text.push(b".")?;
-    Ok(text)
+    Ok(Caption::of(text))
 }
 
 /// The path of a picture: the front, the id's digits and `.gif`.
 #[tactic(auto, unfolding(shop_model::specs::Population::picture))]
-fn picture(alloc: Global, front: &[u8], id: u32) -> Result<Text, Memory>
+fn picture(alloc: Global, front: &[u8], id: u32) -> Result<Caption, Memory>
     ensures { IfOk result (λ text. text ≡ spec.picture front.now id) }
 {
     let mut text = Text::with_capacity(alloc, LONGEST_PICTURE)?;
     text.push(front)?;
     text.push_decimal(id as u64)?;
     text.push(b".gif")?;
-    Ok(text)
+    Ok(Caption::of(text))
 }
 
 /// The five items that follow this one in cyclic order.
@@ -118,24 +118,27 @@ fn item_row(alloc: Global, seed: u32, scale: &Scale, id: u32) -> Result<Item, Me
         about_adjective,
         about_noun,
     ] = drawn::<12>(seed, scale, ITEMS, id);
-    Ok(Item {
-        id,
+    let details = ItemDetails {
         title: title(alloc, title_adjective, title_noun, id)?,
         author: 1 + (id - 1) % scale.authors,
         subject: Subject::picked(subject),
-        published: 3652 + day % 9000,
-        publisher: Text::copy(alloc, publisher(house))?,
+        publisher: Caption::copy(alloc, publisher(house))?,
         about: about(alloc, about_adjective, about_noun)?,
         related: followers(scale.items, id),
         thumb: picture(alloc, b"/img/thumb_", id)?,
         image: picture(alloc, b"/img/image_", id)?,
         srp: srp(price),
         cost: cost(price, discount),
-        stock: stock(level),
-        restocks: 0,
         first_stock: stock(level),
         pages: 20 + pages % 9980,
         backing: Backing::picked(backing),
+    };
+    Ok(Item {
+        id,
+        published: 3652 + day % 9000,
+        stock: stock(level),
+        restocks: 0,
+        details: Shared::new(alloc, details)?,
     })
 }
 

@@ -55,7 +55,7 @@ fn order_line(
         number,
         item: id,
         quantity: line_quantity(quantity_word, number),
-        cost: item.cost,
+        cost: item.details.get().cost,
     }
 }
 

@@ -44,7 +44,8 @@ fn order_of(
     ensures { IfOk result (λ row. row ≡ spec.order_of customer.now address.now lines id
         picks.day picks.delay picks.card picks.state picks.carrier) }
 {
-    let charge = charged(lines.as_slice(), customer.discount);
+    let discount = customer.details.get().discount;
+    let charge = charged(lines.as_slice(), discount);
     let card = card_of(
         alloc,
         customer,
@@ -58,7 +59,7 @@ fn order_of(
         id,
         customer: customer.id,
         placed: placed(picks.day),
-        discount: customer.discount,
+        discount,
         sub: charge.sub,
         tax: charge.tax,
         ship: charge.ship,

@@ -6,7 +6,7 @@ ghost use Rattle.shop_pricing.specs.Changes.{IsChanged};
 
 use indexmap::IndexMap;
 use shop_model::{Cart, LINES_LIMIT};
-use shop_text::{Listed, Memory};
+use shop_text::{Listed, Memory, Shared};
 use std::alloc::Global;
 use std::marker::Model;
 
@@ -49,7 +49,7 @@ impl Lines {
         ensures { IfOk result (λ lines. lines ≡ cart.now.lines) }
     {
         let mut quantities = IndexMap::new(alloc);
-        for (item, quantity) in cart.lines.as_slice() {
+        for (item, quantity) in cart.lines.get().as_slice() {
             quantities.insert(*item, *quantity)?;
         }
         Ok(Lines { quantities })
@@ -97,7 +97,7 @@ impl Lines {
     pub fn to_cart(&self, alloc: Global, id: u32) -> Result<Cart, Memory>
         ensures { IfOk result (λ cart. cart ≡ record { id = id; lines = self.now }) }
     {
-        let lines = self.to_pairs(alloc)?;
+        let lines = Shared::new(alloc, self.to_pairs(alloc)?)?;
         Ok(Cart { id, lines })
     }
 }

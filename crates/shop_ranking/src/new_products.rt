@@ -15,7 +15,8 @@ fn compare_items(item: &Item, other: &Item) -> Ordering
     ensures { result ≡ spec.newer item.now other.now }
 {
     let days = other.published.cmp(&item.published);
-    let titles = item.title.bytes().cmp(other.title.bytes());
+    let title = item.details.get().title.bytes();
+    let titles = title.cmp(other.details.get().title.bytes());
     days.then(titles.then(item.id.cmp(&other.id)))
 }
 

@@ -8,5 +8,5 @@ use shop_model::{Item, Subject};
 pub(crate) fn is_of(item: &Item, subject: Subject) -> bool
     ensures { result ≡ bytes_eq (subject_name item.now.subject) (subject_name subject) }
 {
-    item.subject.name() == subject.name()
+    item.details.get().subject.name() == subject.name()
 }

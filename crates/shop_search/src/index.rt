@@ -4,10 +4,10 @@ ghost use Rattle.shop_model.specs.Catalogues.{catalogue, found};
 
 use crate::keys::key_of;
 use crate::lists::{at, lists_of};
-use crate::naming::{Named, copy_authors, namings};
+use crate::naming::{Named, namings, share_authors};
 use crate::order::in_list_order;
 use shop_model::{Author, SearchKind, Tables};
-use shop_text::{Listed, Memory, Text};
+use shop_text::{Listed, Memory, Shared, Text};
 use std::alloc::Global;
 use std::collections::HashMap;
 use std::marker::Model;
@@ -18,7 +18,7 @@ use std::marker::Model;
 pub struct Index {
     alloc: Global,
     items: Listed<Named>,
-    authors: Listed<Author>,
+    authors: Listed<Shared<Author>>,
     /// By the words of titles, in small letters.
     title_lists: HashMap<Text, Listed<u32>>,
     /// By the fronts of authors' last names, in small letters.
@@ -44,7 +44,7 @@ impl Index {
         ensures { IfOk result (λ index. index ≡ catalogue tables.now) }
     {
         let items = namings(alloc, tables.items.as_slice())?;
-        let authors = copy_authors(alloc, tables.authors.as_slice())?;
+        let authors = share_authors(alloc, tables.authors.as_slice())?;
         let listed = in_list_order(alloc, tables.items.as_slice())?;
         let title_lists = lists_of(alloc, authors.as_slice(), SearchKind::Title, &listed)?;
         let author_lists = lists_of(alloc, authors.as_slice(), SearchKind::Author, &listed)?;

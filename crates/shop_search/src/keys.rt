@@ -5,7 +5,7 @@ ghost use Rattle.shop_model.specs.Subjects.{subject_name};
 ghost use Rattle.shop_search.specs.Keys as spec;
 
 use shop_model::{Author, Item, SearchKind, Subject, row_numbered};
-use shop_text::{Memory, Text};
+use shop_text::{Memory, Shared, Text};
 use std::alloc::Global;
 
 /// The bytes, with ASCII capitals made small.
@@ -69,11 +69,11 @@ fn subject_keys(alloc: Global, subject: Subject) -> Result<Vec<Text>, Memory>
 }
 
 /// The last name of the author with this id.
-fn last_of(authors: &[Author], id: u32) -> &[u8]
+fn last_of(authors: &[Shared<Author>], id: u32) -> &[u8]
     ensures { result.now ≡ spec.last_of authors.now id }
 {
     match row_numbered(authors, id) {
-        Some(author) => author.last.bytes(),
+        Some(author) => author.get().last.bytes(),
         None => b"",
     }
 }
@@ -81,16 +81,17 @@ fn last_of(authors: &[Author], id: u32) -> &[u8]
 /// The keys under which searches of this kind find the item.
 pub(crate) fn keys_of(
     alloc: Global,
-    authors: &[Author],
+    authors: &[Shared<Author>],
     kind: SearchKind,
     item: &Item,
 ) -> Result<Vec<Text>, Memory>
     ensures { IfOk result (λ keys. keys.items ≡ spec.keys_of authors.now kind (naming item.now)) }
 {
+    let details = item.details.get();
     match kind {
-        SearchKind::Title => title_keys(alloc, item.title.bytes()),
-        SearchKind::Author => author_keys(alloc, last_of(authors, item.author)),
-        SearchKind::Subject => subject_keys(alloc, item.subject),
+        SearchKind::Title => title_keys(alloc, details.title.bytes()),
+        SearchKind::Author => author_keys(alloc, last_of(authors, details.author)),
+        SearchKind::Subject => subject_keys(alloc, details.subject),
     }
 }
 

@@ -5,7 +5,7 @@ ghost use Rattle.shop_search.specs.Lists.{ids_at, Adds, AddsAll, Lists};
 use crate::keys::keys_of;
 use crate::order::Ranked;
 use shop_model::{Author, SearchKind};
-use shop_text::{Listed, Memory, Text};
+use shop_text::{Listed, Memory, Shared, Text};
 use std::alloc::Global;
 use std::collections::HashMap;
 
@@ -53,7 +53,7 @@ fn add_all(
 /// The ids of the items, which are in the order of lists, by the keys of searches of this kind.
 pub(crate) fn lists_of(
     alloc: Global,
-    authors: &[Author],
+    authors: &[Shared<Author>],
     kind: SearchKind,
     listed: &[Ranked],
 ) -> Result<HashMap<Text, Listed<u32>>, Memory>

@@ -62,7 +62,8 @@ impl<'a> Ord for Ranked<'a> {
 
     fn cmp(&self, other: &Ranked<'a>) -> Ordering {
         let (item, other) = (self.item, other.item);
-        let titles = item.title.bytes().cmp(other.title.bytes());
+        let title = item.details.get().title.bytes();
+        let titles = title.cmp(other.details.get().title.bytes());
         titles.then(item.id.cmp(&other.id))
     }
 }

@@ -9,7 +9,7 @@ use Rattle.shop_browse.proofs.product_detail.subject_line.Goals as goal
 pub returns : goal.returns
 unfolding block_text subject_line
 returns c drawn =
-    rw (← c.item.view_is)
+    rw (← c.item.view_is, ← c.get-details.ensures)
     (three_values (codes "<p>") (codes "Subject ") (codes ", published ") (codes " by ") (codes "</p>") (codes "\n") _ _ _ _ _
-    (subject_name c.item.inside.subject) (day_text c.item.inside.published) c.item.inside.publisher refl refl refl
-    (rw c.name.ensures at (c.in_ok-escaped.ensures drawn)) (c.in_ok-day.ensures drawn) (rw c.bytes.ensures at (c.in_ok-escaped-2.ensures drawn)) (c.in_ok-put.ensures drawn))
+    (subject_name c.get-details.result.now.subject) (day_text c.item.inside.published) c.get-details.result.now.publisher refl refl refl
+    (rw c.name.ensures at (c.in_ok-escaped.ensures drawn)) (c.in_ok-day.ensures drawn) (c.in_ok-text.ensures drawn) (c.in_ok-put.ensures drawn))

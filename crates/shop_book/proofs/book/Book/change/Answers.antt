@@ -8,22 +8,16 @@ use Rattle.shop_book.specs.declared.watching.Watched.{Watched}
 use Rattle.shop_book.specs.Books.{tables_of}
 use Rattle.shop_book.specs.BookView.{book_of}
 use Rattle.shop_book.specs.Keeping.{IsKept}
-use Rattle.shop_book.specs.Puts.{AreReady, named}
 use Rattle.shop_book.specs.RowsNow.{tables_with, HasRoom}
 use Rattle.shop_book.specs.Stored as versioned
 use Rattle.shop_book.specs.Stored.{stored}
 use Rattle.shop_book.specs.Watching.{AreOf, IsWatchable, keys_of}
-use Rattle.shop_book.proofs.Changing.{next, cart_fits, names_fit, kept_roomy, ready, kept_after}
-use Rattle.shop_book.proofs.Puts.{named_length}
+use Rattle.shop_book.proofs.Changing.{next, cart_fits, kept_roomy, ready, kept_after}
 use Rattle.shop_book.proofs.book.Book.change.Goals as goal
 
 pub watch-requires : goal.watch-requires
 watch-requires c =
     omega (arith, cart_fits _ _ c.self.invariant.is_book _ _ c.self.view_is c.requires, ap (λ (t : Tables). length t.carts) c.self.invariant.rows_are)
-
-pub named-requires : goal.named-requires
-named-requires c =
-    names_fit _ _ c.self.invariant.is_book _ _ c.self.view_is c.requires c.in-Ok.ensures.form c.self.inside.rows c.self.inside.versions c.self.inside.counts c.self.invariant
 
 pub invariant_of-self : goal.invariant_of-self
 invariant_of-self c =
@@ -33,19 +27,16 @@ invariant_of-self c =
 
 pub change_rows-ids-requires : goal.change_rows-ids-requires
 change_rows-ids-requires c =
-    let count : ℕ = length c.self.inside.rows.customers.items in
     let many : c.len-more.result ≡ length c.args.writes.items = omega (arith, c.len-more.ensures, c.args.writes.ok.0) in
-    let named_many : length c.in-Ok-named.writes.items ≡ length c.args.writes.items = ap length c.in-Ok-named.ensures ∙ named_length count c.args.writes.items in
     record {
       ready =
-          subst (AreReady c.make_room.new.rows c.args.entry.stamp) (sym c.in-Ok-named.ensures)
-          (ready _ _ c.self.invariant.is_book _ _ c.self.view_is c.requires c.in-Ok.ensures.form c.self.inside.rows c.self.inside.versions c.self.inside.counts c.self.invariant
+          ready _ _ c.self.invariant.is_book _ _ c.self.view_is c.requires c.in-Ok.ensures.form c.self.inside.rows c.self.inside.versions c.self.inside.counts c.self.invariant
           c.make_room.new.rows (c.make_room.ensures.rows c.self.inside.opening.tables)
-          (subst (HasRoom c.make_room.new.rows) many c.if-not-make_room.ensures.rows_room));
+          (subst (HasRoom c.make_room.new.rows) many c.if-not-make_room.ensures.rows_room);
       places =
           (kept_roomy (book_of c.self.inside) c.self.inside.rows c.make_room.new.rows c.self.inside.versions c.make_room.new.versions c.self.inside.counts c.make_room.new.counts
           c.self.invariant c.make_room.ensures.rows c.make_room.ensures.versions c.make_room.ensures.places c.make_room.ensures.counts).places;
-      room = subst (versioned.HasRoom c.make_room.new.versions) (many ∙ sym named_many) c.if-not-make_room.ensures.versions_room;
+      room = subst (versioned.HasRoom c.make_room.new.versions) many c.if-not-make_room.ensures.versions_room;
       rows = λ t.
           subst (λ (watched : List Watched). AreOf (tables_with t c.make_room.new.rows) watched) (sym c.deref.ensures.value)
           (subst (λ (u : Tables). AreOf u c.in-Ok.watched.items) (sym (c.make_room.ensures.rows t)) (c.in-Ok.ensures.rows t));
@@ -57,15 +48,13 @@ invariant_of-self-2 c =
     let t : Tables = c.self.inside.opening.tables in
     let later : Tables = tables_with t c.change_rows-ids.new.rows in
     let log : c.push_reserved.new.self.items ≡ c.self.inside.log.items ++ c.args.entry ∷ [] = c.push_reserved.ensures.items ∙ ap (λ (l : List Entry). l ++ c.args.entry ∷ []) c.make_room.ensures.log in
-    let made : later ≡ written (tables_with t c.make_room.new.rows) c.args.entry.stamp (named (length c.self.inside.rows.customers.items) c.args.writes.items)
-    = c.change_rows-ids.ensures.made t ∙ ap (written (tables_with t c.make_room.new.rows) c.args.entry.stamp) c.in-Ok-named.ensures in
     let size : c.len.result + 1 ≡ length c.self.inside.log.items + 1 = omega (arith, c.len.ensures, c.make_room.new.log.ok.0, ap length c.make_room.ensures.log) in
     let rises : RaisedFor (tables_with t c.make_room.new.rows) later (length c.self.inside.log.items + 1) (keys_of c.in-Ok.watched.items) (stored c.make_room.new.versions) (stored c.change_rows-ids.new.versions)
     = subst (λ n. RaisedFor (tables_with t c.make_room.new.rows) later n (keys_of c.in-Ok.watched.items) (stored c.make_room.new.versions) (stored c.change_rows-ids.new.versions)) size
     (subst (λ (watched : List Watched). RaisedFor (tables_with t c.make_room.new.rows) later (c.len.result + 1) (keys_of watched) (stored c.make_room.new.versions) (stored c.change_rows-ids.new.versions)) c.deref.ensures.value (c.change_rows-ids.ensures.raised t)) in
     subst (λ (l : List Entry). IsKept (record { opening = c.self.inside.opening; log = l; latest = c.args.entry.stamp }) c.change_rows-ids.new.rows c.change_rows-ids.new.versions c.set.new.self) (sym log)
     (kept_after _ _ c.self.invariant.is_book _ _ c.self.view_is c.requires c.in-Ok.ensures.form c.self.inside.rows c.self.inside.versions c.self.inside.counts c.self.invariant
-    c.make_room.new.rows (c.make_room.ensures.rows t) c.change_rows-ids.new.rows c.make_room.new.versions c.change_rows-ids.new.versions c.set.new.self made
+    c.make_room.new.rows (c.make_room.ensures.rows t) c.change_rows-ids.new.rows c.make_room.new.versions c.change_rows-ids.new.versions c.set.new.self (c.change_rows-ids.ensures.made t)
     (keys_of c.in-Ok.watched.items) (c.in-Ok.ensures.keys t) c.change_rows-ids.ensures.places c.make_room.ensures.versions rises
     (λ caller. c.set.ensures caller ∙ ap (λ (count : ℕ). if c.args.entry.caller == caller then c.args.entry.number else count) (c.make_room.ensures.counts caller)))
 

@@ -3,7 +3,7 @@ use Rattle.std.specs.Vec.Iter.{into_iter_items}
 use Rattle.shop_attempt.specs.Writes.{written}
 use Rattle.shop_book.specs.RowsNow.{tables_with}
 use Rattle.shop_book.specs.Puts.{IdsFit}
-use Rattle.shop_book.proofs.Puts.{first_fits, first_named, rest_named, room_one}
+use Rattle.shop_book.proofs.Puts.{first_fits, room_one}
 use Rattle.shop_book.proofs.rows.Rows.put_writes.Goals as goal
 
 pub put_write-requires : goal.put_write-requires
@@ -17,7 +17,6 @@ put_write-requires c =
       room = room_one rows rest write (rw is at c.loop-write.invariant.room);
       tables = c.requires.tables;
       fits = first_fits (tables_with c.requires.tables rows) c.args.stamp write rest (subst IdsFit (sym made) c.requires.fits);
-      names = first_named (length rows.customers.items) write rest (rw is at c.loop-write.invariant.names);
       bound = c.requires.bound;
     }
 
@@ -30,5 +29,4 @@ loop-write-preserved c =
     record {
       made = λ t. ap (λ u. written u c.args.stamp rest) (c.put_write.ensures.made t) ∙ ap (written (tables_with t rows) c.args.stamp) (sym is) ∙ c.loop-write.invariant.made t;
       room = c.put_write.ensures.room (length rest) (rw (is, ← add-one) at c.loop-write.invariant.room);
-      names = rw (ap (λ u. length u.customers) (c.put_write.ensures.made c.requires.tables)) (rest_named (tables_with c.requires.tables rows) c.args.stamp write rest (rw is at c.loop-write.invariant.names));
     }

@@ -1,5 +1,0 @@
-use Rattle.std.proofs.Common.{◌≡◌, take}
-use Rattle.shop_search.proofs.naming.copy_authors.Given as goal
-
-abbrev pub invariant-loop-author : goal.invariant-loop-author
-invariant-loop-author l = l.copy ≡ take l.author-index l.authors
