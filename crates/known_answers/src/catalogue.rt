@@ -3,7 +3,7 @@ ghost use Rattle.std.specs.Prelude.{◌≤◌};
 ghost use Rattle.shop_model.specs.Limits.{day_limit};
 
 use shop_model::*;
-use shop_text::{Listed, Memory, Text};
+use shop_text::{Caption, Listed, Memory, Shared, Text};
 use std::alloc::Global;
 
 pub fn item(
@@ -16,33 +16,37 @@ pub fn item(
 ) -> Result<Item, Memory>
     requires { published ≤ day_limit }
 {
-    Ok(Item {
-        id,
-        title: Text::copy(alloc, title.as_bytes())?,
+    let details = ItemDetails {
+        title: Caption::copy(alloc, title.as_bytes())?,
         author,
         subject,
-        published,
-        publisher: Text::new(alloc),
-        about: Text::new(alloc),
+        publisher: Caption::of(Text::new(alloc)),
+        about: Caption::of(Text::new(alloc)),
         related: [0; 5],
-        thumb: Text::new(alloc),
-        image: Text::new(alloc),
+        thumb: Caption::of(Text::new(alloc)),
+        image: Caption::of(Text::new(alloc)),
         srp: 0,
         cost: 0,
-        stock: 10,
-        restocks: 0,
         first_stock: 10,
         pages: 1,
         backing: Backing::Used,
+    };
+    Ok(Item {
+        id,
+        published,
+        stock: 10,
+        restocks: 0,
+        details: Shared::new(alloc, details)?,
     })
 }
 
-pub fn author(alloc: Global, id: u32, last: &str) -> Result<Author, Memory> {
-    Ok(Author {
+pub fn author(alloc: Global, id: u32, last: &str) -> Result<Shared<Author>, Memory> {
+    let author = Author {
         id,
-        first: Text::new(alloc),
-        last: Text::copy(alloc, last.as_bytes())?,
-    })
+        first: Caption::of(Text::new(alloc)),
+        last: Caption::copy(alloc, last.as_bytes())?,
+    };
+    Shared::new(alloc, author)
 }
 
 /// Sixty items of one title; item n came out on day n.
@@ -55,7 +59,7 @@ pub fn sixty_items(alloc: Global) -> Result<Listed<Item>, Memory> {
 }
 
 /// Tables of nothing but these authors and items.
-pub fn tables_of(alloc: Global, authors: Listed<Author>, items: Listed<Item>) -> Tables {
+pub fn tables_of(alloc: Global, authors: Listed<Shared<Author>>, items: Listed<Item>) -> Tables {
     Tables {
         countries: Listed::new(alloc),
         addresses: Listed::new(alloc),

@@ -3,7 +3,7 @@ use crate::answers::{answer, heading, text_of};
 use crate::stop::Stop;
 use shop_model::*;
 use shop_pages::page_bytes;
-use shop_text::{Listed, Memory};
+use shop_text::{Listed, Memory, Shared};
 use std::alloc::Global;
 
 pub fn print(rt: &(impl Print + AllocGlobal)) -> Result<(), Stop> {
@@ -145,14 +145,15 @@ fn print_refusal_page(rt: &(impl Print + AllocGlobal), page: &Page) -> Result<()
     answer(rt, &page.status, &text_of(html.bytes()))
 }
 
-/// A cart's copy.
-fn copied_cart(alloc: Global) -> Result<Cart, Memory> {
+/// A cart's second owner.
+fn shared_cart(alloc: Global) -> Result<Cart, Memory> {
     let lines = Listed::from_vec(Vec::from_slice(alloc, &[(7, 2), (3, 999)])?);
-    Cart { id: 9, lines }.copy()
+    let lines = Shared::new(alloc, lines)?;
+    Cart { id: 9, lines }.share()
 }
 
 fn print_cart(rt: &(impl Print + AllocGlobal)) -> Result<(), Stop> {
-    heading(rt, "a cart is copied")?;
-    let cart = copied_cart(rt.alloc())?;
-    answer(rt, &cart.id, &cart.lines.as_slice())
+    heading(rt, "a cart is shared")?;
+    let cart = shared_cart(rt.alloc())?;
+    answer(rt, &cart.id, &cart.lines.get().as_slice())
 }

@@ -3,6 +3,8 @@ use crate::answers::{answer, heading, text_of};
 use crate::stop::Stop;
 use shop_model::*;
 use shop_populate::populate;
+use shop_text::{Memory, Text, digsyl, digsyl_lower};
+use std::alloc::Global;
 
 pub fn print(rt: &(impl Print + AllocGlobal)) -> Result<(), Stop> {
     heading(rt, "desk scale, seed 0")?;
@@ -13,20 +15,20 @@ pub fn print(rt: &(impl Print + AllocGlobal)) -> Result<(), Stop> {
 }
 
 fn print_desk(rt: &(impl Print + AllocGlobal), tables: &Tables) -> Result<(), Stop> {
-    copy_item(rt, row(tables.items.as_slice(), 1)?)?;
-    copy_customer(rt, row(tables.customers.as_slice(), 10)?)?;
+    share_item(rt, row(tables.items.as_slice(), 1)?)?;
+    share_customer(rt, row(tables.customers.as_slice(), 10)?)?;
     copy_address(rt, row(tables.addresses.as_slice(), 29)?)?;
     copy_order(rt, row(tables.orders.as_slice(), 20)?)?;
     print_country(rt, row(tables.countries.as_slice(), 45)?)?;
-    print_author(rt, row(tables.authors.as_slice(), 1)?)?;
+    print_author(rt, row(tables.authors.as_slice(), 1)?.get())?;
     print_subject(rt, tables.items.as_slice())?;
     print_last_orders(rt, tables.last.as_slice())
 }
 
 /// The last item, customer, address and order.
 fn print_larger(rt: &(impl Print + AllocGlobal), tables: &Tables) -> Result<(), Stop> {
-    copy_item(rt, row(tables.items.as_slice(), 1000)?)?;
-    copy_customer(rt, row(tables.customers.as_slice(), 2880)?)?;
+    share_item(rt, row(tables.items.as_slice(), 1000)?)?;
+    share_customer(rt, row(tables.customers.as_slice(), 2880)?)?;
     copy_address(rt, row(tables.addresses.as_slice(), 5760)?)?;
     copy_order(rt, row(tables.orders.as_slice(), 2592)?)
 }
@@ -36,40 +38,55 @@ fn row<T>(rows: &[T], id: usize) -> Result<&T, Stop> {
     rows.get(id.saturating_sub(1)).ok_or(Stop::NoRow)
 }
 
-fn copy_item(rt: &(impl Print + AllocGlobal), item: &Item) -> Result<(), Stop> {
-    print_item(rt, &item.copy(rt.alloc())?)
+fn share_item(rt: &impl Print, item: &Item) -> Result<(), Stop> {
+    print_item(rt, &item.share()?)
 }
 
 fn print_item(rt: &impl Print, item: &Item) -> Result<(), Stop> {
-    let numbers = [item.id, item.author, item.stock, item.published, item.pages];
+    let details = item.details.get();
+    let numbers = [
+        item.id,
+        details.author,
+        item.stock,
+        item.published,
+        details.pages,
+    ];
     answer(rt, &"item, author, stock, published, pages", &numbers)?;
-    answer(rt, &"srp, cost", &[item.srp, item.cost])?;
-    answer(rt, &"related", &item.related)?;
-    answer(rt, &"subject, backing", &(item.subject, item.backing))?;
+    answer(rt, &"srp, cost", &[details.srp, details.cost])?;
+    answer(rt, &"related", &details.related)?;
+    let kinds = (details.subject, details.backing);
+    answer(rt, &"subject, backing", &kinds)?;
     let texts = [
-        text_of(item.title.bytes()),
-        text_of(item.publisher.bytes()),
-        text_of(item.about.bytes()),
-        text_of(item.thumb.bytes()),
-        text_of(item.image.bytes()),
+        text_of(details.title.bytes()),
+        text_of(details.publisher.bytes()),
+        text_of(details.about.bytes()),
+        text_of(details.thumb.bytes()),
+        text_of(details.image.bytes()),
     ];
     answer(rt, &"title, publisher, about, pictures", &texts)
 }
 
-fn copy_customer(rt: &(impl Print + AllocGlobal), customer: &Customer) -> Result<(), Stop> {
-    print_customer(rt, &customer.copy(rt.alloc())?)
+fn share_customer(rt: &(impl Print + AllocGlobal), customer: &Customer) -> Result<(), Stop> {
+    print_customer(rt, &customer.share()?)
 }
 
-fn print_customer(rt: &impl Print, customer: &Customer) -> Result<(), Stop> {
-    let numbers = [customer.id, customer.discount, customer.address];
+/// A customer's user name and password.
+fn names_of(alloc: Global, customer: &Customer) -> Result<(Text, Text), Memory> {
+    Ok((digsyl(alloc, customer.id)?, digsyl_lower(alloc, customer.id)?))
+}
+
+fn print_customer(rt: &(impl Print + AllocGlobal), customer: &Customer) -> Result<(), Stop> {
+    let details = customer.details.get();
+    let numbers = [customer.id, details.discount, customer.address];
     answer(rt, &"customer, discount, address", &numbers)?;
+    let (user, password) = names_of(rt.alloc(), customer)?;
     let texts = [
-        text_of(customer.user.bytes()),
-        text_of(customer.password.bytes()),
-        text_of(customer.first.bytes()),
-        text_of(customer.last.bytes()),
-        text_of(customer.phone.bytes()),
-        text_of(customer.email.bytes()),
+        text_of(user.bytes()),
+        text_of(password.bytes()),
+        text_of(details.first.bytes()),
+        text_of(details.last.bytes()),
+        text_of(details.phone.bytes()),
+        text_of(details.email.bytes()),
     ];
     answer(rt, &"user, password, names, phone, email", &texts)
 }
@@ -144,8 +161,9 @@ fn print_author(rt: &impl Print, author: &Author) -> Result<(), Stop> {
 /// The items of one subject.
 fn print_subject(rt: &impl Print, items: &[Item]) -> Result<(), Stop> {
     for item in items {
-        if item.subject == Subject::NonFiction {
-            answer(rt, &item.id, &item.subject)?;
+        let subject = item.details.get().subject;
+        if subject == Subject::NonFiction {
+            answer(rt, &item.id, &subject)?;
         }
     }
     Ok(())

@@ -5,7 +5,7 @@ use crate::answers::{answer, heading};
 use crate::stop::Stop;
 use shop_model::{Cart, CartRequest, IdsAsked};
 use shop_pricing::*;
-use shop_text::{Listed, Memory};
+use shop_text::{Listed, Memory, Shared};
 use std::alloc::Global;
 
 pub fn print(rt: &(impl Print + AllocGlobal)) -> Result<(), Stop> {
@@ -98,7 +98,7 @@ fn print_closing_up(rt: &(impl Print + AllocGlobal)) -> Result<(), Stop> {
 /// The lines of cart 8.
 fn lines_of_cart(alloc: Global) -> Result<Lines, Memory> {
     let pairs = Vec::from_slice(alloc, &[(5, 999), (3, 1), (4, 20)])?;
-    let lines = Listed::from_vec(pairs);
+    let lines = Shared::new(alloc, Listed::from_vec(pairs))?;
     Lines::of(alloc, &Cart { id: 8, lines })
 }
 
@@ -111,7 +111,7 @@ fn print_carts(rt: &(impl Print + AllocGlobal)) -> Result<(), Stop> {
         &(lines.len(), lines.is_empty(), lines.quantity(4)),
     )?;
     let cart = lines.to_cart(rt.alloc(), 9)?;
-    answer(rt, &cart.id, &cart.lines.as_slice())?;
+    answer(rt, &cart.id, &cart.lines.get().as_slice())?;
     answer(rt, &"no lines", &Lines::new(rt.alloc()).is_empty())
 }
 

@@ -5,7 +5,7 @@ use crate::listing::list;
 use crate::stop::Stop;
 use shop_model::{Author, Item, SearchKind, Subject};
 use shop_search::Index;
-use shop_text::{Listed, Memory};
+use shop_text::{Listed, Memory, Shared};
 use std::alloc::Global;
 
 pub fn print(rt: &(impl Print + AllocGlobal)) -> Result<(), Stop> {
@@ -13,7 +13,7 @@ pub fn print(rt: &(impl Print + AllocGlobal)) -> Result<(), Stop> {
     print_sixty(rt, &sixty(rt.alloc())?)
 }
 
-fn authors(alloc: Global) -> Result<Listed<Author>, Memory> {
+fn authors(alloc: Global) -> Result<Listed<Shared<Author>>, Memory> {
     let authors = [
         author(alloc, 1, "Keller"),
         author(alloc, 2, "Kent"),
