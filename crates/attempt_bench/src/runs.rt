@@ -1,6 +1,6 @@
 ghost use Rattle.std.specs.Prelude.{◌≡◌, ◌≤◌, IfOk, length};
-ghost use Rattle.shop_model.specs.Catalogues.{catalogue};
-ghost use Rattle.shop_model.specs.Limits.{stamp_limit};
+ghost use Rattle.shop_model.specs.lists.Catalogues.{catalogue};
+ghost use Rattle.shop_model.specs.rows.Limits.{stamp_limit};
 ghost use Rattle.shop_attempt.specs.Seats.{Follows};
 ghost use Rattle.shop_book.specs.Solos.{seat_of};
 

@@ -1,6 +1,6 @@
 //! Items and authors that the other modules ask about.
 ghost use Rattle.std.specs.Prelude.{◌≤◌};
-ghost use Rattle.shop_model.specs.Limits.{day_limit};
+ghost use Rattle.shop_model.specs.rows.Limits.{day_limit};
 
 use shop_model::*;
 use shop_text::{Caption, Listed, Memory, Shared, Text};

@@ -72,7 +72,10 @@ fn share_customer(rt: &(impl Print + AllocGlobal), customer: &Customer) -> Resul
 
 /// A customer's user name and password.
 fn names_of(alloc: Global, customer: &Customer) -> Result<(Text, Text), Memory> {
-    Ok((digsyl(alloc, customer.id)?, digsyl_lower(alloc, customer.id)?))
+    Ok((
+        digsyl(alloc, customer.id)?,
+        digsyl_lower(alloc, customer.id)?,
+    ))
 }
 
 fn print_customer(rt: &(impl Print + AllocGlobal), customer: &Customer) -> Result<(), Stop> {

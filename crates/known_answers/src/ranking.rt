@@ -1,5 +1,5 @@
 //! Lists of new and of best sold items. What is best sold comes from a model in Python, with a PCG32 of its own.
-ghost use Rattle.shop_model.specs.Sound.{Sound};
+ghost use Rattle.shop_model.specs.rows.Sound.{Sound};
 
 use crate::answers::{answer, heading};
 use crate::catalogue::{item, sixty_items, tables_of};

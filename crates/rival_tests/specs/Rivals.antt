@@ -1,7 +1,7 @@
 -- What a seat means over a book that a rival changes too.
 use Rattle.std.specs.Prelude.{◌≡◌, ◌≢◌, ℕ, length, None, IsSome}
-use Rattle.shop_model.specs.Catalogues.{Catalogue, catalogue}
-use Rattle.shop_model.specs.Scales.{ScaleRow}
+use Rattle.shop_model.specs.lists.Catalogues.{Catalogue, catalogue}
+use Rattle.shop_model.specs.population.Scales.{ScaleRow}
 use Rattle.shop_history.specs.Logs.{entries_of}
 use Rattle.shop_attempt.specs.Seats.{Seat}
 use Rattle.shop_book.specs.Solos.{SoloValue}

@@ -1,7 +1,7 @@
 ghost use Rattle.std.specs.Prelude.{◌≡◌, ◌≤◌, length};
 ghost use Rattle.std.specs.Arc.{arc_value};
-ghost use Rattle.shop_model.specs.Catalogues.{catalogue};
-ghost use Rattle.shop_model.specs.Limits.{stamp_limit};
+ghost use Rattle.shop_model.specs.lists.Catalogues.{catalogue};
+ghost use Rattle.shop_model.specs.rows.Limits.{stamp_limit};
 ghost use Rattle.shop_attempt.specs.Faithful.{Faithful};
 ghost use Rattle.shop_attempt.specs.Marks.{AreMarks, KeepsMarks};
 ghost use Rattle.shop_attempt.specs.Seats.{Follows, IsSeat, Looked};

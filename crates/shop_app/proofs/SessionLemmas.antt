@@ -4,9 +4,9 @@ use Rattle.std.specs.Prelude.{flat_map}
 use Rattle.std.proofs.lemmas.List.FromFn.{length-map-range_with_len}
 use Rattle.shop_edges.specs.Causes.{Rose}
 use Rattle.shop_model.specs.declared.tables.Tables.{Tables}
-use Rattle.shop_model.specs.Catalogues.{Catalogue, catalogue}
-use Rattle.shop_model.specs.Population.{populated, items_table, item_row}
-use Rattle.shop_model.specs.Scales.{ScaleRow}
+use Rattle.shop_model.specs.lists.Catalogues.{Catalogue, catalogue}
+use Rattle.shop_model.specs.population.Population.{populated, items_table, item_row}
+use Rattle.shop_model.specs.population.Scales.{ScaleRow}
 use Rattle.shop_history.specs.declared.acts.Entry.{Entry}
 use Rattle.shop_history.specs.Lawful.{IsLawful}
 use Rattle.shop_attempt.specs.Seats.{IsSeat}

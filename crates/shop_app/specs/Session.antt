@@ -3,7 +3,7 @@ use Rattle.std.specs.Prelude.{◌≡◌, ◌⊎◌, ℕ, List, [], ◌∷◌, ma
 use Rattle.std.specs.List.{flat_map}
 use Rattle.std.specs.Io.KnownBytes.{Appends}
 use Rattle.shop_edges.specs.Causes.{Rose}
-use Rattle.shop_model.specs.Population.{populated}
+use Rattle.shop_model.specs.population.Population.{populated}
 use Rattle.shop_history.specs.Lawful.{IsLawful}
 use Rattle.shop_attempt.specs.Seats.{Seat}
 use Rattle.shop_book.specs.Solos.{SoloValue, seat_of}

@@ -5,7 +5,7 @@ use Rattle.shop_log.specs.Histories.{Extends}
 use Rattle.shop_log.proofs.Extending.{take_extends}
 use Rattle.shop_log.proofs.Versions.{fresh, true_longer, version_grows, version_changed}
 use Rattle.shop_model.specs.declared.tables.Tables.{Tables}
-use Rattle.shop_model.specs.Limits.{stamp_limit}
+use Rattle.shop_model.specs.rows.Limits.{stamp_limit}
 use Rattle.shop_history.specs.declared.acts.Act.{Act}
 use Rattle.shop_history.specs.declared.acts.Entry.{Entry}
 use Rattle.shop_history.specs.Keys.{row_of}

@@ -2,8 +2,8 @@
 use Rattle.std.proofs.Common.{◌≡◌, ℕ, ◌+◌, ◌-◌, ◌≤◌, cond, true, false, eqb, List, [], ◌∷◌, ◌++◌, length, Option, Some, None, slice_set, refl, arith, length-append}
 use Rattle.std.proofs.lemmas.List.{length-set}
 use Rattle.shop_model.specs.declared.tables.Tables.{Tables}
-use Rattle.shop_model.specs.Limits.{day_of}
-use Rattle.shop_model.specs.Lookups.{row_numbered}
+use Rattle.shop_model.specs.rows.Limits.{day_of}
+use Rattle.shop_model.specs.rows.Lookups.{row_numbered}
 use Rattle.shop_history.proofs.Kept.{Grows}
 use Rattle.shop_attempt.specs.declared.attempts.Write.{Write}
 use Rattle.shop_attempt.specs.declared.attempts.Write.TheVariants.{PutCart, Login, AddAddress, AddCustomer, AddOrder, SetStock, PutItem}

@@ -2,7 +2,7 @@
 use Rattle.std.specs.Prelude.{◌≡◌, ◌≢◌, ℕ, ◌-◌, ◌==◌, ◌<◌, ◌≤◌, List, [], ◌∷◌, length, Option, Some, None, slice_get, if◌then◌else◌}
 use Rattle.shop_log.specs.Histories as histories
 use Rattle.shop_model.specs.declared.tables.Tables.{Tables}
-use Rattle.shop_model.specs.Sound.{Sound, Room}
+use Rattle.shop_model.specs.rows.Sound.{Sound, Room}
 use Rattle.shop_history.specs.declared.acts.Entry.{Entry}
 use Rattle.shop_history.specs.declared.keys.Key.{Key}
 use Rattle.shop_history.specs.Keys.{row_of}

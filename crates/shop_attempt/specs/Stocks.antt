@@ -1,6 +1,6 @@
 -- What contracts see of an item's stock, and its bounds.
 use Rattle.std.specs.Prelude.{ℕ, ◌≤◌}
-use Rattle.shop_model.specs.Limits.{stock_limit, restocks_limit}
+use Rattle.shop_model.specs.rows.Limits.{stock_limit, restocks_limit}
 
 pub record StockRow : Type 0 where
   pub item : ℕ

@@ -1,5 +1,5 @@
 ghost use Rattle.std.specs.Prelude.{ℕ, ◌≤◌, IfOk};
-ghost use Rattle.shop_model.specs.Limits.{stamp_limit};
+ghost use Rattle.shop_model.specs.rows.Limits.{stamp_limit};
 ghost use Rattle.shop_attempt.specs.Faithful.{Faithful};
 ghost use Rattle.shop_attempt.specs.Seats.{Seat, IsSeat, Follows, Looked, IsReadAt, Rose, RoseOnce};
 ghost use Rattle.shop_attempt.specs.Settles.{SettledAs};

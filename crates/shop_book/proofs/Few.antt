@@ -3,7 +3,7 @@ use Rattle.std.proofs.Common.{ℕ, ◌+◌, ◌-◌, ◌≤◌, eqb, List, [], �
 use Rattle.std.proofs.lemmas.Bool.{cond_both}
 use Rattle.std.proofs.lemmas.List.{length-set}
 use Rattle.shop_model.specs.declared.tables.Tables.{Tables}
-use Rattle.shop_model.specs.Limits.{day_of}
+use Rattle.shop_model.specs.rows.Limits.{day_of}
 use Rattle.shop_attempt.specs.declared.attempts.Write.{Write}
 use Rattle.shop_attempt.specs.declared.attempts.Write.TheVariants.{PutCart, Login, AddAddress, AddCustomer, AddOrder, SetStock, PutItem}
 use Rattle.shop_attempt.specs.Writes.{put_row, logged_in, entered, written_one, written}

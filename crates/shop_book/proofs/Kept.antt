@@ -5,8 +5,8 @@ use Rattle.std.specs.Str.{bytes_eq}
 use Rattle.std.proofs.lemmas.List.Elements.{All-nil}
 use Rattle.shop_log.specs.Histories.Legal.{nothing}
 use Rattle.shop_model.specs.declared.tables.Tables.{Tables}
-use Rattle.shop_model.specs.Rows.{OrderRow}
-use Rattle.shop_model.specs.Sound.{Sound}
+use Rattle.shop_model.specs.rows.Rows.{OrderRow}
+use Rattle.shop_model.specs.rows.Sound.{Sound}
 use Rattle.shop_history.specs.declared.acts.Entry.{Entry}
 use Rattle.shop_history.specs.declared.keys.Key.{Key}
 use Rattle.shop_history.specs.Logs.{IsGood}

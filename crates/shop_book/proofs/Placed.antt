@@ -4,9 +4,9 @@ use Rattle.std.specs.Cmp.Lexicographic.{pointwise}
 use Rattle.std.proofs.lemmas.Option.{slice_get_within}
 use lib.Pointwise.{pointwise_decides}
 use Rattle.shop_model.specs.declared.tables.Tables.{Tables}
-use Rattle.shop_model.specs.Lookups.{row_numbered}
-use Rattle.shop_model.specs.Rows.{CartRow}
-use Rattle.shop_model.specs.Sound.{Has}
+use Rattle.shop_model.specs.rows.Lookups.{row_numbered}
+use Rattle.shop_model.specs.rows.Rows.{CartRow}
+use Rattle.shop_model.specs.rows.Sound.{Has}
 use Rattle.shop_history.specs.declared.keys.Key as key
 use Rattle.shop_history.specs.declared.keys.Key.{Key}
 use Rattle.shop_history.specs.declared.keys.Row.{Row}

@@ -1,7 +1,7 @@
 -- What contracts see of a book, and what holds of every book.
 use Rattle.std.specs.Prelude.{ℕ, ◌≤◌, List, length, All}
 use Rattle.shop_model.specs.declared.tables.Tables.{Tables}
-use Rattle.shop_model.specs.Limits.{stamp_limit}
+use Rattle.shop_model.specs.rows.Limits.{stamp_limit}
 use Rattle.shop_history.specs.declared.acts.Entry.{Entry}
 use Rattle.shop_history.specs.Logs as logs
 use Rattle.shop_history.specs.Logs.{Legal}

@@ -1,7 +1,7 @@
 -- When writes can be made: there is room, and the ids that they draw fit.
 use Rattle.std.specs.Prelude.{ℕ, ◌^◌, ◌<◌, ◌≤◌, List, length}
 use Rattle.shop_model.specs.declared.tables.Tables.{Tables}
-use Rattle.shop_model.specs.Limits.{stamp_limit}
+use Rattle.shop_model.specs.rows.Limits.{stamp_limit}
 use Rattle.shop_attempt.specs.declared.attempts.Write.{Write}
 use Rattle.shop_attempt.specs.Writes.{written_one, written}
 use Rattle.shop_book.specs.declared.rows.Rows.{Rows}

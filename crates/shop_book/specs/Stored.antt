@@ -1,7 +1,7 @@
 -- The version that is stored for a key, and which keys have a place for one.
 use Rattle.std.specs.Prelude.{ℕ, ◌+◌, ◌≤◌, List, length, unwrap_or, vec_len, vec_capacity}
-use Rattle.shop_model.specs.Lookups.{row_numbered}
-use Rattle.shop_model.specs.Sound.{Has}
+use Rattle.shop_model.specs.rows.Lookups.{row_numbered}
+use Rattle.shop_model.specs.rows.Sound.{Has}
 use Rattle.shop_history.specs.declared.keys.Key as key
 use Rattle.shop_history.specs.declared.keys.Key.{Key}
 use Rattle.shop_book.specs.declared.rows.Rows.{Rows}

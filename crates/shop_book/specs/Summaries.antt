@@ -3,7 +3,7 @@ use Rattle.std.specs.Prelude.{ℕ, nat_lt, Bool, List, length, filter, sum_by}
 use Rattle.std.specs.Str.{bytes_eq}
 use Rattle.std.specs.List.{list_any}
 use Rattle.shop_model.specs.declared.tables.Tables.{Tables}
-use Rattle.shop_model.specs.Rows.{OrderRow}
+use Rattle.shop_model.specs.rows.Rows.{OrderRow}
 use Rattle.shop_book.specs.Books.{BookValue, tables_of}
 use Rattle.shop_book.specs.declared.summary.Summary.{Summary}
 

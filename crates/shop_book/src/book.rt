@@ -1,5 +1,5 @@
 ghost use Rattle.std.specs.Prelude.{◌≡◌, ◌+◌, ◌≤◌, [], length, IfOk, IsSome};
-ghost use Rattle.shop_model.specs.Limits.{stamp_limit};
+ghost use Rattle.shop_model.specs.rows.Limits.{stamp_limit};
 ghost use Rattle.shop_history.specs.Keys as keys;
 ghost use Rattle.shop_history.specs.Logs.{version_of, entries_of};
 ghost use Rattle.shop_attempt.specs.Faithful.{Faithful};

@@ -2,8 +2,8 @@ ghost use Rattle.std.specs.Prelude.{◌≡◌, IfOk};
 ghost use Rattle.std.specs.Bool.{OnTrue};
 ghost use Rattle.shop_history.specs.Keys as keys;
 ghost use Rattle.shop_model.specs.declared.tables.Tables.{Tables};
-ghost use Rattle.shop_model.specs.Lookups as spec;
-ghost use Rattle.shop_model.specs.Sound.{Sound};
+ghost use Rattle.shop_model.specs.rows.Lookups as spec;
+ghost use Rattle.shop_model.specs.rows.Sound.{Sound};
 ghost use Rattle.shop_book.specs.RowsNow.{tables_with, HasRoom};
 
 use crate::copies::copies;

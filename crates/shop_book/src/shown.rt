@@ -1,6 +1,6 @@
 ghost use Rattle.std.specs.Prelude.{◌≡◌, IfOk};
 ghost use Rattle.shop_history.specs.Keys.{row_of};
-ghost use Rattle.shop_model.specs.Sound.{Sound};
+ghost use Rattle.shop_model.specs.rows.Sound.{Sound};
 ghost use Rattle.shop_book.specs.RowsNow.{tables_with, SameLists};
 
 use crate::rows::Rows;

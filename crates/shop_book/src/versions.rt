@@ -1,6 +1,6 @@
 ghost use Rattle.std.specs.Prelude.{◌≡◌, ◌≢◌, ℕ, ◌+◌, ◌-◌, ◌≤◌, slice_set, length, IfOk, vec_len, vec_capacity};
 ghost use Rattle.std.specs.Bool.{OnTrue};
-ghost use Rattle.shop_model.specs.Sound.{Has};
+ghost use Rattle.shop_model.specs.rows.Sound.{Has};
 ghost use Rattle.shop_history.specs.declared.keys.Key.{Key};
 ghost use Rattle.shop_book.specs.Stored as spec;
 

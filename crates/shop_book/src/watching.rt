@@ -1,6 +1,6 @@
 ghost use Rattle.std.specs.Prelude.{◌≡◌, ◌↔◌, ◌+◌, ◌^◌, ◌<◌, IsTrue, All, IfOk, length};
-ghost use Rattle.shop_model.specs.Carts as shopping;
-ghost use Rattle.shop_model.specs.Lookups as lookups;
+ghost use Rattle.shop_model.specs.trade.Carts as shopping;
+ghost use Rattle.shop_model.specs.rows.Lookups as lookups;
 ghost use Rattle.shop_model.specs.declared.tables.Tables.{Tables};
 ghost use Rattle.shop_history.specs.Acts.{IsInForm};
 ghost use Rattle.shop_history.specs.Keys.{shown, row_of};

@@ -1,5 +1,5 @@
 ghost use Rattle.std.specs.Prelude.{◌≡◌, ◌∷◌, ◌++◌, [], ◌+◌, ◌^◌, ◌<◌, ◌≤◌, length, vec_len, vec_capacity};
-ghost use Rattle.shop_model.specs.Limits.{stamp_limit, day_of};
+ghost use Rattle.shop_model.specs.rows.Limits.{stamp_limit, day_of};
 ghost use Rattle.shop_model.specs.declared.tables.Tables.{Tables};
 ghost use Rattle.shop_attempt.specs.Writes as write;
 ghost use Rattle.shop_attempt.specs.Writes.{changed_at, put_row, logged_in, written_one, written};

@@ -7,12 +7,14 @@ use Rattle.shop_model.specs.declared.requests.Home as home_asked
 use Rattle.shop_model.specs.declared.requests.IdsAsked.{IdsAsked}
 use Rattle.shop_model.specs.declared.requests.Request.TheVariants.{Home}
 use Rattle.shop_model.specs.declared.tables.Tables.{Tables}
-use Rattle.shop_model.specs.Catalogues.{Catalogue, catalogue}
-use Rattle.shop_model.specs.Checks.{check_there, check_customer}
-use Rattle.shop_model.specs.Lookups.{row_numbered}
-use Rattle.shop_model.specs.Refusals.{page_of}
-use Rattle.shop_model.specs.Rows.{CustomerRow}
-use Rattle.shop_model.specs.Show.{show, promo, home_page, customer_asked, refused_or}
+use Rattle.shop_model.specs.lists.Catalogues.{Catalogue, catalogue}
+use Rattle.shop_model.specs.asked.Checks.{check_there, check_customer}
+use Rattle.shop_model.specs.rows.Lookups.{row_numbered}
+use Rattle.shop_model.specs.asked.Refusals.{page_of}
+use Rattle.shop_model.specs.rows.Rows.{CustomerRow}
+use Rattle.shop_model.specs.pages.Show.{show, refused_or}
+use Rattle.shop_model.specs.pages.Promotion.{promo}
+use Rattle.shop_model.specs.pages.Home.{home_page, customer_asked}
 use Rattle.shop_history.specs.declared.acts.Entry.{Entry}
 use Rattle.shop_history.specs.declared.keys.Key.{Key}
 use Rattle.shop_history.specs.declared.keys.Key.TheVariants as key

@@ -11,14 +11,14 @@ use Rattle.shop_model.specs.declared.requests.Request.{Request}
 use Rattle.shop_model.specs.declared.requests.SearchKind.{SearchKind}
 use Rattle.shop_model.specs.declared.subject.Subject.{Subject}
 use Rattle.shop_model.specs.declared.tables.Tables.{Tables}
-use Rattle.shop_model.specs.Catalogues.{Catalogue, Naming, naming, catalogue, matches, by_title, found}
-use Rattle.shop_model.specs.Limits.{list_limit}
-use Rattle.shop_model.specs.Lookups.{row_numbered}
-use Rattle.shop_model.specs.PageText.{block_line}
-use Rattle.shop_model.specs.Rankings.{Sale, put_among, in_order, in_subject, newer, newest, sold_lately, sales, better, best}
-use Rattle.shop_model.specs.Rows.{ItemRow}
-use Rattle.shop_model.specs.Show.{promoted, promo}
-use Rattle.shop_model.specs.Sound.{Has, Runs, Sound}
+use Rattle.shop_model.specs.lists.Catalogues.{Catalogue, Naming, naming, catalogue, matches, by_title, found}
+use Rattle.shop_model.specs.rows.Limits.{list_limit}
+use Rattle.shop_model.specs.rows.Lookups.{row_numbered}
+use Rattle.shop_model.specs.pages.PageText.{block_line}
+use Rattle.shop_model.specs.lists.Rankings.{Sale, put_among, in_order, in_subject, newer, newest, sold_lately, sales, better, best}
+use Rattle.shop_model.specs.rows.Rows.{ItemRow}
+use Rattle.shop_model.specs.pages.Promotion.{promoted, promo}
+use Rattle.shop_model.specs.rows.Sound.{Has, Runs, Sound}
 use Rattle.shop_model.proofs.Lists.{all_head, all_tail, id_of_place}
 use Rattle.shop_history.specs.declared.acts.Entry.{Entry}
 use Rattle.shop_history.specs.declared.keys.Key.{Key}

@@ -8,12 +8,12 @@ use Rattle.shop_model.specs.declared.page.Block.{Block}
 use Rattle.shop_model.specs.declared.page.Block.TheVariants.{Para}
 use Rattle.shop_model.specs.declared.requests.IdsAsked.{IdsAsked}
 use Rattle.shop_model.specs.declared.tables.Tables.{Tables}
-use Rattle.shop_model.specs.Catalogues.{Catalogue}
-use Rattle.shop_model.specs.Lines.{line_label, list_line, list_blocks, list_page}
-use Rattle.shop_model.specs.Lookups.{row_numbered, author_of}
-use Rattle.shop_model.specs.PageText.{block_line, page_text}
-use Rattle.shop_model.specs.Rows.{ItemRow}
-use Rattle.shop_model.specs.Targets.{nav}
+use Rattle.shop_model.specs.lists.Catalogues.{Catalogue}
+use Rattle.shop_model.specs.pages.Lists.{line_label, list_line, list_blocks, list_page}
+use Rattle.shop_model.specs.rows.Lookups.{row_numbered, author_of}
+use Rattle.shop_model.specs.pages.PageText.{block_line, page_text}
+use Rattle.shop_model.specs.rows.Rows.{ItemRow}
+use Rattle.shop_model.specs.pages.Targets.{nav}
 use Rattle.shop_history.specs.declared.keys.Key.{Key}
 use Rattle.shop_history.specs.declared.keys.Key.TheVariants as key
 use Rattle.shop_history.specs.declared.keys.Row.TheVariants as row

@@ -7,14 +7,14 @@ use Rattle.shop_model.specs.declared.requests.IdsAsked.{IdsAsked}
 use Rattle.shop_model.specs.declared.requests.ProductDetail as asked_for
 use Rattle.shop_model.specs.declared.requests.Request.TheVariants.{ProductDetail}
 use Rattle.shop_model.specs.declared.tables.Tables.{Tables}
-use Rattle.shop_model.specs.Catalogues.{Catalogue}
-use Rattle.shop_model.specs.Checks.{check_there}
-use Rattle.shop_model.specs.Lookups.{row_numbered, author_of}
-use Rattle.shop_model.specs.Products.{product_page, author_line}
-use Rattle.shop_model.specs.Refusals.{page_of}
-use Rattle.shop_model.specs.Rows.{ItemRow}
-use Rattle.shop_model.specs.Show.{show, refused_or}
-use Rattle.shop_model.specs.Sound.{Has}
+use Rattle.shop_model.specs.lists.Catalogues.{Catalogue}
+use Rattle.shop_model.specs.asked.Checks.{check_there}
+use Rattle.shop_model.specs.rows.Lookups.{row_numbered, author_of}
+use Rattle.shop_model.specs.pages.ProductDetail.{product_page, author_line}
+use Rattle.shop_model.specs.asked.Refusals.{page_of}
+use Rattle.shop_model.specs.rows.Rows.{ItemRow}
+use Rattle.shop_model.specs.pages.Show.{show, refused_or}
+use Rattle.shop_model.specs.rows.Sound.{Has}
 use Rattle.shop_history.specs.declared.acts.Entry.{Entry}
 use Rattle.shop_history.specs.declared.keys.Key.{Key}
 use Rattle.shop_history.specs.declared.keys.Key.TheVariants as key

@@ -2,7 +2,7 @@
 use Rattle.std.proofs.Common.{◌≡◌, List, drop}
 use Rattle.shop_model.specs.declared.requests.IdsAsked.{IdsAsked}
 use Rattle.shop_model.specs.declared.tables.Tables.{Tables}
-use Rattle.shop_model.specs.Show.{search_request}
+use Rattle.shop_model.specs.pages.SearchRequest.{search_request}
 use Rattle.shop_attempt.specs.declared.attempts.ReadOf.{ReadOf}
 use Rattle.shop_browse.specs.declared.attempted.Ask.{Ask}
 use Rattle.shop_browse.specs.Driver.{IsWhole, Fits}

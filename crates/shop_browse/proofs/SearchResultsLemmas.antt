@@ -2,11 +2,11 @@
 use Rattle.std.proofs.Common.{◌≡◌, ℕ, zero, suc, List, [], ◌∷◌, ◌++◌, length, map, All, codes, Some, refl, sym, ◌∙◌, ap, subst, arith}
 use Rattle.shop_model.specs.declared.requests.Request.TheVariants.{SearchResults}
 use Rattle.shop_model.specs.declared.tables.Tables.{Tables}
-use Rattle.shop_model.specs.Catalogues.{Catalogue, found}
-use Rattle.shop_model.specs.Lines.{search_results}
-use Rattle.shop_model.specs.SearchAsked.{SearchAsked}
-use Rattle.shop_model.specs.Show.{show}
-use Rattle.shop_model.specs.Sound.{Has}
+use Rattle.shop_model.specs.lists.Catalogues.{Catalogue, found}
+use Rattle.shop_model.specs.pages.SearchResults.{search_results}
+use Rattle.shop_model.specs.asked.SearchAsked.{SearchAsked}
+use Rattle.shop_model.specs.pages.Show.{show}
+use Rattle.shop_model.specs.rows.Sound.{Has}
 use Rattle.shop_history.specs.declared.keys.Key.{Key}
 use Rattle.shop_history.specs.declared.keys.Key.TheVariants.{Label}
 use Rattle.shop_attempt.specs.declared.attempts.ReadOf.{ReadOf}

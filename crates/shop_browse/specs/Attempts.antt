@@ -3,9 +3,9 @@ use Rattle.std.specs.Prelude.{◌≡◌, ℕ, ◌≤◌, List, [], ◌∷◌, le
 use Rattle.shop_model.specs.declared.page.Page.{Page}
 use Rattle.shop_model.specs.declared.requests.Request.{Request}
 use Rattle.shop_model.specs.declared.tables.Tables.{Tables}
-use Rattle.shop_model.specs.Catalogues.{catalogue}
-use Rattle.shop_model.specs.Limits.{stamp_limit}
-use Rattle.shop_model.specs.Show.{show}
+use Rattle.shop_model.specs.lists.Catalogues.{catalogue}
+use Rattle.shop_model.specs.rows.Limits.{stamp_limit}
+use Rattle.shop_model.specs.pages.Show.{show}
 use Rattle.shop_history.specs.declared.acts.Act.{Act}
 use Rattle.shop_history.specs.Acts.{play, IsActOf}
 use Rattle.shop_history.specs.Drawing.{new_ids}

@@ -2,9 +2,9 @@
 use Rattle.std.specs.Prelude.{◌≡◌, ℕ, suc, ◌≤◌, List, [], ◌∷◌, ◌++◌, length, map, All, Option, Some, None}
 use Rattle.shop_model.specs.declared.requests.Request.{Request}
 use Rattle.shop_model.specs.declared.tables.Tables.{Tables}
-use Rattle.shop_model.specs.Catalogues.{Catalogue, catalogue}
-use Rattle.shop_model.specs.Limits.{stamp_limit}
-use Rattle.shop_model.specs.Sound.{Sound}
+use Rattle.shop_model.specs.lists.Catalogues.{Catalogue, catalogue}
+use Rattle.shop_model.specs.rows.Limits.{stamp_limit}
+use Rattle.shop_model.specs.rows.Sound.{Sound}
 use Rattle.shop_history.specs.declared.acts.Act.{Act}
 use Rattle.shop_history.specs.declared.acts.Entry.{Entry}
 use Rattle.shop_history.specs.declared.keys.Key.{Key}

@@ -5,11 +5,11 @@ use Rattle.shop_model.specs.declared.page.Page.{Page}
 use Rattle.shop_model.specs.declared.requests.IdsAsked.{IdsAsked}
 use Rattle.shop_model.specs.declared.subject.Subject.TheVariants.{Arts}
 use Rattle.shop_model.specs.declared.tables.Tables.{Tables}
-use Rattle.shop_model.specs.Rows.{CustomerRow}
-use Rattle.shop_model.specs.Show.{home_page, greetings, subject_links}
-use Rattle.shop_model.specs.Subjects.{subjects}
-use Rattle.shop_model.specs.Targets.{nav}
-use Rattle.shop_model.specs.Words.{entry}
+use Rattle.shop_model.specs.rows.Rows.{CustomerRow}
+use Rattle.shop_model.specs.pages.Home.{home_page, greetings, subject_links}
+use Rattle.shop_model.specs.rows.Subjects.{subjects}
+use Rattle.shop_model.specs.pages.Targets.{nav}
+use Rattle.shop_model.specs.population.Words.{entry}
 use Rattle.shop_history.specs.declared.keys.Key.{Key}
 use Rattle.shop_history.specs.declared.keys.Key.TheVariants.{Item, Customer}
 use Rattle.shop_draft.specs.declared.draft.Draft.{Draft}

@@ -4,8 +4,8 @@ use Rattle.shop_model.specs.declared.page.Block.{Block}
 use Rattle.shop_model.specs.declared.requests.IdsAsked.{IdsAsked}
 use Rattle.shop_model.specs.declared.requests.Request.{Request}
 use Rattle.shop_model.specs.declared.tables.Tables.{Tables}
-use Rattle.shop_model.specs.Catalogues.{catalogue}
-use Rattle.shop_model.specs.Targets.{item_link}
+use Rattle.shop_model.specs.lists.Catalogues.{catalogue}
+use Rattle.shop_model.specs.pages.Targets.{item_link}
 use Rattle.shop_history.specs.declared.acts.Entry.{Entry}
 use Rattle.shop_history.specs.declared.keys.Key.{Key}
 use Rattle.shop_history.specs.declared.keys.Key.TheVariants as key

@@ -5,9 +5,9 @@ use Rattle.shop_model.specs.declared.page.Block.{Block}
 use Rattle.shop_model.specs.declared.page.Block.TheVariants.{Para}
 use Rattle.shop_model.specs.declared.page.Page.{Page}
 use Rattle.shop_model.specs.declared.requests.IdsAsked.{IdsAsked}
-use Rattle.shop_model.specs.Lines.{line_label}
-use Rattle.shop_model.specs.PageText.{block_line}
-use Rattle.shop_model.specs.Targets.{item_link, nav}
+use Rattle.shop_model.specs.pages.Lists.{line_label}
+use Rattle.shop_model.specs.pages.PageText.{block_line}
+use Rattle.shop_model.specs.pages.Targets.{item_link, nav}
 use Rattle.shop_draft.specs.Pages.{page_end}
 use Rattle.shop_history.specs.declared.keys.Row.{Row}
 use Rattle.shop_history.specs.declared.keys.Row.TheVariants as row

@@ -3,8 +3,8 @@ use Rattle.std.specs.Prelude.{List, ◌∷◌, ◌++◌, map, codes}
 use Rattle.shop_model.specs.declared.page.Block.TheVariants.{Heading}
 use Rattle.shop_model.specs.declared.page.Page.{Page}
 use Rattle.shop_model.specs.declared.requests.IdsAsked.{IdsAsked}
-use Rattle.shop_model.specs.Show.{search_form}
-use Rattle.shop_model.specs.Targets.{nav}
+use Rattle.shop_model.specs.pages.SearchRequest.{search_form}
+use Rattle.shop_model.specs.pages.Targets.{nav}
 use Rattle.shop_attempt.specs.declared.attempts.ReadOf.{ReadOf}
 use Rattle.shop_browse.specs.Labels.{promoted_in}
 

@@ -2,9 +2,9 @@
 use Rattle.std.specs.Prelude.{◌≡◌, ℕ, zero, suc, List, [], ◌∷◌, ◌++◌, map, codes}
 use Rattle.shop_model.specs.declared.page.Block.{Block}
 use Rattle.shop_model.specs.declared.page.Block.TheVariants.{Heading, Para}
-use Rattle.shop_model.specs.Catalogues.{found}
-use Rattle.shop_model.specs.Kinds.{kind_name}
-use Rattle.shop_model.specs.SearchAsked.{SearchAsked}
+use Rattle.shop_model.specs.lists.Catalogues.{found}
+use Rattle.shop_model.specs.asked.Kinds.{kind_name}
+use Rattle.shop_model.specs.asked.SearchAsked.{SearchAsked}
 use Rattle.shop_history.specs.declared.keys.Key.TheVariants.{Label}
 use Rattle.shop_attempt.specs.declared.attempts.ReadOf.{ReadOf}
 use Rattle.shop_browse.specs.declared.attempted.Ask.{Ask}

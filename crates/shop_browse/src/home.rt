@@ -1,12 +1,12 @@
 ghost use Rattle.std.specs.Prelude.{◌≡◌, ◌∷◌, [], ◌≢◌, Some, IfOk, OnOk, codes, option_copied};
 ghost use Rattle.std.specs.List.{flat_map};
-ghost use Rattle.shop_model.specs.PageText.{block_line};
+ghost use Rattle.shop_model.specs.pages.PageText.{block_line};
 ghost use Rattle.shop_model.specs.declared.page.Block.TheVariants as block;
 ghost use Rattle.shop_draft.specs.Drawing.{ids_at};
 ghost use Rattle.shop_draft.specs.Pages.{Shows};
 ghost use Rattle.shop_draft.specs.Templates.{Adds, Says};
 ghost use Rattle.shop_history.specs.declared.keys.Key.TheVariants as key_kinds;
-ghost use Rattle.shop_model.specs.Show as spec;
+ghost use Rattle.shop_model.specs.pages.Home as spec;
 ghost use Rattle.shop_attempt.specs.Marks.{Looks};
 ghost use Rattle.shop_browse.specs.Attempts.{AttemptedAs, Suits};
 ghost use Rattle.shop_browse.specs.Driver.{IsWhole, AreSeen, IsNext};
@@ -24,7 +24,7 @@ use shop_text::{Listed, Memory};
 use std::alloc::Global;
 
 /// Adds the heading.
-#[tactic(auto, unfolding(shop_model::specs::PageText::block_text))]
+#[tactic(auto, unfolding(shop_model::specs::pages::PageText::block_text))]
 fn heading(page: &mut Template) -> Result<(), Memory>
     ensures { OnOk result (Says page.old page.new (block_line (block.Heading (codes "Welcome")))) }
 {
@@ -32,7 +32,7 @@ fn heading(page: &mut Template) -> Result<(), Memory>
     Ok(())
 }
 
-#[tactic(auto, using(shop_text::proofs::Plain::escape_append), unfolding(shop_model::specs::PageText::block_text, shop_model::specs::Show::greeting))]
+#[tactic(auto, using(shop_text::proofs::Plain::escape_append), unfolding(shop_model::specs::pages::PageText::block_text, shop_model::specs::pages::Home::greeting))]
 fn greeting(page: &mut Template, customer: &Customer) -> Result<(), Memory>
     ensures { OnOk result (Says page.old page.new (block_line (block.Para (spec.greeting customer.now)))) }
 {
@@ -55,7 +55,7 @@ fn greetings(page: &mut Template, customer: Option<&Customer>) -> Result<(), Mem
 }
 
 /// Adds the ways to the new and the best sold items of a subject.
-#[tactic(auto, unfolding(shop_model::specs::Show::subject_links))]
+#[tactic(auto, unfolding(shop_model::specs::pages::Home::subject_links))]
 fn subject_links(page: &mut Template, subject: Subject, ids: PageIds) -> Result<(), Memory>
     ensures { OnOk result (Adds page.old page.new (λ drawn. flat_map block_line (spec.subject_links subject (ids_at drawn ids)))) }
 {

@@ -1,7 +1,7 @@
 //! Reads of a row and of the labels of the items that it names.
 ghost use Rattle.std.specs.Prelude.{◌≡◌, IfOk, OnOk, map};
 ghost use Rattle.std.specs.List.{flat_map};
-ghost use Rattle.shop_model.specs.PageText.{block_line};
+ghost use Rattle.shop_model.specs.pages.PageText.{block_line};
 ghost use Rattle.shop_history.specs.declared.keys.Key.TheVariants.{Label};
 ghost use Rattle.shop_draft.specs.Drawing.{ids_at};
 ghost use Rattle.shop_draft.specs.Templates.{Adds};

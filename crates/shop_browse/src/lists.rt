@@ -2,8 +2,8 @@
 ghost use Rattle.std.specs.Prelude.{◌≡◌, ◌∷◌, ◌++◌, [], OnOk, map};
 ghost use Rattle.std.specs.List.{flat_map};
 ghost use Rattle.shop_text.specs.Texts.{escape};
-ghost use Rattle.shop_model.specs.PageText.{block_line};
-ghost use Rattle.shop_model.specs.Subjects.{subject_name};
+ghost use Rattle.shop_model.specs.pages.PageText.{block_line};
+ghost use Rattle.shop_model.specs.rows.Subjects.{subject_name};
 ghost use Rattle.shop_model.specs.declared.page.Block.TheVariants as block;
 ghost use Rattle.shop_draft.specs.Drawing.{ids_at};
 ghost use Rattle.shop_draft.specs.Pages.{Shows};
@@ -46,7 +46,7 @@ fn each_line(page: &mut Template, ids: PageIds, labels: &[ReadOf]) -> Result<(),
 }
 
 /// Adds the lines of a list, or a word where it is empty.
-#[tactic(auto, unfolding(shop_model::specs::PageText::block_text))]
+#[tactic(auto, unfolding(shop_model::specs::pages::PageText::block_text))]
 fn lines(page: &mut Template, ids: PageIds, labels: &[ReadOf]) -> Result<(), Memory>
     ensures { OnOk result (Adds page.old page.new (λ drawn. flat_map block_line (spec.lines_in (ids_at drawn ids) labels.now))) }
 {
@@ -70,7 +70,7 @@ pub(crate) fn finish(page: &mut Template, ids: PageIds, labels: &[ReadOf]) -> Re
 }
 
 /// A heading that ends in a subject's name; the word before it is plain.
-#[tactic(auto, using(shop_text::proofs::Plain::escape_append), unfolding(shop_model::specs::PageText::block_text))]
+#[tactic(auto, using(shop_text::proofs::Plain::escape_append), unfolding(shop_model::specs::pages::PageText::block_text))]
 fn subject_heading(page: &mut Template, word: &[u8], subject: Subject) -> Result<(), Memory>
     requires { escape word.now ≡ word.now }
     ensures { OnOk result (Says page.old page.new (block_line (block.Heading (word.now ++ subject_name subject)))) }

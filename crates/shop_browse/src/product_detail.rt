@@ -1,7 +1,7 @@
 ghost use Rattle.std.specs.Prelude.{◌≡◌, ◌++◌, ◌∷◌, [], ℕ, IfOk, OnOk};
 ghost use Rattle.std.specs.List.{flat_map};
-ghost use Rattle.shop_model.specs.PageText.{block_line};
-ghost use Rattle.shop_model.specs.Products as spec;
+ghost use Rattle.shop_model.specs.pages.PageText.{block_line};
+ghost use Rattle.shop_model.specs.pages.ProductDetail as spec;
 ghost use Rattle.shop_model.specs.declared.page.Block.TheVariants as block;
 ghost use Rattle.shop_history.specs.declared.keys.Key.TheVariants as key_kinds;
 ghost use Rattle.shop_draft.specs.Drawing.{ids_at};
@@ -29,7 +29,7 @@ fn heading(page: &mut Template, item: &Item) -> Result<(), Memory>
     Ok(())
 }
 
-#[tactic(auto, using(shop_text::proofs::Plain::escape_append), unfolding(shop_model::specs::PageText::block_text, shop_model::specs::Products::author_line))]
+#[tactic(auto, using(shop_text::proofs::Plain::escape_append), unfolding(shop_model::specs::pages::PageText::block_text, shop_model::specs::pages::ProductDetail::author_line))]
 fn author_line(page: &mut Template, author: &Label) -> Result<(), Memory>
     ensures { OnOk result (Says page.old page.new (block_line (block.Para (spec.author_line (named author.now))))) }
 {
@@ -39,7 +39,7 @@ fn author_line(page: &mut Template, author: &Label) -> Result<(), Memory>
     Ok(())
 }
 
-#[tactic(auto, unfolding(shop_model::specs::PageText::block_text, shop_model::specs::Products::subject_line))]
+#[tactic(auto, unfolding(shop_model::specs::pages::PageText::block_text, shop_model::specs::pages::ProductDetail::subject_line))]
 fn subject_line(page: &mut Template, item: &Item) -> Result<(), Memory>
     ensures { OnOk result (Says page.old page.new (block_line (block.Para (spec.subject_line item.now)))) }
 {
@@ -66,7 +66,7 @@ fn picture(page: &mut Template, item: &Item) -> Result<(), Memory>
     Ok(())
 }
 
-#[tactic(auto, using(shop_text::proofs::Plain::escape_append), unfolding(shop_model::specs::PageText::block_text, shop_model::specs::Products::pages_line))]
+#[tactic(auto, using(shop_text::proofs::Plain::escape_append), unfolding(shop_model::specs::pages::PageText::block_text, shop_model::specs::pages::ProductDetail::pages_line))]
 fn pages_line(page: &mut Template, item: &Item) -> Result<(), Memory>
     ensures { OnOk result (Says page.old page.new (block_line (block.Para (spec.pages_line item.now)))) }
 {
@@ -77,7 +77,7 @@ fn pages_line(page: &mut Template, item: &Item) -> Result<(), Memory>
     Ok(())
 }
 
-#[tactic(auto, unfolding(shop_model::specs::PageText::block_text, shop_model::specs::Products::price_line))]
+#[tactic(auto, unfolding(shop_model::specs::pages::PageText::block_text, shop_model::specs::pages::ProductDetail::price_line))]
 fn price_line(page: &mut Template, item: &Item) -> Result<(), Memory>
     ensures { OnOk result (Says page.old page.new (block_line (block.Para (spec.price_line item.now)))) }
 {
@@ -90,7 +90,7 @@ fn price_line(page: &mut Template, item: &Item) -> Result<(), Memory>
 }
 
 /// Adds the picture, the pages, the prices and the way into the cart.
-#[tactic(auto, unfolding(shop_model::specs::Products::details))]
+#[tactic(auto, unfolding(shop_model::specs::pages::ProductDetail::details))]
 fn details(page: &mut Template, item: &Item, ids: PageIds) -> Result<(), Memory>
     ensures { OnOk result (Adds page.old page.new (λ drawn. flat_map block_line (spec.details item.now (ids_at drawn ids)))) }
 {
@@ -102,7 +102,7 @@ fn details(page: &mut Template, item: &Item, ids: PageIds) -> Result<(), Memory>
 }
 
 /// Writes the page of an item and its author.
-#[tactic(auto, unfolding(shop_model::specs::PageText::page_text, shop_model::specs::Products::product_page))]
+#[tactic(auto, unfolding(shop_model::specs::pages::PageText::page_text, shop_model::specs::pages::ProductDetail::product_page))]
 fn write_page(draft: &mut Draft, item: &Item, author: &Label, ids: PageIds) -> Result<(), Memory>
     ensures { OnOk result (Shows draft.new (λ drawn. spec.product_page item.now (named author.now) (ids_at drawn ids))) }
 {

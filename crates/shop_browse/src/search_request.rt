@@ -1,5 +1,5 @@
 ghost use Rattle.std.specs.Prelude.{◌≡◌, OnOk, codes};
-ghost use Rattle.shop_model.specs.PageText.{block_line};
+ghost use Rattle.shop_model.specs.pages.PageText.{block_line};
 ghost use Rattle.shop_model.specs.declared.page.Block.TheVariants as block;
 ghost use Rattle.shop_draft.specs.Drawing.{ids_at};
 ghost use Rattle.shop_draft.specs.Pages.{Shows};
@@ -21,7 +21,7 @@ use shop_text::Memory;
 use std::alloc::Global;
 
 /// Adds the heading.
-#[tactic(auto, unfolding(shop_model::specs::PageText::block_text))]
+#[tactic(auto, unfolding(shop_model::specs::pages::PageText::block_text))]
 fn heading(page: &mut Template) -> Result<(), Memory>
     ensures { OnOk result (Says page.old page.new (block_line (block.Heading (codes "Search")))) }
 {

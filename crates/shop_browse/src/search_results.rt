@@ -1,6 +1,6 @@
 ghost use Rattle.std.specs.Prelude.{◌≡◌, OnOk, codes};
 ghost use Rattle.std.specs.List.{flat_map};
-ghost use Rattle.shop_model.specs.PageText.{block_line};
+ghost use Rattle.shop_model.specs.pages.PageText.{block_line};
 ghost use Rattle.shop_draft.specs.Pages.{Shows};
 ghost use Rattle.shop_draft.specs.Templates.{Says};
 ghost use Rattle.shop_attempt.specs.Marks.{Looks};
@@ -19,7 +19,7 @@ use shop_text::Memory;
 use std::alloc::Global;
 
 /// Adds the heading, and what was searched for.
-#[tactic(auto, using(shop_text::proofs::Plain::escape_append), unfolding(shop_model::specs::PageText::block_text))]
+#[tactic(auto, using(shop_text::proofs::Plain::escape_append), unfolding(shop_model::specs::pages::PageText::block_text))]
 fn heading(page: &mut Template, asked: &SearchResults) -> Result<(), Memory>
     ensures { OnOk result (Says page.old page.new (flat_map block_line (head_of asked.now))) }
 {

@@ -5,7 +5,7 @@ use Rattle.std.proofs.lemmas.Grind.{flat_map-append}
 use Rattle.shop_text.specs.Escape.{escape}
 use Rattle.shop_text.proofs.Plain.{escape_append}
 use Rattle.shop_model.specs.declared.page.Page.{Page}
-use Rattle.shop_model.specs.PageText.{block_line, page_text}
+use Rattle.shop_model.specs.pages.PageText.{block_line, page_text}
 use Rattle.shop_draft.specs.Pages.{page_front, page_end}
 
 -- what was added in turn was added as one

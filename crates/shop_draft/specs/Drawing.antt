@@ -2,7 +2,7 @@
 use Rattle.std.specs.Prelude.{ℕ, ◌+◌, min, List, [], Option, Some, None, option_map, unwrap_or, decimal}
 use Rattle.shop_text.specs.Texts.{digsyl, day_text, escape}
 use Rattle.shop_model.specs.declared.requests.IdsAsked.{IdsAsked}
-use Rattle.shop_model.specs.Limits.{day_limit, day_of}
+use Rattle.shop_model.specs.rows.Limits.{day_limit, day_of}
 use Rattle.shop_history.specs.declared.acts.Drawn.{Drawn}
 use Rattle.shop_draft.specs.declared.holes.Hole.{Hole}
 use Rattle.shop_draft.specs.declared.holes.Hole.TheVariants.{CartId, CustomerId, OrderId, User, Day}

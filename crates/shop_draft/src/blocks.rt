@@ -1,7 +1,7 @@
 //! Blocks, and what stands around those of a page.
 ghost use Rattle.std.specs.Prelude.{◌≡◌, OnOk};
 ghost use Rattle.shop_text.specs.Texts.{escape};
-ghost use Rattle.shop_model.specs.PageText.{block_line};
+ghost use Rattle.shop_model.specs.pages.PageText.{block_line};
 ghost use Rattle.shop_model.specs.declared.page.Block.TheVariants as block;
 ghost use Rattle.shop_draft.specs.Pages.{page_front, page_end};
 ghost use Rattle.shop_draft.specs.Templates.{IsText, Says};
@@ -33,7 +33,7 @@ impl Template {
     }
 
     /// Adds a heading.
-    #[tactic(auto, unfolding(shop_model::specs::PageText::block_text))]
+    #[tactic(auto, unfolding(shop_model::specs::pages::PageText::block_text))]
     #[inline(always)]
     pub fn heading(&mut self, text: &Caption) -> Result<(), Memory>
         ensures { OnOk result (Says self.old self.new (block_line (block.Heading text.now))) }
@@ -44,7 +44,7 @@ impl Template {
     }
 
     /// Adds a paragraph.
-    #[tactic(auto, unfolding(shop_model::specs::PageText::block_text))]
+    #[tactic(auto, unfolding(shop_model::specs::pages::PageText::block_text))]
     #[inline(always)]
     pub fn para(&mut self, text: &Caption) -> Result<(), Memory>
         ensures { OnOk result (Says self.old self.new (block_line (block.Para text.now))) }
@@ -55,7 +55,7 @@ impl Template {
     }
 
     /// Adds a picture.
-    #[tactic(auto, unfolding(shop_model::specs::PageText::block_text))]
+    #[tactic(auto, unfolding(shop_model::specs::pages::PageText::block_text))]
     #[inline(always)]
     pub fn picture(&mut self, target: &Caption, label: &Caption) -> Result<(), Memory>
         ensures { OnOk result (Says self.old self.new (block_line (block.Picture target.now label.now))) }

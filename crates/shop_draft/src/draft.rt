@@ -1,5 +1,5 @@
 ghost use Rattle.std.specs.Prelude.{OnOk};
-ghost use Rattle.shop_model.specs.Refusals.{page_of};
+ghost use Rattle.shop_model.specs.asked.Refusals.{page_of};
 ghost use Rattle.shop_draft.specs.Pages.{Shows};
 
 use crate::Template;
@@ -14,7 +14,7 @@ pub struct Draft {
 }
 
 /// Writes the page of a refusal: the reason phrase as its title, and why.
-#[tactic(auto, unfolding(shop_model::specs::PageText::page_text, shop_model::specs::PageText::block_text, shop_model::specs::Refusals::refusal_page))]
+#[tactic(auto, unfolding(shop_model::specs::pages::PageText::page_text, shop_model::specs::pages::PageText::block_text, shop_model::specs::asked::Refusals::refusal_page))]
 pub fn refusal(draft: &mut Draft, refusal: Refusal) -> Result<(), Memory>
     ensures { OnOk result (Shows draft.new (λ drawn. page_of refusal)) }
 {

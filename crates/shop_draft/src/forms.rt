@@ -2,10 +2,10 @@
 ghost use Rattle.std.specs.Prelude.{◌≡◌, ◌++◌, OnOk, codes, map};
 ghost use Rattle.std.specs.List.{flat_map};
 ghost use Rattle.shop_text.specs.Texts.{escape};
-ghost use Rattle.shop_model.specs.Carts.{line_field};
-ghost use Rattle.shop_model.specs.PageText.{block_line, field_text};
-ghost use Rattle.shop_model.specs.Show as show;
-ghost use Rattle.shop_model.specs.Targets as spec;
+ghost use Rattle.shop_model.specs.pages.ShoppingCart.{line_field};
+ghost use Rattle.shop_model.specs.pages.PageText.{block_line, field_text};
+ghost use Rattle.shop_model.specs.pages.SearchRequest as show;
+ghost use Rattle.shop_model.specs.pages.Targets as spec;
 ghost use Rattle.shop_model.specs.declared.page.Block.TheVariants as block;
 ghost use Rattle.shop_draft.specs.Drawing.{id_at, ids_at, maybe_at};
 ghost use Rattle.shop_draft.specs.Templates.{Adds, Says};
@@ -15,7 +15,7 @@ use shop_text::Memory;
 
 impl Template {
     /// Adds the field of an id; its name is plain.
-    #[tactic(auto, unfolding(shop_model::specs::PageText::field_text))]
+    #[tactic(auto, unfolding(shop_model::specs::pages::PageText::field_text))]
     #[inline(always)]
     fn known_field(&mut self, name: &[u8], id: Id) -> Result<(), Memory>
         requires { escape name.now ≡ name.now }
@@ -42,7 +42,7 @@ impl Template {
     }
 
     /// Adds the fields of the ids that a page hands on.
-    #[tactic(auto, unfolding(shop_model::specs::Targets::id_fields))]
+    #[tactic(auto, unfolding(shop_model::specs::pages::Targets::id_fields))]
     pub fn id_fields(&mut self, ids: PageIds) -> Result<(), Memory>
         ensures { OnOk result (Adds self.old self.new (λ drawn. flat_map field_text (spec.id_fields (ids_at drawn ids)))) }
     {
@@ -52,7 +52,7 @@ impl Template {
     }
 
     /// Adds the field of a line's quantity.
-    #[tactic(auto, using(shop_text::proofs::Plain::escape_append), unfolding(shop_model::specs::PageText::field_text))]
+    #[tactic(auto, using(shop_text::proofs::Plain::escape_append), unfolding(shop_model::specs::pages::PageText::field_text))]
     #[inline(always)]
     fn line_field(&mut self, line: (u32, u32)) -> Result<(), Memory>
         ensures { OnOk result (Says self.old self.new (field_text (line_field line))) }
@@ -73,7 +73,7 @@ impl Template {
     }
 
     /// Adds the form of a cart with these lines.
-    #[tactic(auto, unfolding(shop_model::specs::PageText::block_text))]
+    #[tactic(auto, unfolding(shop_model::specs::pages::PageText::block_text))]
     pub fn cart_form(&mut self, lines: &[(u32, u32)], ids: PageIds) -> Result<(), Memory>
         ensures { OnOk result (Adds self.old self.new (λ drawn. block_line
             (block.Form (codes "/shopping_cart") (map line_field lines.now ++ spec.id_fields (ids_at drawn ids))))) }
@@ -86,7 +86,7 @@ impl Template {
     }
 
     /// Adds the form of a search by title.
-    #[tactic(auto, unfolding(shop_model::specs::PageText::block_text, shop_model::specs::PageText::field_text, shop_model::specs::Show::search_form))]
+    #[tactic(auto, unfolding(shop_model::specs::pages::PageText::block_text, shop_model::specs::pages::PageText::field_text, shop_model::specs::pages::SearchRequest::search_form))]
     pub fn search_form(&mut self, ids: PageIds) -> Result<(), Memory>
         ensures { OnOk result (Adds self.old self.new (λ drawn. block_line (show.search_form (ids_at drawn ids)))) }
     {

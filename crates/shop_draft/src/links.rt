@@ -2,9 +2,9 @@
 ghost use Rattle.std.specs.Prelude.{◌≡◌, ◌++◌, OnOk, codes};
 ghost use Rattle.std.specs.List.{flat_map};
 ghost use Rattle.shop_text.specs.Texts.{escape};
-ghost use Rattle.shop_model.specs.Lines.{line_label};
-ghost use Rattle.shop_model.specs.PageText.{block_line};
-ghost use Rattle.shop_model.specs.Targets as spec;
+ghost use Rattle.shop_model.specs.pages.Lists.{line_label};
+ghost use Rattle.shop_model.specs.pages.PageText.{block_line};
+ghost use Rattle.shop_model.specs.pages.Targets as spec;
 ghost use Rattle.shop_draft.specs.Drawing.{ids_at, maybe_at};
 ghost use Rattle.shop_draft.specs.Links.{marked, link_front};
 ghost use Rattle.shop_draft.specs.Templates.{Adds};
@@ -27,7 +27,7 @@ impl Template {
     }
 
     /// Adds the ids as the first parameters of a target.
-    #[tactic(auto, using(shop_text::proofs::Plain::escape_append), unfolding(shop_model::specs::Targets::pairs, shop_model::specs::Targets::id_fields))]
+    #[tactic(auto, using(shop_text::proofs::Plain::escape_append), unfolding(shop_model::specs::pages::Targets::pairs, shop_model::specs::pages::Targets::id_fields))]
     fn first_ids(&mut self, ids: PageIds) -> Result<(), Memory>
         ensures { OnOk result (Adds self.old self.new (λ drawn. escape (spec.pairs (codes "?") (spec.id_fields (ids_at drawn ids))))) }
     {
@@ -42,7 +42,7 @@ impl Template {
     }
 
     /// Adds the ids behind other parameters of a target.
-    #[tactic(auto, using(shop_text::proofs::Plain::escape_append), unfolding(shop_model::specs::Targets::pairs, shop_model::specs::Targets::id_fields))]
+    #[tactic(auto, using(shop_text::proofs::Plain::escape_append), unfolding(shop_model::specs::pages::Targets::pairs, shop_model::specs::pages::Targets::id_fields))]
     fn more_ids(&mut self, ids: PageIds) -> Result<(), Memory>
         ensures { OnOk result (Adds self.old self.new (λ drawn. escape (spec.pairs (codes "&") (spec.id_fields (ids_at drawn ids))))) }
     {
@@ -52,7 +52,7 @@ impl Template {
     }
 
     /// A link with no parameters but the ids; path and label are plain.
-    #[tactic(auto, using(shop_text::proofs::Plain::escape_append), unfolding(shop_model::specs::PageText::block_text))]
+    #[tactic(auto, using(shop_text::proofs::Plain::escape_append), unfolding(shop_model::specs::pages::PageText::block_text))]
     #[inline(always)]
     pub fn plain_link(&mut self, path: &[u8], ids: PageIds, label: &[u8]) -> Result<(), Memory>
         requires path { escape path.now ≡ path.now }
@@ -69,7 +69,7 @@ impl Template {
     }
 
     /// A link about an item up to its label; the path is plain.
-    #[tactic(auto, using(shop_text::proofs::Plain::escape_append), unfolding(shop_model::specs::Targets::pairs, crate::specs::Links::link_front))]
+    #[tactic(auto, using(shop_text::proofs::Plain::escape_append), unfolding(shop_model::specs::pages::Targets::pairs, crate::specs::Links::link_front))]
     #[inline(always)]
     pub fn item_front(&mut self, path: &[u8], item: u32, ids: PageIds) -> Result<(), Memory>
         requires path { escape path.now ≡ path.now }
@@ -84,7 +84,7 @@ impl Template {
     }
 
     /// A link about an item; path and label are plain.
-    #[tactic(auto, unfolding(shop_model::specs::PageText::block_text, crate::specs::Links::link_front))]
+    #[tactic(auto, unfolding(shop_model::specs::pages::PageText::block_text, crate::specs::Links::link_front))]
     #[inline(always)]
     pub fn item_link(
         &mut self,
@@ -104,7 +104,7 @@ impl Template {
     }
 
     /// A link about an item, labelled with its title; the path is plain.
-    #[tactic(auto, unfolding(shop_model::specs::PageText::block_text, crate::specs::Links::link_front))]
+    #[tactic(auto, unfolding(shop_model::specs::pages::PageText::block_text, crate::specs::Links::link_front))]
     pub fn title_link(
         &mut self,
         path: &[u8],
@@ -122,7 +122,7 @@ impl Template {
     }
 
     /// A link about an item, labelled with its title and the names of its author; the path is plain.
-    #[tactic(auto, using(shop_text::proofs::Plain::escape_append), unfolding(shop_model::specs::PageText::block_text, shop_model::specs::Lines::line_label, crate::specs::Links::link_front))]
+    #[tactic(auto, using(shop_text::proofs::Plain::escape_append), unfolding(shop_model::specs::pages::PageText::block_text, shop_model::specs::pages::Lists::line_label, crate::specs::Links::link_front))]
     pub fn author_link(
         &mut self,
         path: &[u8],
@@ -145,7 +145,7 @@ impl Template {
     }
 
     /// A link about a subject up to its label; the path is plain.
-    #[tactic(auto, using(shop_text::proofs::Plain::escape_append), unfolding(shop_model::specs::Targets::pairs, crate::specs::Links::link_front))]
+    #[tactic(auto, using(shop_text::proofs::Plain::escape_append), unfolding(shop_model::specs::pages::Targets::pairs, crate::specs::Links::link_front))]
     #[inline(always)]
     fn subject_front(&mut self, path: &[u8], subject: Subject, ids: PageIds) -> Result<(), Memory>
         requires path { escape path.now ≡ path.now }
@@ -160,7 +160,7 @@ impl Template {
     }
 
     /// A link about a subject, whose name ends the label; path and label are plain.
-    #[tactic(auto, using(shop_text::proofs::Plain::escape_append), unfolding(shop_model::specs::PageText::block_text, crate::specs::Links::link_front))]
+    #[tactic(auto, using(shop_text::proofs::Plain::escape_append), unfolding(shop_model::specs::pages::PageText::block_text, crate::specs::Links::link_front))]
     pub fn subject_link(
         &mut self,
         path: &[u8],
@@ -179,7 +179,7 @@ impl Template {
     }
 
     /// The links that end each page.
-    #[tactic(auto, unfolding(shop_model::specs::Targets::nav))]
+    #[tactic(auto, unfolding(shop_model::specs::pages::Targets::nav))]
     pub fn nav(&mut self, ids: PageIds) -> Result<(), Memory>
         ensures { OnOk result (Adds self.old self.new (λ drawn. flat_map block_line (spec.nav (ids_at drawn ids)))) }
     {

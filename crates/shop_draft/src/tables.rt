@@ -1,7 +1,7 @@
 //! Cells, and the rows of a cart's lines.
 ghost use Rattle.std.specs.Prelude.{◌≡◌, ◌∷◌, [], OnOk, decimal};
 ghost use Rattle.shop_text.specs.Texts.{cents_text};
-ghost use Rattle.shop_model.specs.PageText.{cell_text, row_text};
+ghost use Rattle.shop_model.specs.pages.PageText.{cell_text, row_text};
 ghost use Rattle.shop_draft.specs.Templates.{Says};
 
 use crate::Template;

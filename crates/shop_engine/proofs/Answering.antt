@@ -5,8 +5,8 @@ use Rattle.shop_edges.specs.Clocks.{Tells}
 use Rattle.shop_message.specs.declared.messages.Message.{Message}
 use Rattle.shop_model.specs.declared.requests.Request.{Request}
 use Rattle.shop_model.specs.declared.tables.Tables.{Tables}
-use Rattle.shop_model.specs.Catalogues.{Catalogue, catalogue}
-use Rattle.shop_model.specs.Limits.{stamp_limit}
+use Rattle.shop_model.specs.lists.Catalogues.{Catalogue, catalogue}
+use Rattle.shop_model.specs.rows.Limits.{stamp_limit}
 use Rattle.shop_history.specs.Lawful.{IsLawful}
 use Rattle.shop_history.proofs.Goods.{sound_throughout}
 use Rattle.shop_attempt.specs.Seats.{Seat, Follows, IsSeat}

@@ -15,7 +15,7 @@ use Rattle.shop_attempt.specs.Seats.{Seat, Follows}
 use Rattle.shop_pages.specs.declared.reply.Form.{Form}
 use Rattle.shop_pages.specs.Replies.{reply}
 use Rattle.shop_model.specs.declared.refusal.Refusal.TheVariants.{RowsKeptChanging}
-use Rattle.shop_model.specs.Refusals.{page_of}
+use Rattle.shop_model.specs.asked.Refusals.{page_of}
 use Rattle.shop_engine.specs.declared.report.PointKind.{PointKind}
 use Rattle.shop_engine.specs.declared.report.PointKind.TheVariants.{Plain, At, Change, Busy, Full}
 use Rattle.shop_engine.specs.declared.tries.Outcome.{Outcome}

@@ -3,7 +3,7 @@ use Rattle.std.specs.Prelude.{◌≡◌, ℕ, ◌+◌, ◌<◌, ◌⊎◌, List,
 use Rattle.std.specs.List.{concat}
 use Rattle.std.specs.Io.KnownBytes.{Appends, Consumes, IsAtEnd}
 use Rattle.shop_model.specs.declared.refusal.Refusal.{Refusal}
-use Rattle.shop_model.specs.Refusals.{page_of, status_of}
+use Rattle.shop_model.specs.asked.Refusals.{page_of, status_of}
 use Rattle.shop_pages.specs.Replies.{reply}
 use Rattle.shop_message.specs.declared.messages.Message.{Message}
 use Rattle.shop_message.specs.Messages.{Begin, Between, Inside, Refusing, StopsAt}

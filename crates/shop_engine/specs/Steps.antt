@@ -6,9 +6,9 @@ use Rattle.shop_edges.specs.Clocks.{Tells}
 use Rattle.shop_message.specs.declared.messages.Message.{Message}
 use Rattle.shop_model.specs.declared.page.Page.{Page}
 use Rattle.shop_model.specs.declared.requests.Request.{Request}
-use Rattle.shop_model.specs.Limits.{stamp_limit}
-use Rattle.shop_model.specs.Refusals.{page_of}
-use Rattle.shop_model.specs.Words.{word}
+use Rattle.shop_model.specs.rows.Limits.{stamp_limit}
+use Rattle.shop_model.specs.asked.Refusals.{page_of}
+use Rattle.shop_model.specs.population.Words.{word}
 use Rattle.shop_history.specs.declared.acts.Entry.{Entry}
 use Rattle.shop_http.specs.declared.requests.Refusal.{Refusal}
 use Rattle.shop_http.specs.Requests.{asked, told_by}

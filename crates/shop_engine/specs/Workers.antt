@@ -1,7 +1,7 @@
 -- What contracts see of a worker.
 use Rattle.std.specs.Prelude.{◌≡◌, ℕ, List, length, Option}
-use Rattle.shop_model.specs.Catalogues.{Catalogue, catalogue}
-use Rattle.shop_model.specs.Scales.{ScaleRow}
+use Rattle.shop_model.specs.lists.Catalogues.{Catalogue, catalogue}
+use Rattle.shop_model.specs.population.Scales.{ScaleRow}
 use Rattle.shop_attempt.specs.Seats.{Seat, IsSeat}
 
 -- whose requests it serves, and what their words are drawn by

@@ -1,5 +1,5 @@
 ghost use Rattle.std.specs.Prelude.{◌≡◌, OnOk};
-ghost use Rattle.shop_model.specs.Refusals.{page_of};
+ghost use Rattle.shop_model.specs.asked.Refusals.{page_of};
 ghost use Rattle.shop_pages.specs.Replies as replies;
 
 use shop_draft::refusal as write_refusal;

@@ -1,5 +1,5 @@
 ghost use Rattle.std.specs.Prelude.{◌≤◌, [], IfSome, IsNone};
-ghost use Rattle.shop_model.specs.Limits.{stamp_limit};
+ghost use Rattle.shop_model.specs.rows.Limits.{stamp_limit};
 ghost use Rattle.shop_attempt.specs.Marks.{KeepsMarks};
 ghost use Rattle.shop_browse.specs.Attempts.{Suits};
 ghost use Rattle.shop_pages.specs.Replies.{bytes_of};

@@ -39,7 +39,7 @@ pub struct Worker<St: Store> {
 impl<St: Store> Model for Worker<St> {
     ghost use Rattle.std.specs.Arc.{arc_value};
     ghost use Rattle.std.specs.Prelude.{◌≤◌};
-    ghost use Rattle.shop_model.specs.Limits.{stamp_limit};
+    ghost use Rattle.shop_model.specs.rows.Limits.{stamp_limit};
     ghost use Rattle.shop_engine.specs.Workers.{WorkerState, IsPosted};
 
     ghost Value = { WorkerState St };
@@ -71,8 +71,8 @@ struct Accepted {
 
 impl<St: Store> Worker<St> {
     ghost use Rattle.std.specs.Prelude.{◌≡◌, ◌≤◌, min, max, [], IfOk, IfSome, IsNone, OnOk};
-    ghost use Rattle.shop_model.specs.Limits.{stamp_limit};
-    ghost use Rattle.shop_model.specs.Refusals.{page_of};
+    ghost use Rattle.shop_model.specs.rows.Limits.{stamp_limit};
+    ghost use Rattle.shop_model.specs.asked.Refusals.{page_of};
     ghost use Rattle.shop_edges.specs.Causes.{count_up};
     ghost use Rattle.shop_attempt.specs.Marks.{KeepsMarks};
     ghost use Rattle.shop_pages.specs.Replies as replies;

@@ -6,13 +6,13 @@ use Rattle.shop_log.proofs.Extending.{extends_length, take_extends}
 use Rattle.shop_log.proofs.Legality as legality
 use Rattle.shop_log.proofs.Legality.{legal_front}
 use Rattle.shop_model.specs.declared.tables.Tables.{Tables}
-use Rattle.shop_model.specs.CartAsked.{CartAsked}
-use Rattle.shop_model.specs.Carts.{check_cart, check_asked, lines_named, lines_after, cart_lines, carts_with}
-use Rattle.shop_model.specs.Checks.{check}
-use Rattle.shop_model.specs.Limits.{stamp_limit, restocks_limit}
-use Rattle.shop_model.specs.Lookups.{row_numbered}
-use Rattle.shop_model.specs.Rows.{CartRow}
-use Rattle.shop_model.specs.Sound.{Sound, Room}
+use Rattle.shop_model.specs.asked.CartAsked.{CartAsked}
+use Rattle.shop_model.specs.trade.Carts.{check_cart, check_asked, lines_named, lines_after, cart_lines, carts_with}
+use Rattle.shop_model.specs.asked.Checks.{check}
+use Rattle.shop_model.specs.rows.Limits.{stamp_limit, restocks_limit}
+use Rattle.shop_model.specs.rows.Lookups.{row_numbered}
+use Rattle.shop_model.specs.rows.Rows.{CartRow}
+use Rattle.shop_model.specs.rows.Sound.{Sound, Room}
 use Rattle.shop_history.specs.declared.acts.Act.{Act}
 use Rattle.shop_history.specs.declared.acts.Act.TheVariants.{Cart}
 use Rattle.shop_history.specs.declared.acts.Entry.{Entry}

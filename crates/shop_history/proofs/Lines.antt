@@ -5,10 +5,10 @@ use Rattle.std.proofs.lemmas.List.Elements.{All-nil, All-cons}
 use Rattle.std.proofs.lemmas.List.Kept.{AllPairs-cons}
 use Rattle.std.proofs.lemmas.Nat.{mod_below}
 use Rattle.shop_model.specs.declared.refusal.Refusal.{Refusal}
-use Rattle.shop_model.specs.CartAsked.{CartAsked}
-use Rattle.shop_model.specs.Carts.{set_line, set_lines, wanted, or_drawn, cart_lines, is_too_many, check_line, first_of, check_lines}
-use Rattle.shop_model.specs.Limits.{lines_limit, quantity_limit}
-use Rattle.shop_model.specs.Sound.{Has, IsQuantity}
+use Rattle.shop_model.specs.asked.CartAsked.{CartAsked}
+use Rattle.shop_model.specs.trade.Carts.{set_line, set_lines, wanted, or_drawn, cart_lines, is_too_many, check_line, first_of, check_lines}
+use Rattle.shop_model.specs.rows.Limits.{lines_limit, quantity_limit}
+use Rattle.shop_model.specs.rows.Sound.{Has, IsQuantity}
 use Rattle.shop_model.proofs.SetLines.{set_line_all, set_line_few}
 
 -- lines of distinct items

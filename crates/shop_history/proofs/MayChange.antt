@@ -2,13 +2,13 @@
 use Rattle.std.proofs.Common.{◌≡◌, ◌≢◌, ℕ, ◌+◌, List, length, Option, Some, None, option_map, Contains, ◌⊎◌, inl, inr, ⊎_elim, refl, sym, ap, arith}
 use Rattle.std.proofs.lemmas.Bool.{cases_eq}
 use Rattle.shop_model.specs.declared.tables.Tables.{Tables}
-use Rattle.shop_model.specs.CartAsked.{CartAsked}
-use Rattle.shop_model.specs.Carts.{check_asked, lines_named, lines_after, cart_meant, carts_with}
-use Rattle.shop_model.specs.Checks.{check}
-use Rattle.shop_model.specs.Lookups.{row_numbered}
-use Rattle.shop_model.specs.Rankings.{newest, best, sold_lately}
-use Rattle.shop_model.specs.Rows.{CartRow}
-use Rattle.shop_model.specs.Sound.{Sound}
+use Rattle.shop_model.specs.asked.CartAsked.{CartAsked}
+use Rattle.shop_model.specs.trade.Carts.{check_asked, lines_named, lines_after, cart_meant, carts_with}
+use Rattle.shop_model.specs.asked.Checks.{check}
+use Rattle.shop_model.specs.rows.Lookups.{row_numbered}
+use Rattle.shop_model.specs.lists.Rankings.{newest, best, sold_lately}
+use Rattle.shop_model.specs.rows.Rows.{CartRow}
+use Rattle.shop_model.specs.rows.Sound.{Sound}
 use Rattle.shop_history.specs.declared.acts.Act.{Act}
 use Rattle.shop_history.specs.declared.acts.Act.TheVariants.{Cart}
 use Rattle.shop_history.specs.declared.keys.Key as key

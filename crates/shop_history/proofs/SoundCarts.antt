@@ -6,9 +6,9 @@ use Rattle.std.proofs.lemmas.List.{length-map, map-append}
 use Rattle.std.proofs.lemmas.List.Elements.{All-weaker, All-push, All-set}
 use Rattle.std.proofs.lemmas.Option.{get_or_from_slice_get}
 use Rattle.shop_model.specs.declared.tables.Tables.{Tables}
-use Rattle.shop_model.specs.Lookups.{row_numbered}
-use Rattle.shop_model.specs.Rows.{CartRow}
-use Rattle.shop_model.specs.Sound.{Sound, IsFit, IsStocked, Runs, OrderNames}
+use Rattle.shop_model.specs.rows.Lookups.{row_numbered}
+use Rattle.shop_model.specs.rows.Rows.{CartRow}
+use Rattle.shop_model.specs.rows.Sound.{Sound, IsFit, IsStocked, Runs, OrderNames}
 use Rattle.shop_history.proofs.Lines.{AreFit}
 use Rattle.shop_history.proofs.Places.{IsThere, is_there, id_numbered}
 

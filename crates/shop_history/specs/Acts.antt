@@ -4,8 +4,9 @@ use Rattle.shop_model.specs.declared.page.Page.{Page}
 use Rattle.shop_model.specs.declared.requests.Request.{Request}
 use Rattle.shop_model.specs.declared.requests.Request.TheVariants.{CartRequest}
 use Rattle.shop_model.specs.declared.tables.Tables.{Tables}
-use Rattle.shop_model.specs.CartAsked.{CartAsked, IsCartAsked}
-use Rattle.shop_model.specs.Carts.{lines_after, cart_meant, carts_with, cart_page, ids_with}
+use Rattle.shop_model.specs.asked.CartAsked.{CartAsked, IsCartAsked}
+use Rattle.shop_model.specs.trade.Carts.{lines_after, cart_meant, carts_with}
+use Rattle.shop_model.specs.pages.ShoppingCart.{cart_page, ids_with}
 use Rattle.shop_history.specs.declared.acts.Act.{Act}
 use Rattle.shop_history.specs.declared.acts.Act.TheVariants.{Cart}
 

@@ -1,9 +1,9 @@
 -- What keys show.
 use Rattle.std.specs.Prelude.{Bool, true, false, Option, Some, None}
 use Rattle.shop_model.specs.declared.tables.Tables.{Tables}
-use Rattle.shop_model.specs.Lookups.{row_numbered, author_of}
-use Rattle.shop_model.specs.Rankings.{newest, best}
-use Rattle.shop_model.specs.Rows.{ItemRow}
+use Rattle.shop_model.specs.rows.Lookups.{row_numbered, author_of}
+use Rattle.shop_model.specs.lists.Rankings.{newest, best}
+use Rattle.shop_model.specs.rows.Rows.{ItemRow}
 use Rattle.shop_history.specs.declared.keys.Key as key
 use Rattle.shop_history.specs.declared.keys.Key.{Key}
 use Rattle.shop_history.specs.Labels.{LabelRow}

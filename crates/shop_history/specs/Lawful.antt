@@ -1,7 +1,7 @@
 -- What holds of a shop at all times.
 use Rattle.std.specs.Prelude.{ℕ, List, take}
 use Rattle.shop_model.specs.declared.tables.Tables.{Tables}
-use Rattle.shop_model.specs.Sound.{Sound}
+use Rattle.shop_model.specs.rows.Sound.{Sound}
 use Rattle.shop_history.specs.declared.acts.Entry.{Entry}
 use Rattle.shop_history.specs.Logs.{tables, Legal}
 

@@ -1,7 +1,7 @@
 -- Which keys an act can change; what every other key shows stays.
 use Rattle.std.specs.Prelude.{List, [], ◌∷◌}
 use Rattle.shop_model.specs.declared.tables.Tables.{Tables}
-use Rattle.shop_model.specs.Carts.{cart_meant}
+use Rattle.shop_model.specs.trade.Carts.{cart_meant}
 use Rattle.shop_history.specs.declared.acts.Act as act
 use Rattle.shop_history.specs.declared.acts.Act.{Act}
 use Rattle.shop_history.specs.declared.keys.Key as key

@@ -6,7 +6,7 @@ use Rattle.std.specs.Str.{bytes_eq}
 use Rattle.std.proofs.lemmas.List.Folds.{find-append}
 use Rattle.shop_model.specs.declared.parameter.Parameter.{Parameter}
 use Rattle.shop_model.specs.declared.parameter.Parameter.TheVariants.{C, Cart, Item, Qty, Subject, Kind, Text}
-use Rattle.shop_model.specs.Parameters.{parameter_name}
+use Rattle.shop_model.specs.asked.Parameters.{parameter_name}
 use Rattle.shop_http.specs.Firsts.{Firsts, firsts_of, behind, first}
 use Rattle.shop_http.specs.Forms.{Pair, decoded_text, decoded, value_named, value_of}
 

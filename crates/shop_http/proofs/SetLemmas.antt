@@ -4,7 +4,7 @@ use Rattle.std.specs.List.{filter_map}
 use Rattle.std.specs.Option.{option_map, option_and_then}
 use Rattle.std.proofs.lemmas.Bool.{le-leb, lt-leb}
 use Rattle.std.proofs.lemmas.Iterator.Adapters.{option_map_id}
-use Rattle.shop_model.specs.Limits.{sets_limit}
+use Rattle.shop_model.specs.rows.Limits.{sets_limit}
 use Rattle.shop_http.specs.Forms.{Pair}
 use Rattle.shop_http.specs.Sets.{set_asked, all_of, few, sets_behind, sets_asked}
 

@@ -7,8 +7,8 @@ use Rattle.std.specs.Str.{bytes_eq}
 use Rattle.std.specs.Str.Lossy.{utf8_lossy}
 use Rattle.form_urlencoded.specs.Form.{decode, parse}
 use Rattle.shop_model.specs.declared.parameter.Parameter.{Parameter}
-use Rattle.shop_model.specs.Limits.{text_limit}
-use Rattle.shop_model.specs.Parameters.{parameter_name}
+use Rattle.shop_model.specs.rows.Limits.{text_limit}
+use Rattle.shop_model.specs.asked.Parameters.{parameter_name}
 
 -- a name and a value
 abbrev pub Pair : Type 0

@@ -11,9 +11,9 @@ use Rattle.shop_model.specs.declared.parameter.Parameter.TheVariants.{C, Cart, I
 use Rattle.shop_model.specs.declared.requests.IdsAsked.{IdsAsked}
 use Rattle.shop_model.specs.declared.requests.Request.{Request}
 use Rattle.shop_model.specs.declared.requests.Request.TheVariants as request
-use Rattle.shop_model.specs.Interactions.{interaction_of}
-use Rattle.shop_model.specs.Kinds.{kind_of}
-use Rattle.shop_model.specs.Subjects.{subject_of}
+use Rattle.shop_model.specs.asked.Interactions.{interaction_of}
+use Rattle.shop_model.specs.asked.Kinds.{kind_of}
+use Rattle.shop_model.specs.rows.Subjects.{subject_of}
 use Rattle.shop_message.specs.declared.messages.Message.{Message}
 use Rattle.shop_model.specs.declared.refusal.Refusal as told
 use Rattle.shop_model.specs.declared.refusal.Refusal.TheVariants as page

@@ -2,7 +2,7 @@ ghost use Rattle.std.specs.Prelude.{◌≡◌, None, Ok, [], OnOk, take};
 ghost use Rattle.matchit.specs.Order.{placed};
 ghost use Rattle.matchit.specs.Route.{parse_route};
 ghost use Rattle.matchit.specs.Router.{nearest};
-ghost use Rattle.shop_model.specs.Interactions.{interaction_of, path_of, paths};
+ghost use Rattle.shop_model.specs.asked.Interactions.{interaction_of, path_of, paths};
 ghost use Rattle.shop_http.specs.Routes.{FindsAll, row_of, rows_of, plain_scan};
 
 use matchit::{InsertError, Router};

@@ -1,7 +1,7 @@
 -- The digits of a number, written from the last.
 use Rattle.std.proofs.Common.{◌≡◌, ℕ, zero, suc, ◌+◌, ◌-◌, ◌/◌, ◌%◌, ◌<◌, ◌≤◌, List, [], ◌∷◌, ◌++◌, length, drop, set, arith, refl, append_assoc, add-one}
 use Rattle.std.proofs.lemmas.List.{drop-set}
-use Rattle.shop_model.specs.AuthIds.{digits}
+use Rattle.shop_model.specs.rows.AuthIds.{digits}
 
 -- one digit more, before those that are written
 pub digits_more : (place n : ℕ) (written : List ℕ) → 0 < place → place ≤ length written

@@ -5,8 +5,8 @@ use Rattle.std.proofs.lemmas.Bool.{ne_eqb}
 use Rattle.std.proofs.lemmas.List.{map-append, take_more, length-take, get_or-take}
 use Rattle.std.proofs.lemmas.List.FromFn.{length-map-range_with_len}
 use Rattle.std.proofs.lemmas.List.Elements.{filter-append, All-map, All-filter}
-use Rattle.shop_model.specs.Rows.{OrderRow}
-use Rattle.shop_model.specs.Sound.{Has, Runs, last_of}
+use Rattle.shop_model.specs.rows.Rows.{OrderRow}
+use Rattle.shop_model.specs.rows.Sound.{Has, Runs, last_of}
 use Rattle.shop_model.proofs.Lists.{all_head, all_tail, id_of_place}
 
 fold_last : (a n : ℕ) (ids : List ℕ) → a ≤ n → All (λ i. i ≤ n) ids → fold max a (ids ++ n ∷ []) ≡ n

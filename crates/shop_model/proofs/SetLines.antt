@@ -4,8 +4,8 @@ use Rattle.std.specs.Map.{lookup}
 use Rattle.std.proofs.lemmas.Bool.{eqb-true, eqb-false, ltb-true, not-false, cond_both}
 use Rattle.std.proofs.lemmas.Grind.{common_steps}
 use Rattle.std.proofs.lemmas.List.Elements.{All-cons, All-head, All-tail}
-use Rattle.shop_model.specs.Carts.{set_line, is_too_many}
-use Rattle.shop_model.specs.Limits.{lines_limit}
+use Rattle.shop_model.specs.trade.Carts.{set_line, is_too_many}
+use Rattle.shop_model.specs.rows.Limits.{lines_limit}
 
 -- what holds of all lines, and of the new one, holds of all lines after
 pub set_line_all : (P : ℕ × ℕ → Type 0) (item quantity : ℕ) (lines : List (ℕ × ℕ)) → (quantity ≢ 0 → P (item, quantity)) → All P lines → All P (set_line item quantity lines)

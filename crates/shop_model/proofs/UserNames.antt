@@ -2,9 +2,9 @@
 use Rattle.std.proofs.Common.{◌≢◌, ◌<◌, ◌^◌, length, get_or, arith, ◌∙◌, sym}
 use Rattle.std.specs.List.{AllPairs}
 use Rattle.std.proofs.lemmas.List.{length-map}
-use Rattle.shop_model.specs.Rows.{CustomerRow}
+use Rattle.shop_model.specs.rows.Rows.{CustomerRow}
 use Rattle.shop_model.specs.declared.tables.Tables.{Tables}
-use Rattle.shop_model.specs.Sound.{Sound}
+use Rattle.shop_model.specs.rows.Sound.{Sound}
 use Rattle.shop_model.proofs.Digsyls.{digsyl_injective}
 use Rattle.shop_model.proofs.Lists.{id_of_place}
 

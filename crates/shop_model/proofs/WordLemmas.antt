@@ -2,8 +2,8 @@
 use Rattle.std.proofs.Common.{◌≡◌, ℕ, ◌+◌, ◌*◌, ◌%◌, ◌^◌, ◌<◌, refl, ap, add-one, ◌∙◌, arith, true, false, ◌⊎◌, inl, inr}
 use Rattle.rand_pcg.specs.Lcg.{Lcg, state_after, started, increment_of}
 use Rattle.rand_pcg.specs.Pcg.{multiplier_64, pcg32}
-use Rattle.shop_model.specs.Scales.{ScaleRow, is_desk}
-use Rattle.shop_model.specs.Words.{desk_word, pcg_word, word, Drawing, to_come}
+use Rattle.shop_model.specs.population.Scales.{ScaleRow, is_desk}
+use Rattle.shop_model.specs.population.Words.{desk_word, pcg_word, word, Drawing, to_come}
 
 -- the words to come of a new generator are those of its row
 pub first_words : (seed : ℕ) (scale : ScaleRow) (table row : ℕ) (rng : Lcg)

@@ -8,7 +8,7 @@ pub struct AuthId {
 
 impl Model for AuthId {
     ghost use Rattle.std.specs.Prelude.{ℕ, List};
-    ghost use Rattle.shop_model.specs.AuthIds.{IsAuthId};
+    ghost use Rattle.shop_model.specs.rows.AuthIds.{IsAuthId};
 
     ghost Value = { List ℕ };
 
@@ -21,7 +21,7 @@ impl Model for AuthId {
 
 impl AuthId {
     ghost use Rattle.std.specs.Prelude.{◌≡◌, ◌<◌, ◌^◌};
-    ghost use Rattle.shop_model.specs.AuthIds as spec;
+    ghost use Rattle.shop_model.specs.rows.AuthIds as spec;
 
     /// The digits of a number, with leading zeros.
     pub fn of(number: u64) -> AuthId

@@ -25,11 +25,11 @@ pub struct CardUse {
 }
 
 impl Model for CardUse {
-    ghost use Rattle.shop_model.specs.Rows.{CardUseRow, IsCardUse};
+    ghost use Rattle.shop_model.specs.rows.Rows.{CardUseRow, IsCardUse};
 
     ghost Value = { CardUseRow };
 
-    ghost use Rattle.shop_model.specs.CardUseView.{row_of};
+    ghost use Rattle.shop_model.specs.rows.CardUseView.{row_of};
 
     ghost view = { row_of };
 

@@ -12,11 +12,11 @@ pub struct Cart {
 }
 
 impl Model for Cart {
-    ghost use Rattle.shop_model.specs.Rows.{CartRow, IsCart};
+    ghost use Rattle.shop_model.specs.rows.Rows.{CartRow, IsCart};
 
     ghost Value = { CartRow };
 
-    ghost use Rattle.shop_model.specs.CartView.{row_of};
+    ghost use Rattle.shop_model.specs.rows.CartView.{row_of};
 
     ghost view = { row_of };
 

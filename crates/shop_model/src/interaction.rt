@@ -1,5 +1,5 @@
 ghost use Rattle.std.specs.Prelude.{◌≡◌};
-ghost use Rattle.shop_model.specs.Interactions as spec;
+ghost use Rattle.shop_model.specs.asked.Interactions as spec;
 
 /// The web interactions that are served.
 #[derive(Clone, Copy, Debug, PartialEq, Eq)]

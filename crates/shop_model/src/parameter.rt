@@ -1,5 +1,5 @@
 ghost use Rattle.std.specs.Prelude.{◌≡◌};
-ghost use Rattle.shop_model.specs.Parameters as spec;
+ghost use Rattle.shop_model.specs.asked.Parameters as spec;
 
 /// The parameters of requests.
 #[derive(Clone, Copy, Debug, PartialEq, Eq)]

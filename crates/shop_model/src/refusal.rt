@@ -1,5 +1,5 @@
 ghost use Rattle.std.specs.Prelude.{◌≡◌, IfOk};
-ghost use Rattle.shop_model.specs.Refusals as spec;
+ghost use Rattle.shop_model.specs.asked.Refusals as spec;
 
 use crate::{Block, Page, Parameter};
 use shop_text::{Listed, Memory, Text};
@@ -124,7 +124,7 @@ impl Refusal {
 }
 
 /// The page of a refusal: the reason phrase as its title, and why.
-#[tactic(auto, unfolding(crate::specs::Refusals::refusal_page))]
+#[tactic(auto, unfolding(crate::specs::asked::Refusals::refusal_page))]
 pub fn refusal_page(alloc: Global, refusal: Refusal) -> Result<Page, Memory>
     ensures { IfOk result (λ page. page ≡ spec.page_of refusal) }
 {

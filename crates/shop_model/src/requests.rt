@@ -1,5 +1,5 @@
 ghost use Rattle.std.specs.Prelude.{◌≡◌};
-ghost use Rattle.shop_model.specs.Kinds.{kind_of, kind_name};
+ghost use Rattle.shop_model.specs.asked.Kinds.{kind_of, kind_name};
 
 use crate::Subject;
 use shop_text::{Listed, Text};
@@ -89,11 +89,11 @@ pub struct SearchResults {
 }
 
 impl Model for SearchResults {
-    ghost use Rattle.shop_model.specs.SearchAsked.{SearchAsked, IsSearchAsked};
+    ghost use Rattle.shop_model.specs.asked.SearchAsked.{SearchAsked, IsSearchAsked};
 
     ghost Value = { SearchAsked };
 
-    ghost use Rattle.shop_model.specs.SearchResultsView.{asked_of};
+    ghost use Rattle.shop_model.specs.asked.SearchResultsView.{asked_of};
 
     ghost view = { asked_of };
 
@@ -112,11 +112,11 @@ pub struct CartRequest {
 }
 
 impl Model for CartRequest {
-    ghost use Rattle.shop_model.specs.CartAsked.{CartAsked, IsCartAsked};
+    ghost use Rattle.shop_model.specs.asked.CartAsked.{CartAsked, IsCartAsked};
 
     ghost Value = { CartAsked };
 
-    ghost use Rattle.shop_model.specs.CartRequestView.{asked_of};
+    ghost use Rattle.shop_model.specs.asked.CartRequestView.{asked_of};
 
     ghost view = { asked_of };
 

@@ -6,13 +6,14 @@ use Rattle.std.proofs.lemmas.List.Elements.{All-nil, All-cons, All-map}
 use Rattle.shop_model.specs.declared.refusal.Refusal.{Refusal}
 use Rattle.shop_model.specs.declared.requests.Request.TheVariants.{CartRequest}
 use Rattle.shop_model.specs.declared.tables.Tables.{Tables}
-use Rattle.shop_model.specs.CartAsked.{CartAsked}
-use Rattle.shop_model.specs.Carts.{set_lines, wanted, cart_lines, check_cart, check_asked, check_lines, lines_named, lines_after, cart_meant, carts_with, cart_page, ids_with}
-use Rattle.shop_model.specs.Lookups.{row_numbered}
-use Rattle.shop_model.specs.Refusals.{page_of}
-use Rattle.shop_model.specs.Rows.{CartRow}
-use Rattle.shop_model.specs.Show.{show, refused_or}
-use Rattle.shop_model.specs.Sound.{Sound, IsFit}
+use Rattle.shop_model.specs.asked.CartAsked.{CartAsked}
+use Rattle.shop_model.specs.trade.Carts.{set_lines, wanted, cart_lines, check_cart, check_asked, check_lines, lines_named, lines_after, cart_meant, carts_with}
+use Rattle.shop_model.specs.pages.ShoppingCart.{cart_page, ids_with}
+use Rattle.shop_model.specs.rows.Lookups.{row_numbered}
+use Rattle.shop_model.specs.asked.Refusals.{page_of}
+use Rattle.shop_model.specs.rows.Rows.{CartRow}
+use Rattle.shop_model.specs.pages.Show.{show, refused_or}
+use Rattle.shop_model.specs.rows.Sound.{Sound, IsFit}
 use Rattle.shop_history.specs.declared.acts.Act.TheVariants.{Cart}
 use Rattle.shop_history.specs.declared.acts.Drawn.{Drawn}
 use Rattle.shop_history.specs.declared.acts.Entry.{Entry}

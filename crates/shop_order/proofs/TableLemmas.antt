@@ -5,10 +5,10 @@ use Rattle.std.proofs.Math.Nat.{mul-le-mul}
 use Rattle.std.proofs.lemmas.List.{append-nil, length-map, get_or-map, map_more}
 use Rattle.std.proofs.lemmas.List.Sums.{sum_by_more}
 use Rattle.shop_model.specs.declared.tables.Tables.{Tables}
-use Rattle.shop_model.specs.Carts.{line_cells, line_cost}
-use Rattle.shop_model.specs.Lookups.{row_numbered, title_of, cost_of}
-use Rattle.shop_model.specs.PageText.{row_text}
-use Rattle.shop_model.specs.Rows.{ItemRow}
+use Rattle.shop_model.specs.pages.ShoppingCart.{line_cells, line_cost}
+use Rattle.shop_model.specs.rows.Lookups.{row_numbered, title_of, cost_of}
+use Rattle.shop_model.specs.pages.PageText.{row_text}
+use Rattle.shop_model.specs.rows.Rows.{ItemRow}
 use Rattle.shop_history.specs.declared.keys.Key.{Key}
 use Rattle.shop_history.specs.declared.keys.Key.TheVariants as key
 use Rattle.shop_history.specs.declared.keys.Row.{Row}

@@ -1,9 +1,9 @@
 -- What a request for the shopping cart reads, the lines that it makes of its cart's, and the change to them.
 use Rattle.std.specs.Prelude.{◌≡◌, ℕ, zero, suc, List, [], ◌∷◌, ◌++◌, length, map, Option, Some, None, IfSome, unwrap_or}
 use Rattle.shop_model.specs.declared.tables.Tables.{Tables}
-use Rattle.shop_model.specs.CartAsked.{CartAsked}
-use Rattle.shop_model.specs.Carts.{wanted, cart_lines, check_lines, lines_named, check_cart}
-use Rattle.shop_model.specs.Sound.{IsFit}
+use Rattle.shop_model.specs.asked.CartAsked.{CartAsked}
+use Rattle.shop_model.specs.trade.Carts.{wanted, cart_lines, check_lines, lines_named, check_cart}
+use Rattle.shop_model.specs.rows.Sound.{IsFit}
 use Rattle.shop_history.specs.declared.acts.Act.TheVariants.{Cart}
 use Rattle.shop_history.specs.declared.keys.Key.{Key}
 use Rattle.shop_history.specs.declared.keys.Key.TheVariants as key

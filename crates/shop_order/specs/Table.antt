@@ -2,7 +2,7 @@
 use Rattle.std.specs.Prelude.{◌≡◌, ℕ, ◌*◌, List, [], ◌∷◌, sum_by, decimal}
 use Rattle.shop_text.specs.Texts.{cents_text}
 use Rattle.shop_model.specs.declared.tables.Tables.{Tables}
-use Rattle.shop_model.specs.Carts.{line_cost}
+use Rattle.shop_model.specs.pages.ShoppingCart.{line_cost}
 use Rattle.shop_history.specs.declared.keys.Row.{Row}
 use Rattle.shop_history.specs.declared.keys.Row.TheVariants as row
 use Rattle.shop_attempt.specs.declared.attempts.ReadOf.{ReadOf}

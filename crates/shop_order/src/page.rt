@@ -3,8 +3,8 @@ ghost use Rattle.std.specs.Prelude.{◌≡◌, ◌++◌, OnOk, codes, decimal};
 ghost use Rattle.shop_text.specs.Texts.{cents_text};
 ghost use Rattle.shop_model.specs.declared.page.Block.TheVariants as block;
 ghost use Rattle.shop_model.specs.declared.tables.Tables.{Tables};
-ghost use Rattle.shop_model.specs.Carts.{cart_page, ids_with};
-ghost use Rattle.shop_model.specs.PageText.{block_line};
+ghost use Rattle.shop_model.specs.pages.ShoppingCart.{cart_page, ids_with};
+ghost use Rattle.shop_model.specs.pages.PageText.{block_line};
 ghost use Rattle.shop_history.specs.declared.acts.Drawn.{Drawn};
 ghost use Rattle.shop_draft.specs.Drawing.{id_at, ids_at};
 ghost use Rattle.shop_draft.specs.Pages as pages;
@@ -40,7 +40,7 @@ fn page_ids(ids: IdsAsked, cart: Id) -> PageIds
     }
 }
 
-#[tactic(auto, using(shop_text::proofs::Plain::escape_append), unfolding(shop_model::specs::PageText::block_text))]
+#[tactic(auto, using(shop_text::proofs::Plain::escape_append), unfolding(shop_model::specs::pages::PageText::block_text))]
 fn heading(page: &mut Template, cart: Id) -> Result<(), Memory>
     ensures { OnOk result (Adds page.old page.new (λ drawn. block_line (block.Heading (codes "Cart " ++ decimal (id_at drawn cart))))) }
 {
@@ -49,7 +49,7 @@ fn heading(page: &mut Template, cart: Id) -> Result<(), Memory>
     Ok(())
 }
 
-#[tactic(auto, using(shop_text::proofs::Plain::escape_append), unfolding(shop_model::specs::PageText::block_text))]
+#[tactic(auto, using(shop_text::proofs::Plain::escape_append), unfolding(shop_model::specs::pages::PageText::block_text))]
 fn sum_line(page: &mut Template, sum: u64) -> Result<(), Memory>
     ensures { OnOk result (Says page.old page.new (block_line (block.Para (codes "Sum " ++ cents_text sum)))) }
 {

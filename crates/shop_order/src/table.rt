@@ -4,9 +4,9 @@ ghost use Rattle.std.specs.List.{flat_map};
 ghost use Rattle.shop_text.specs.Texts.{escape};
 ghost use Rattle.shop_model.specs.declared.page.Block.TheVariants as block;
 ghost use Rattle.shop_model.specs.declared.tables.Tables.{Tables};
-ghost use Rattle.shop_model.specs.Carts.{line_cells};
-ghost use Rattle.shop_model.specs.Limits.{price_limit, quantity_limit};
-ghost use Rattle.shop_model.specs.PageText.{block_line, row_text};
+ghost use Rattle.shop_model.specs.pages.ShoppingCart.{line_cells};
+ghost use Rattle.shop_model.specs.rows.Limits.{price_limit, quantity_limit};
+ghost use Rattle.shop_model.specs.pages.PageText.{block_line, row_text};
 ghost use Rattle.shop_draft.specs.Templates.{Says};
 ghost use Rattle.shop_attempt.specs.Reads.{Shows};
 ghost use Rattle.shop_pricing.specs.Bounds.{AreLines};
@@ -76,7 +76,7 @@ fn rows(page: &mut Template, lines: &[(u32, u32)], items: &[ReadOf]) -> Result<(
 }
 
 /// Adds the table.
-#[tactic(auto, unfolding(shop_model::specs::PageText::block_text))]
+#[tactic(auto, unfolding(shop_model::specs::pages::PageText::block_text))]
 pub(crate) fn table(
     page: &mut Template,
     lines: &[(u32, u32)],

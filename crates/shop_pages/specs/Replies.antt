@@ -2,7 +2,7 @@
 use Rattle.std.specs.Prelude.{◌==◌, ℕ, Bool, ◌+◌, ◌≤◌, List, [], ◌++◌, length, codes, decimal, unwrap_or, if◌then◌else◌}
 use Rattle.http.specs.StatusCode.{reason_phrase}
 use Rattle.shop_model.specs.declared.page.Page.{Page}
-use Rattle.shop_model.specs.PageText.{page_text}
+use Rattle.shop_model.specs.pages.PageText.{page_text}
 use Rattle.shop_draft.specs.declared.draft.Draft.{Draft}
 use Rattle.shop_draft.specs.Outs.{OutState}
 use Rattle.shop_draft.specs.Templates.{TemplateState, template_room}

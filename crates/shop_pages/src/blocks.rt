@@ -4,7 +4,7 @@ ghost use Rattle.std.specs.Prelude.{◌≡◌, ◌++◌, OnOk, OnErr};
 ghost use Rattle.std.specs.List.{flat_map};
 ghost use Rattle.shop_text.specs.Extends.{Extends};
 ghost use Rattle.shop_text.specs.Texts.{escape};
-ghost use Rattle.shop_model.specs.PageText as spec;
+ghost use Rattle.shop_model.specs.pages.PageText as spec;
 
 use shop_model::{Block, Field};
 use shop_text::{Listed, Memory, Text};
@@ -63,7 +63,7 @@ fn push_rows(text: &mut Text, rows: &[Listed<Text>]) -> Result<(), Memory>
     Ok(())
 }
 
-#[tactic(auto, unfolding(shop_model::specs::PageText::field_text))]
+#[tactic(auto, unfolding(shop_model::specs::pages::PageText::field_text))]
 fn push_field(text: &mut Text, field: &Field) -> Result<(), Memory>
     ensures ok { OnOk result (text.new ≡ text.old ++ spec.field_text field.now) }
     ensures err { OnErr result (Extends text.old text.new) }
@@ -82,7 +82,7 @@ fn push_fields(text: &mut Text, fields: &[Field]) -> Result<(), Memory>
     Ok(())
 }
 
-#[tactic(auto, unfolding(shop_model::specs::PageText::block_text))]
+#[tactic(auto, unfolding(shop_model::specs::pages::PageText::block_text))]
 pub(crate) fn push_block(text: &mut Text, block: &Block) -> Result<(), Memory>
     ensures ok { OnOk result (text.new ≡ text.old ++ spec.block_text block.now) }
     ensures err { OnErr result (Extends text.old text.new) }

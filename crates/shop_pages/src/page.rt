@@ -1,6 +1,6 @@
 ghost use Rattle.std.specs.Prelude.{◌≡◌, ◌++◌, IfOk, OnOk, OnErr};
 ghost use Rattle.shop_text.specs.Extends.{Extends};
-ghost use Rattle.shop_model.specs.PageText as spec;
+ghost use Rattle.shop_model.specs.pages.PageText as spec;
 
 use crate::blocks::{push_blocks, push_tagged};
 use shop_model::Page;
@@ -14,7 +14,7 @@ const FRAME_ROOM: usize = 128;
 const BLOCK_ROOM: usize = 96;
 
 /// Adds the text of the page; a refusal may come after some of it.
-#[tactic(auto, unfolding(shop_model::specs::PageText::page_text))]
+#[tactic(auto, unfolding(shop_model::specs::pages::PageText::page_text))]
 fn add_page(text: &mut Text, page: &Page) -> Result<(), Memory>
     ensures ok { OnOk result (text.new ≡ text.old ++ spec.page_text page.now) }
     ensures err { OnErr result (Extends text.old text.new) }

@@ -4,8 +4,8 @@ use Rattle.std.specs.List.{All, AllPairs, range_with_len}
 use Rattle.std.proofs.lemmas.List.FromFn.{length-map-range_with_len, get_or-map-range_with_len}
 use Rattle.std.proofs.Math.Nat.{mod-eq_of_lt, mod-eq-sub-mod}
 use Rattle.std.proofs.lemmas.Bool.{cases_lt}
-use Rattle.shop_model.specs.Sound.{Has}
-use Rattle.shop_model.specs.Population.{followers}
+use Rattle.shop_model.specs.rows.Sound.{Has}
+use Rattle.shop_model.specs.population.Population.{followers}
 
 -- below twice n, a number wraps at most once
 wraps : (n x : ℕ) → x < n + n → (x % n ≡ x) ⊎ (x % n + n ≡ x)

@@ -2,8 +2,8 @@
 use Rattle.std.proofs.Common.{ℕ, ◌==◌, List, [], ◌∷◌, map, filter, arith, max, IfSome}
 use Rattle.std.specs.List.{All, reduce, fold}
 use Rattle.std.proofs.lemmas.List.Elements.{All-head, All-tail, All-map, All-filter}
-use Rattle.shop_model.specs.Rows.{OrderRow}
-use Rattle.shop_model.specs.Sound.{Has, last_of}
+use Rattle.shop_model.specs.rows.Rows.{OrderRow}
+use Rattle.shop_model.specs.rows.Sound.{Has, last_of}
 
 -- the larger of two ids that exist exists
 max_exists : (n a b : ℕ) → Has n a → Has n b → Has n (max a b)

@@ -5,11 +5,11 @@ use Rattle.std.proofs.lemmas.Bool.{le-ltb}
 use Rattle.std.proofs.lemmas.List.FromFn.{length-map-range_with_len, length-range_with_len}
 use Rattle.shop_text.specs.Texts.{digsyl}
 use Rattle.shop_model.specs.declared.address.Address.{Address}
-use Rattle.shop_model.specs.Limits.{restocks_limit}
-use Rattle.shop_model.specs.Rows.{CustomerRow, ItemRow, OrderRow, IsItem, IsCustomer, IsOrder, IsLine, IsCardUse}
-use Rattle.shop_model.specs.Scales.{ScaleRow, IsRoomy, IsScale}
-use Rattle.shop_model.specs.Sound.{Has, OrderNames, NamesExist, HasLines, IsCharged, IsPaid, IsStocked, HasFive, Runs, IdsRun, InBounds, Sound, Room, sold, last_of}
-use Rattle.shop_model.specs.Population.{rows, populated, orders_table, order_row, order_of, item_row, stock, lasts_table, customers_table, customer_row, items_table, countries_table, addresses_table, authors_table, country_row, address_row, author_row}
+use Rattle.shop_model.specs.rows.Limits.{restocks_limit}
+use Rattle.shop_model.specs.rows.Rows.{CustomerRow, ItemRow, OrderRow, IsItem, IsCustomer, IsOrder, IsLine, IsCardUse}
+use Rattle.shop_model.specs.population.Scales.{ScaleRow, IsRoomy, IsScale}
+use Rattle.shop_model.specs.rows.Sound.{Has, OrderNames, NamesExist, HasLines, IsCharged, IsPaid, IsStocked, HasFive, Runs, IdsRun, InBounds, Sound, Room, sold, last_of}
+use Rattle.shop_model.specs.population.Population.{rows, populated, orders_table, order_row, order_of, item_row, stock, lasts_table, customers_table, customer_row, items_table, countries_table, addresses_table, authors_table, country_row, address_row, author_row}
 use Rattle.shop_model.proofs.Lists.{all_rows, ids_of, map_rows, none_passes}
 use Rattle.shop_model.proofs.Scales.{is_roomy}
 use Rattle.shop_populate.proofs.Followers.{followers_exist}

@@ -3,12 +3,12 @@ use Rattle.std.proofs.Common.{◌≡◌, ℕ, ◌+◌, ◌-◌, ◌*◌, ◌/◌
 use Rattle.std.specs.List.{All}
 use Rattle.std.proofs.lemmas.List.FromFn.{length-map-range_with_len}
 use Rattle.shop_text.specs.Texts.{digsyl}
-use Rattle.shop_model.specs.Limits.{restocks_limit}
-use Rattle.shop_model.specs.Rows.{LineRow, IsItem, IsCustomer, IsOrder, IsLine, IsCardUse}
-use Rattle.shop_model.specs.Scales.{ScaleRow, IsRoomy}
-use Rattle.shop_model.specs.Sound.{Has, HasFive, HasLines, IsCharged, IsPaid, IsQuantity}
-use Rattle.shop_model.specs.Words.{word}
-use Rattle.shop_model.specs.Population.{cost, srp, address_row, customer_row, item_row, stock, order_line, line_quantity, line_item, order_lines, size, order_row, order_of, order_customer, placed, ship_day, order_word, card_of, order_address}
+use Rattle.shop_model.specs.rows.Limits.{restocks_limit}
+use Rattle.shop_model.specs.rows.Rows.{LineRow, IsItem, IsCustomer, IsOrder, IsLine, IsCardUse}
+use Rattle.shop_model.specs.population.Scales.{ScaleRow, IsRoomy}
+use Rattle.shop_model.specs.rows.Sound.{Has, HasFive, HasLines, IsCharged, IsPaid, IsQuantity}
+use Rattle.shop_model.specs.population.Words.{word}
+use Rattle.shop_model.specs.population.Population.{cost, srp, address_row, customer_row, item_row, stock, order_line, line_quantity, line_item, order_lines, size, order_row, order_of, order_customer, placed, ship_day, order_word, card_of, order_address}
 use Rattle.shop_model.proofs.Lists.{all_rows, ids_of}
 use Rattle.shop_populate.proofs.Followers.{five_follow, followers_differ, followers_are_others}
 

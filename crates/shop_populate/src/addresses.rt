@@ -1,5 +1,5 @@
 ghost use Rattle.std.specs.Prelude.{◌≡◌, ◌≤◌, ◌++◌, IfOk};
-ghost use Rattle.shop_model.specs.Population as spec;
+ghost use Rattle.shop_model.specs.population.Population as spec;
 
 use shop_model::words::{adjective, last_name, noun};
 use shop_model::{Address, AddressText, Scale, drawn};
@@ -16,7 +16,7 @@ const LONGEST_CITY: usize = b"Parkerton".len();
 const ZIP: usize = 5;
 
 /// `NUMBER NOUN Street`.
-#[tactic(auto, unfolding(shop_model::specs::Population::street))]
+#[tactic(auto, unfolding(shop_model::specs::population::Population::street))]
 fn street(alloc: Global, number_word: u32, noun_word: u32) -> Result<Text, Memory>
     ensures { IfOk result (λ text. text ≡ spec.street number_word noun_word) }
 {
@@ -29,7 +29,7 @@ fn street(alloc: Global, number_word: u32, noun_word: u32) -> Result<Text, Memor
 }
 
 /// A last name with `ton` behind it.
-#[tactic(auto, unfolding(shop_model::specs::Population::city))]
+#[tactic(auto, unfolding(shop_model::specs::population::Population::city))]
 fn city(alloc: Global, name_word: u32) -> Result<Text, Memory>
     ensures { IfOk result (λ text. text ≡ spec.city name_word) }
 {
@@ -40,7 +40,7 @@ fn city(alloc: Global, name_word: u32) -> Result<Text, Memory>
 }
 
 /// Five digits.
-#[tactic(auto, unfolding(shop_model::specs::Population::zip))]
+#[tactic(auto, unfolding(shop_model::specs::population::Population::zip))]
 fn zip(alloc: Global, word: u32) -> Result<Text, Memory>
     ensures { IfOk result (λ text. text ≡ spec.zip word) }
 {
@@ -50,7 +50,7 @@ fn zip(alloc: Global, word: u32) -> Result<Text, Memory>
 }
 
 /// The address with this id.
-#[tactic(auto, unfolding(shop_model::specs::Population::address_row))]
+#[tactic(auto, unfolding(shop_model::specs::population::Population::address_row))]
 fn address_row(alloc: Global, seed: u32, scale: &Scale, id: u32) -> Result<Address, Memory>
     ensures { IfOk result (λ row. row ≡ spec.address_row seed scale.now id) }
 {
@@ -69,7 +69,7 @@ fn address_row(alloc: Global, seed: u32, scale: &Scale, id: u32) -> Result<Addre
 }
 
 /// The addresses of a shop.
-#[tactic(auto, using(shop_model::proofs::Lists::rows_push), unfolding(shop_model::specs::Population::addresses_table))]
+#[tactic(auto, using(shop_model::proofs::Lists::rows_push), unfolding(shop_model::specs::population::Population::addresses_table))]
 pub(crate) fn addresses_table(
     alloc: Global,
     seed: u32,

@@ -1,5 +1,5 @@
 ghost use Rattle.std.specs.Prelude.{◌≡◌, ◌≤◌, ◌++◌, IfOk};
-ghost use Rattle.shop_model.specs.Population as spec;
+ghost use Rattle.shop_model.specs.population.Population as spec;
 
 use shop_model::words::{first_name, last_name};
 use shop_model::{Author, Scale, drawn};
@@ -10,7 +10,7 @@ use std::alloc::Global;
 const AUTHORS: u64 = 4;
 
 /// The author with this id.
-#[tactic(auto, unfolding(shop_model::specs::Population::author_row))]
+#[tactic(auto, unfolding(shop_model::specs::population::Population::author_row))]
 fn author_row(alloc: Global, seed: u32, scale: &Scale, id: u32) -> Result<Author, Memory>
     ensures { IfOk result (λ row. row ≡ spec.author_row seed scale.now id) }
 {
@@ -23,7 +23,7 @@ fn author_row(alloc: Global, seed: u32, scale: &Scale, id: u32) -> Result<Author
 }
 
 /// The authors of a shop.
-#[tactic(auto, using(shop_model::proofs::Lists::rows_push), unfolding(shop_model::specs::Population::authors_table))]
+#[tactic(auto, using(shop_model::proofs::Lists::rows_push), unfolding(shop_model::specs::population::Population::authors_table))]
 pub(crate) fn authors_table(
     alloc: Global,
     seed: u32,

@@ -1,6 +1,6 @@
 ghost use Rattle.std.specs.Prelude.{◌≡◌, ◌≤◌, ◌++◌, IfOk, decimal};
-ghost use Rattle.shop_model.specs.AuthIds as ids;
-ghost use Rattle.shop_model.specs.Population as spec;
+ghost use Rattle.shop_model.specs.rows.AuthIds as ids;
+ghost use Rattle.shop_model.specs.population.Population as spec;
 
 use shop_model::{Address, AuthId, CardType, CardUse, Customer};
 use shop_text::{Memory, Text};
@@ -11,7 +11,7 @@ const NUMBER: usize = 16;
 const LONGEST_NAME: usize = b"Hugo Parker".len();
 
 /// The authorisation of a populated order: that of caller 0 at the call with the order's number.
-#[tactic(auto, unfolding(shop_model::specs::AuthIds::auth_number))]
+#[tactic(auto, unfolding(shop_model::specs::rows::AuthIds::auth_number))]
 fn auth_id(number: u64, cents: u64, call: u32) -> AuthId
     requires number { number ≤ 5_000_000_000_000_000 }
     requires cents { cents ≤ 200_000_000_000 }
@@ -22,7 +22,7 @@ fn auth_id(number: u64, cents: u64, call: u32) -> AuthId
 }
 
 /// The customer's first and last name.
-#[tactic(auto, unfolding(shop_model::specs::Population::card_name))]
+#[tactic(auto, unfolding(shop_model::specs::population::Population::card_name))]
 fn card_name(alloc: Global, customer: &Customer) -> Result<Text, Memory>
     ensures { IfOk result (λ text. text ≡ spec.card_name customer.now) }
 {
@@ -44,7 +44,7 @@ fn number_text(alloc: Global, number: u64) -> Result<Text, Memory>
 }
 
 /// The moment at which an order is placed, in milliseconds since 1970-01-01.
-#[tactic(auto, unfolding(shop_model::specs::Population::placed))]
+#[tactic(auto, unfolding(shop_model::specs::population::Population::placed))]
 pub(crate) fn placed(day: u32) -> u64
     ensures value { result ≡ spec.placed day }
     ensures bound { result ≤ 1_000_000_000_000 }
@@ -53,7 +53,7 @@ pub(crate) fn placed(day: u32) -> u64
 }
 
 /// The card transaction of an order.
-#[tactic(auto, unfolding(shop_model::specs::Population::card_of, shop_model::specs::Population::card_number))]
+#[tactic(auto, unfolding(shop_model::specs::population::Population::card_of, shop_model::specs::population::Population::card_number))]
 pub(crate) fn card_of(
     alloc: Global,
     customer: &Customer,

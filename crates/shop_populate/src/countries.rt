@@ -1,5 +1,5 @@
 ghost use Rattle.std.specs.Prelude.{◌≡◌, ◌≤◌, ◌++◌, IfOk};
-ghost use Rattle.shop_model.specs.Population as spec;
+ghost use Rattle.shop_model.specs.population.Population as spec;
 
 use shop_model::Country;
 use shop_text::{Listed, Memory, Text};
@@ -10,7 +10,7 @@ const COUNTRIES: u32 = 92;
 
 const LONGEST_NAME: usize = b"Country NGAL".len();
 
-#[tactic(auto, unfolding(shop_model::specs::Population::country_name))]
+#[tactic(auto, unfolding(shop_model::specs::population::Population::country_name))]
 fn country_name(alloc: Global, id: u32) -> Result<Text, Memory>
     ensures { IfOk result (λ text. text ≡ spec.country_name id) }
 {
@@ -21,7 +21,7 @@ fn country_name(alloc: Global, id: u32) -> Result<Text, Memory>
 }
 
 /// The country with this id.
-#[tactic(auto, unfolding(shop_model::specs::Population::country_row))]
+#[tactic(auto, unfolding(shop_model::specs::population::Population::country_row))]
 fn country_row(alloc: Global, id: u32) -> Result<Country, Memory>
     ensures { IfOk result (λ row. row ≡ spec.country_row id) }
 {
@@ -32,7 +32,7 @@ fn country_row(alloc: Global, id: u32) -> Result<Country, Memory>
 }
 
 /// All countries.
-#[tactic(auto, using(shop_model::proofs::Lists::rows_push), unfolding(shop_model::specs::Population::countries_table))]
+#[tactic(auto, using(shop_model::proofs::Lists::rows_push), unfolding(shop_model::specs::population::Population::countries_table))]
 pub(crate) fn countries_table(alloc: Global) -> Result<Listed<Country>, Memory>
     ensures { IfOk result (λ table. table ≡ spec.countries_table) }
 {

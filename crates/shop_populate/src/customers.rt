@@ -1,5 +1,5 @@
 ghost use Rattle.std.specs.Prelude.{◌≡◌, ◌≤◌, ◌++◌, IfOk};
-ghost use Rattle.shop_model.specs.Population as spec;
+ghost use Rattle.shop_model.specs.population.Population as spec;
 
 use shop_model::words::{first_name, last_name};
 use shop_model::{Customer, CustomerDetails, Scale, drawn};
@@ -14,7 +14,7 @@ const LONGEST_EMAIL: usize = b"alinngngng@shop.example".len();
 const PHONE: usize = 10;
 
 /// Ten digits.
-#[tactic(auto, unfolding(shop_model::specs::Population::phone))]
+#[tactic(auto, unfolding(shop_model::specs::population::Population::phone))]
 fn phone(alloc: Global, word: u32) -> Result<Caption, Memory>
     ensures { IfOk result (λ text. text ≡ spec.phone word) }
 {
@@ -23,7 +23,7 @@ fn phone(alloc: Global, word: u32) -> Result<Caption, Memory>
     Ok(Caption::of(text))
 }
 
-#[tactic(auto, unfolding(shop_model::specs::Population::email))]
+#[tactic(auto, unfolding(shop_model::specs::population::Population::email))]
 fn email(alloc: Global, id: u32) -> Result<Caption, Memory>
     ensures { IfOk result (λ text. text ≡ spec.email id) }
 {
@@ -34,7 +34,7 @@ fn email(alloc: Global, id: u32) -> Result<Caption, Memory>
 }
 
 /// The customer with this id.
-#[tactic(auto, unfolding(shop_model::specs::Population::customer_row))]
+#[tactic(auto, unfolding(shop_model::specs::population::Population::customer_row))]
 fn customer_row(alloc: Global, seed: u32, scale: &Scale, id: u32) -> Result<Customer, Memory>
     ensures { IfOk result (λ row. row ≡ spec.customer_row seed scale.now id) }
 {
@@ -56,7 +56,7 @@ fn customer_row(alloc: Global, seed: u32, scale: &Scale, id: u32) -> Result<Cust
 }
 
 /// The customers of a shop.
-#[tactic(auto, using(shop_model::proofs::Lists::rows_push), unfolding(shop_model::specs::Population::customers_table))]
+#[tactic(auto, using(shop_model::proofs::Lists::rows_push), unfolding(shop_model::specs::population::Population::customers_table))]
 pub(crate) fn customers_table(
     alloc: Global,
     seed: u32,

@@ -1,5 +1,5 @@
 ghost use Rattle.std.specs.Prelude.{◌≡◌, ◌≤◌, ◌<◌, ◌++◌, IfOk};
-ghost use Rattle.shop_model.specs.Population as spec;
+ghost use Rattle.shop_model.specs.population.Population as spec;
 
 use shop_model::words::{adjective, noun, publisher};
 use shop_model::{Backing, Item, ItemDetails, Scale, Subject, drawn};
@@ -16,7 +16,7 @@ const LONGEST_ABOUT: usize = b"About a Distant Kitchen.".len();
 const LONGEST_PICTURE: usize = b"/img/thumb_10000.gif".len();
 
 /// `ADJECTIVE NOUN SYLLABLES`.
-#[tactic(auto, unfolding(shop_model::specs::Population::title))]
+#[tactic(auto, unfolding(shop_model::specs::population::Population::title))]
 fn title(alloc: Global, adjective_word: u32, noun_word: u32, id: u32) -> Result<Caption, Memory>
     ensures { IfOk result (λ text. text ≡ spec.title adjective_word noun_word id) }
 {
@@ -30,7 +30,7 @@ fn title(alloc: Global, adjective_word: u32, noun_word: u32, id: u32) -> Result<
 }
 
 /// `About a ADJECTIVE NOUN.`
-#[tactic(auto, unfolding(shop_model::specs::Population::about))]
+#[tactic(auto, unfolding(shop_model::specs::population::Population::about))]
 fn about(alloc: Global, adjective_word: u32, noun_word: u32) -> Result<Caption, Memory>
     ensures { IfOk result (λ text. text ≡ spec.about adjective_word noun_word) }
 {
@@ -44,7 +44,7 @@ fn about(alloc: Global, adjective_word: u32, noun_word: u32) -> Result<Caption, 
 }
 
 /// The path of a picture: the front, the id's digits and `.gif`.
-#[tactic(auto, unfolding(shop_model::specs::Population::picture))]
+#[tactic(auto, unfolding(shop_model::specs::population::Population::picture))]
 fn picture(alloc: Global, front: &[u8], id: u32) -> Result<Caption, Memory>
     ensures { IfOk result (λ text. text ≡ spec.picture front.now id) }
 {
@@ -56,7 +56,7 @@ fn picture(alloc: Global, front: &[u8], id: u32) -> Result<Caption, Memory>
 }
 
 /// The five items that follow this one in cyclic order.
-#[tactic(auto, unfolding(shop_model::specs::Population::followers))]
+#[tactic(auto, unfolding(shop_model::specs::population::Population::followers))]
 fn followers(items: u32, id: u32) -> [u32; 5]
     requires some { 0 < items }
     requires small { id ≤ 10_000 }
@@ -72,7 +72,7 @@ fn followers(items: u32, id: u32) -> [u32; 5]
 }
 
 /// The recommended price, in cents.
-#[tactic(auto, unfolding(shop_model::specs::Population::srp))]
+#[tactic(auto, unfolding(shop_model::specs::population::Population::srp))]
 fn srp(word: u32) -> u64
     ensures value { result ≡ spec.srp word }
     ensures bound { result < 10_000 }
@@ -81,7 +81,7 @@ fn srp(word: u32) -> u64
 }
 
 /// The price, in cents: the recommended one less 0 to 50 per cent, rounded down.
-#[tactic(auto, unfolding(shop_model::specs::Population::cost))]
+#[tactic(auto, unfolding(shop_model::specs::population::Population::cost))]
 fn cost(srp_word: u32, discount_word: u32) -> u64
     ensures value { result ≡ spec.cost srp_word discount_word }
     ensures bound { result < 10_000 }
@@ -89,7 +89,7 @@ fn cost(srp_word: u32, discount_word: u32) -> u64
     srp(srp_word) * (100 - (discount_word % 51) as u64) / 100
 }
 
-#[tactic(auto, unfolding(shop_model::specs::Population::stock))]
+#[tactic(auto, unfolding(shop_model::specs::population::Population::stock))]
 fn stock(word: u32) -> u32
     ensures value { result ≡ spec.stock word }
     ensures bound { result ≤ 30 }
@@ -98,7 +98,7 @@ fn stock(word: u32) -> u32
 }
 
 /// The item with this id.
-#[tactic(auto, unfolding(shop_model::specs::Population::item_row))]
+#[tactic(auto, unfolding(shop_model::specs::population::Population::item_row))]
 fn item_row(alloc: Global, seed: u32, scale: &Scale, id: u32) -> Result<Item, Memory>
     requires first { 1 ≤ id }
     requires last { id ≤ 10_000 }
@@ -143,7 +143,7 @@ fn item_row(alloc: Global, seed: u32, scale: &Scale, id: u32) -> Result<Item, Me
 }
 
 /// The items of a shop.
-#[tactic(auto, using(shop_model::proofs::Lists::rows_push), unfolding(shop_model::specs::Population::items_table))]
+#[tactic(auto, using(shop_model::proofs::Lists::rows_push), unfolding(shop_model::specs::population::Population::items_table))]
 pub(crate) fn items_table(alloc: Global, seed: u32, scale: &Scale) -> Result<Listed<Item>, Memory>
     ensures { IfOk result (λ table. table ≡ spec.items_table seed scale.now) }
 {

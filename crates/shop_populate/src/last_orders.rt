@@ -1,6 +1,6 @@
 ghost use Rattle.std.specs.Prelude.{◌≡◌, ◌≤◌, IfOk, map, All};
-ghost use Rattle.shop_model.specs.Population.{rows};
-ghost use Rattle.shop_model.specs.Sound.{Has, Runs, last_of};
+ghost use Rattle.shop_model.specs.population.Population.{rows};
+ghost use Rattle.shop_model.specs.rows.Sound.{Has, Runs, last_of};
 
 use shop_model::Order;
 use shop_text::{Listed, Memory};

@@ -1,6 +1,6 @@
 ghost use Rattle.std.specs.Prelude.{◌≡◌, ◌≤◌, ◌++◌, IfOk, map, length};
 ghost use Rattle.std.specs.List.{range_with_len};
-ghost use Rattle.shop_model.specs.Population as spec;
+ghost use Rattle.shop_model.specs.population.Population as spec;
 
 use crate::lookups::item_at;
 use shop_model::{Item, Line, Scale};
@@ -8,7 +8,7 @@ use shop_text::{Listed, Memory};
 use std::alloc::Global;
 
 /// How many lines an order has.
-#[tactic(auto, unfolding(shop_model::specs::Population::size))]
+#[tactic(auto, unfolding(shop_model::specs::population::Population::size))]
 pub(crate) fn size(word: u32) -> u32
     ensures value { result ≡ spec.size word }
     ensures few { result ≤ 5 }
@@ -17,7 +17,7 @@ pub(crate) fn size(word: u32) -> u32
 }
 
 /// The item of a line: every line takes the item 17 places further on.
-#[tactic(auto, unfolding(shop_model::specs::Population::line_item))]
+#[tactic(auto, unfolding(shop_model::specs::population::Population::line_item))]
 fn line_item(scale: &Scale, item_word: u32, number: u32) -> u32
     requires { 1 ≤ number }
     ensures value { result ≡ spec.line_item scale.now item_word number }
@@ -27,7 +27,7 @@ fn line_item(scale: &Scale, item_word: u32, number: u32) -> u32
     1 + ((item_word as u64 + 17 * (number as u64 - 1)) % scale.items as u64) as u32
 }
 
-#[tactic(auto, unfolding(shop_model::specs::Population::line_quantity))]
+#[tactic(auto, unfolding(shop_model::specs::population::Population::line_quantity))]
 fn line_quantity(quantity_word: u32, number: u32) -> u32
     ensures value { result ≡ spec.line_quantity quantity_word number }
     ensures bound { result ≤ 5 }
@@ -36,7 +36,7 @@ fn line_quantity(quantity_word: u32, number: u32) -> u32
 }
 
 /// The line with this number, at the item's cost.
-#[tactic(auto, unfolding(shop_model::specs::Population::order_line))]
+#[tactic(auto, unfolding(shop_model::specs::population::Population::order_line))]
 fn order_line(
     seed: u32,
     scale: &Scale,

@@ -1,5 +1,5 @@
 ghost use Rattle.std.specs.Prelude.{◌≡◌, ◌≤◌, ◌*◌, length};
-ghost use Rattle.shop_model.specs.Money as spec;
+ghost use Rattle.shop_model.specs.trade.Money as spec;
 
 use shop_model::Line;
 use std::marker::Model;
@@ -14,7 +14,7 @@ pub struct Charge {
 }
 
 impl Model for Charge {
-    ghost use Rattle.shop_model.specs.Money.{Money};
+    ghost use Rattle.shop_model.specs.trade.Money.{Money};
 
     ghost Value = { Money };
 
@@ -22,7 +22,7 @@ impl Model for Charge {
 }
 
 /// The costs of all units, in cents.
-#[tactic(auto, unfolding(shop_model::specs::Money::sum_of))]
+#[tactic(auto, unfolding(shop_model::specs::trade::Money::sum_of))]
 fn sum_of(lines: &[Line]) -> u64
     requires { length lines.now ≤ 100 }
     ensures value { result ≡ spec.sum_of lines.now }
@@ -35,7 +35,7 @@ fn sum_of(lines: &[Line]) -> u64
     sum
 }
 
-#[tactic(auto, unfolding(shop_model::specs::Money::units_of))]
+#[tactic(auto, unfolding(shop_model::specs::trade::Money::units_of))]
 fn units_of(lines: &[Line]) -> u64
     requires { length lines.now ≤ 100 }
     ensures value { result ≡ spec.units_of lines.now }
@@ -49,7 +49,7 @@ fn units_of(lines: &[Line]) -> u64
 }
 
 /// The charge for lines at a discount, in per cent.
-#[tactic(auto, unfolding(shop_model::specs::Money::money, shop_model::specs::Money::sub_of, shop_model::specs::Money::tax_of, shop_model::specs::Money::ship_of))]
+#[tactic(auto, unfolding(shop_model::specs::trade::Money::money, shop_model::specs::trade::Money::sub_of, shop_model::specs::trade::Money::tax_of, shop_model::specs::trade::Money::ship_of))]
 pub(crate) fn charged(lines: &[Line], discount: u32) -> Charge
     requires few { length lines.now ≤ 100 }
     requires discount { discount ≤ 50 }

@@ -1,5 +1,5 @@
 ghost use Rattle.std.specs.Prelude.{◌≡◌, ◌≤◌, ◌<◌, ◌++◌, IfOk, length};
-ghost use Rattle.shop_model.specs.Population as spec;
+ghost use Rattle.shop_model.specs.population.Population as spec;
 
 use crate::card_uses::{card_of, placed};
 use crate::lines::{order_lines, size};
@@ -23,7 +23,7 @@ struct Picks {
 }
 
 /// The day on which an order ships, in days since 1970-01-01: 1 to 7 after it is placed.
-#[tactic(auto, unfolding(shop_model::specs::Population::ship_day))]
+#[tactic(auto, unfolding(shop_model::specs::population::Population::ship_day))]
 fn ship_day(day: u32, delay: u32) -> u32
     ensures value { result ≡ spec.ship_day day delay }
     ensures bound { result ≤ 12_000 }
@@ -122,7 +122,7 @@ fn order_row(
 }
 
 /// The orders of a shop, over its other tables.
-#[tactic(auto, using(shop_model::proofs::Lists::rows_push), unfolding(shop_model::specs::Population::orders_table))]
+#[tactic(auto, using(shop_model::proofs::Lists::rows_push), unfolding(shop_model::specs::population::Population::orders_table))]
 pub(crate) fn orders_table(
     alloc: Global,
     seed: u32,

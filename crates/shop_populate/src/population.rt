@@ -1,6 +1,6 @@
 ghost use Rattle.std.specs.Prelude.{◌≡◌, IfOk, length};
-ghost use Rattle.shop_model.specs.Population as spec;
-ghost use Rattle.shop_model.specs.Sound.{Room, Sound};
+ghost use Rattle.shop_model.specs.population.Population as spec;
+ghost use Rattle.shop_model.specs.rows.Sound.{Room, Sound};
 
 use crate::addresses::addresses_table;
 use crate::authors::authors_table;
@@ -14,7 +14,7 @@ use shop_text::{Listed, Memory};
 use std::alloc::Global;
 
 /// The tables that a shop of this scale opens with, each row drawn from the seed and its own id.
-#[tactic(auto, unfolding(shop_model::specs::Population::populated))]
+#[tactic(auto, unfolding(shop_model::specs::population::Population::populated))]
 pub fn populate(alloc: Global, seed: u32, scale: &Scale) -> Result<Tables, Memory>
     ensures value { IfOk result (λ tables. tables ≡ spec.populated seed scale.now) }
     ensures sound { IfOk result Sound }

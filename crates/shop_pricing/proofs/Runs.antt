@@ -2,8 +2,8 @@
 use Rattle.std.proofs.Common.{◌≡◌, ℕ, ◌+◌, ◌<◌, ◌≤◌, List, [], ◌∷◌, ◌++◌, length, get_or, take, drop, Option, Some, None, refl, sym, ap, ◌∙◌, subst}
 use Rattle.std.proofs.lemmas.List.{take_more, take-append-drop, take_all}
 use Rattle.shop_model.specs.declared.refusal.Refusal.{Refusal}
-use Rattle.shop_model.specs.Carts.{set_line, set_lines, wanted, or_drawn, cart_lines, check_line, check_lines, first_of}
-use Rattle.shop_model.specs.CartAsked.{CartAsked}
+use Rattle.shop_model.specs.trade.Carts.{set_line, set_lines, wanted, or_drawn, cart_lines, check_line, check_lines, first_of}
+use Rattle.shop_model.specs.asked.CartAsked.{CartAsked}
 use Rattle.shop_pricing.specs.declared.filling.Filled.{Filled}
 use Rattle.shop_pricing.specs.declared.filling.Filled.TheVariants.{Done, Refused, Memory}
 use Rattle.shop_pricing.specs.Fills.{AreSet, IsDrawn, IsFilled}

@@ -1,9 +1,9 @@
 -- What a map of quantities does to its lines is what a set does, and keeps them within their bounds.
 use Rattle.std.proofs.Common.{◌≡◌, ◌≢◌, ℕ, zero, suc, ◌<◌, ◌≤◌, false, cond, ◌==◌, nat_eq, eqb, List, [], ◌∷◌, length, get_or, take, AllPairs, refl, sym, ap, arith, rules, ne_eqb}
 use Rattle.indexmap.specs.IndexMap.{insert_entry, shift_remove_entry}
-use Rattle.shop_model.specs.Carts.{set_line, is_too_many}
-use Rattle.shop_model.specs.Limits.{quantity_limit}
-use Rattle.shop_model.specs.Sound.{IsQuantity}
+use Rattle.shop_model.specs.trade.Carts.{set_line, is_too_many}
+use Rattle.shop_model.specs.rows.Limits.{quantity_limit}
+use Rattle.shop_model.specs.rows.Sound.{IsQuantity}
 use Rattle.shop_model.proofs.SetLines.{set_line_all, set_line_few}
 use Rattle.shop_pricing.specs.Bounds.{AreLines}
 

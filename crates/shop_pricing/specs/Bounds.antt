@@ -1,7 +1,7 @@
 -- What holds of the lines of a cart, pairs of an item and a quantity, at all times.
 use Rattle.std.specs.Prelude.{ℕ, ◌≤◌, List, length, All}
-use Rattle.shop_model.specs.Limits.{lines_limit}
-use Rattle.shop_model.specs.Sound.{IsQuantity}
+use Rattle.shop_model.specs.rows.Limits.{lines_limit}
+use Rattle.shop_model.specs.rows.Sound.{IsQuantity}
 
 -- few lines, each with a quantity that a line may have
 pub record AreLines (lines : List (ℕ × ℕ)) : Type 0 where

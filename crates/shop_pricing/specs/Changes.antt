@@ -1,6 +1,6 @@
 -- What each answer of a change says of the lines before and after it.
 use Rattle.std.specs.Prelude.{◌≡◌, ℕ, true, false, List}
-use Rattle.shop_model.specs.Carts.{set_line, is_too_many}
+use Rattle.shop_model.specs.trade.Carts.{set_line, is_too_many}
 use Rattle.shop_pricing.specs.declared.lines.Changed.{Changed}
 use Rattle.shop_pricing.specs.declared.lines.Changed.TheVariants.{Done, TooMany, Memory}
 

@@ -1,7 +1,7 @@
 -- What each answer to a request for the lines of a cart says.
 use Rattle.std.specs.Prelude.{◌≡◌, ℕ, List, None, Some}
-use Rattle.shop_model.specs.Carts.{wanted, or_drawn, set_lines, cart_lines, check_lines}
-use Rattle.shop_model.specs.CartAsked.{CartAsked}
+use Rattle.shop_model.specs.trade.Carts.{wanted, or_drawn, set_lines, cart_lines, check_lines}
+use Rattle.shop_model.specs.asked.CartAsked.{CartAsked}
 use Rattle.shop_pricing.specs.declared.filling.Filled.{Filled}
 use Rattle.shop_pricing.specs.declared.filling.Filled.TheVariants.{Done, Refused, Memory}
 

@@ -1,7 +1,7 @@
 -- What priced lines cost: triples of an item, a quantity, and the cost of one unit in cents.
 use Rattle.std.specs.Prelude.{ℕ, ◌*◌, ◌≤◌, List, length, sum_by, All}
-use Rattle.shop_model.specs.Limits.{lines_limit, quantity_limit, price_limit}
-use Rattle.shop_model.specs.Money.{Money, money}
+use Rattle.shop_model.specs.rows.Limits.{lines_limit, quantity_limit, price_limit}
+use Rattle.shop_model.specs.trade.Money.{Money, money}
 use Rattle.shop_pricing.specs.declared.totals.Totals.{Totals}
 
 -- a line with a quantity and a cost that there may be

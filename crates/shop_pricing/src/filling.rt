@@ -1,6 +1,6 @@
 //! What a request for the shopping cart makes of a cart's lines.
 ghost use Rattle.std.specs.Prelude.{◌≤◌, [], ◌∷◌};
-ghost use Rattle.shop_model.specs.Carts.{one_more, wanted};
+ghost use Rattle.shop_model.specs.trade.Carts.{one_more, wanted};
 ghost use Rattle.shop_pricing.specs.Fills.{AreSet, IsDrawn, IsFilled};
 
 use crate::{Changed, Lines, change};
@@ -42,7 +42,7 @@ fn set_wanted(lines: &mut Lines, asked: &CartRequest, items: u32) -> Filled
 }
 
 /// One unit more of an item, where one is named.
-#[tactic(auto, unfolding(shop_model::specs::Carts::check_lines, shop_model::specs::Carts::set_lines))]
+#[tactic(auto, unfolding(shop_model::specs::trade::Carts::check_lines, shop_model::specs::trade::Carts::set_lines))]
 fn add_asked(lines: &mut Lines, asked: Option<u32>, items: u32) -> Filled
     ensures { AreSet items (one_more asked lines.old) lines.old lines.new result }
 {
@@ -56,7 +56,7 @@ fn add_asked(lines: &mut Lines, asked: Option<u32>, items: u32) -> Filled
 }
 
 /// Sets quantities one after another, up to the first that can't be set.
-#[tactic(auto, unfolding(shop_model::specs::Carts::check_lines, shop_model::specs::Carts::set_lines))]
+#[tactic(auto, unfolding(shop_model::specs::trade::Carts::check_lines, shop_model::specs::trade::Carts::set_lines))]
 fn set_all(lines: &mut Lines, sets: &[(u32, u32)], items: u32) -> Filled
     ensures { AreSet items sets.now lines.old lines.new result }
 {
@@ -71,7 +71,7 @@ fn set_all(lines: &mut Lines, sets: &[(u32, u32)], items: u32) -> Filled
 }
 
 /// Sets one quantity, where an item has this id and the lines can hold it.
-#[tactic(auto, unfolding(shop_model::specs::Carts::check_lines, shop_model::specs::Carts::check_line, shop_model::specs::Carts::set_lines))]
+#[tactic(auto, unfolding(shop_model::specs::trade::Carts::check_lines, shop_model::specs::trade::Carts::check_line, shop_model::specs::trade::Carts::set_lines))]
 fn set_one(lines: &mut Lines, item: u32, quantity: u32, items: u32) -> Filled
     ensures { AreSet items ((item, quantity) ∷ []) lines.old lines.new result }
 {
@@ -89,7 +89,7 @@ fn set_one(lines: &mut Lines, item: u32, quantity: u32, items: u32) -> Filled
 }
 
 /// One unit of an item that a drawn word picks, where there is no line.
-#[tactic(auto, unfolding(shop_model::specs::Carts::set_line))]
+#[tactic(auto, unfolding(shop_model::specs::trade::Carts::set_line))]
 fn add_drawn(lines: &mut Lines, items: u32, draw: u32) -> Filled
     requires { 1 ≤ items }
     ensures { IsDrawn items draw lines.old lines.new result }

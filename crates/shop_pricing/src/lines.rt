@@ -1,7 +1,7 @@
 //! The lines of a cart, and the change of one.
 ghost use Rattle.std.specs.Prelude.{◌≡◌, ◌≤◌, false};
-ghost use Rattle.shop_model.specs.Carts.{is_too_many};
-ghost use Rattle.shop_model.specs.Limits.{quantity_limit};
+ghost use Rattle.shop_model.specs.trade.Carts.{is_too_many};
+ghost use Rattle.shop_model.specs.rows.Limits.{quantity_limit};
 ghost use Rattle.shop_pricing.specs.Changes.{IsChanged};
 
 use indexmap::IndexMap;
@@ -29,9 +29,9 @@ impl Model for Lines {
 
 impl Lines {
     ghost use Rattle.std.specs.Prelude.{◌≡◌, ◌≤◌, ◌↔◌, [], length, IfOk, IsTrue};
-    ghost use Rattle.shop_model.specs.Carts.{quantity_of};
-    ghost use Rattle.shop_model.specs.Limits.{quantity_limit};
-    ghost use Rattle.shop_model.specs.Sound.{IsFit};
+    ghost use Rattle.shop_model.specs.trade.Carts.{quantity_of};
+    ghost use Rattle.shop_model.specs.rows.Limits.{quantity_limit};
+    ghost use Rattle.shop_model.specs.rows.Sound.{IsFit};
     ghost use Rattle.shop_pricing.specs.Bounds.{AreLines};
 
     /// No lines; takes no memory.

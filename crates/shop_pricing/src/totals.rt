@@ -1,7 +1,7 @@
 //! What the lines of an order cost.
 ghost use Rattle.std.specs.Prelude.{◌≡◌, ◌+◌, ◌*◌, ◌<◌, ◌≤◌, ◌^◌};
-ghost use Rattle.shop_model.specs.Limits.{discount_limit};
-ghost use Rattle.shop_model.specs.Money.{half_up, money};
+ghost use Rattle.shop_model.specs.rows.Limits.{discount_limit};
+ghost use Rattle.shop_model.specs.trade.Money.{half_up, money};
 ghost use Rattle.shop_pricing.specs.Totals.{IsPriced, ArePriced, sum_of, units_of, totals_of};
 
 /// What an order costs, in cents.
@@ -20,7 +20,7 @@ pub struct Totals {
 impl Totals {
     /// What lines of an item, a quantity and the cost of one unit in cents cost at a discount in per
     /// cent: 8.25 per cent of tax on what the discount leaves, and 3.00 and 1.00 a unit for shipping.
-    #[tactic(auto, using(crate::proofs::Bounds::bounds), unfolding(shop_model::specs::Money::money, shop_model::specs::Money::sub_of, shop_model::specs::Money::tax_of, shop_model::specs::Money::ship_of))]
+    #[tactic(auto, using(crate::proofs::Bounds::bounds), unfolding(shop_model::specs::trade::Money::money, shop_model::specs::trade::Money::sub_of, shop_model::specs::trade::Money::tax_of, shop_model::specs::trade::Money::ship_of))]
     pub fn of(lines: &[(u32, u32, u64)], discount: u32) -> Totals
         requires lines { ArePriced lines.now }
         requires discount { discount ≤ discount_limit }

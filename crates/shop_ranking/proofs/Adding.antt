@@ -7,10 +7,10 @@ use Rattle.std.proofs.Math.Seq.{drop-cons}
 use Rattle.std.proofs.lemmas.List.Elements.{All-drop}
 use Rattle.std.proofs.lemmas.List.Sums.{sum_by-cons, sum_by-drop_more, sum_by-le}
 use Rattle.shop_model.specs.declared.tables.Tables.{Tables}
-use Rattle.shop_model.specs.Limits.{quantity_limit, counted_orders}
-use Rattle.shop_model.specs.Rows.{LineRow, OrderRow}
-use Rattle.shop_model.specs.Sound.{units_in, Sound, HasLines, IsQuantity, OrderNames}
-use Rattle.shop_model.specs.Rankings.{latest_orders, sold_lately}
+use Rattle.shop_model.specs.rows.Limits.{quantity_limit, counted_orders}
+use Rattle.shop_model.specs.rows.Rows.{LineRow, OrderRow}
+use Rattle.shop_model.specs.rows.Sound.{units_in, Sound, HasLines, IsQuantity, OrderNames}
+use Rattle.shop_model.specs.lists.Rankings.{latest_orders, sold_lately}
 use Rattle.shop_model.proofs.Lists.{all_head, all_tail}
 use Rattle.shop_ranking.specs.Counts.{Adds, HasRoom, IsSoldLately}
 

@@ -4,11 +4,11 @@ use Rattle.std.proofs.Math.Seq.{drop-cons, drop-length}
 use Rattle.std.specs.Str.{bytes_eq}
 use Rattle.shop_model.specs.declared.subject.Subject.{Subject}
 use Rattle.shop_model.specs.declared.tables.Tables.{Tables}
-use Rattle.shop_model.specs.Limits.{list_limit}
-use Rattle.shop_model.specs.Rows.{ItemRow}
-use Rattle.shop_model.specs.Sound.{Sound}
-use Rattle.shop_model.specs.Subjects.{subject_name}
-use Rattle.shop_model.specs.Rankings.{Sale, in_order, in_subject, newer, newest, better, best, sold_lately}
+use Rattle.shop_model.specs.rows.Limits.{list_limit}
+use Rattle.shop_model.specs.rows.Rows.{ItemRow}
+use Rattle.shop_model.specs.rows.Sound.{Sound}
+use Rattle.shop_model.specs.rows.Subjects.{subject_name}
+use Rattle.shop_model.specs.lists.Rankings.{Sale, in_order, in_subject, newer, newest, better, best, sold_lately}
 use Rattle.shop_model.proofs.Lists.{id_of_place}
 use Rattle.shop_ranking.specs.Counts.{IsSoldLately, sale_in}
 

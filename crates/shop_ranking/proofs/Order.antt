@@ -7,8 +7,8 @@ use Rattle.std.specs.declared.cmp.Ordering.{Ordering}
 use Rattle.std.specs.declared.cmp.Ordering.TheVariants.{Less, Equal, Greater}
 use Rattle.std.proofs.lemmas.List.Sorted.{IsPermutation-refl, IsPermutation-trans, IsPermutation-cons, IsPermutation-middle}
 use Rattle.std.proofs.lemmas.Cmp.{nat_cmp_total, nat_list_cmp_total, on_total, then_total, back_total}
-use Rattle.shop_model.specs.Rows.{ItemRow}
-use Rattle.shop_model.specs.Rankings.{Sale, put_among, in_order, newer, better}
+use Rattle.shop_model.specs.rows.Rows.{ItemRow}
+use Rattle.shop_model.specs.lists.Rankings.{Sale, put_among, in_order, newer, better}
 use Rattle.shop_ranking.specs.Order.{IsInOrder}
 
 permutes_either : {A : Type 0} (b : Bool) (all left right : List A)

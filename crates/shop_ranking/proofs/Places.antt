@@ -5,7 +5,7 @@ use Rattle.std.proofs.Math.Seq.{drop-cons}
 use Rattle.std.specs.List.{insert}
 use Rattle.std.specs.Ordering.{is_gt}
 use Rattle.std.specs.declared.cmp.Ordering.{Ordering}
-use Rattle.shop_model.specs.Rankings.{put_among, in_order}
+use Rattle.shop_model.specs.lists.Rankings.{put_among, in_order}
 
 behind : {A : Type 0} (order : A → A → Ordering) (x : A) (xs : List A) (i : ℕ) (d : A)
     → i < length xs → is_gt (order x (get_or xs i d)) ≡ true

@@ -1,9 +1,9 @@
 -- Units of items, listed by the ids of the items.
 use Rattle.std.specs.Prelude.{◌≡◌, ℕ, ◌+◌, ◌^◌, ◌<◌, ◌≤◌, List, length, All, slice_index}
 use Rattle.shop_model.specs.declared.tables.Tables.{Tables}
-use Rattle.shop_model.specs.Rankings.{Sale, sold_lately}
-use Rattle.shop_model.specs.Rows.{ItemRow, LineRow}
-use Rattle.shop_model.specs.Sound.{units_in}
+use Rattle.shop_model.specs.lists.Rankings.{Sale, sold_lately}
+use Rattle.shop_model.specs.rows.Rows.{ItemRow, LineRow}
+use Rattle.shop_model.specs.rows.Sound.{units_in}
 
 -- the units of these lines may be added
 pub record HasRoom (sold : List ℕ) (lines : List LineRow) : Type 0 where

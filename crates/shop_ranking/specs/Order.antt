@@ -2,7 +2,7 @@
 use Rattle.std.specs.Prelude.{List}
 use Rattle.std.specs.List.Sorted.{IsSorted, IsPermutation}
 use Rattle.std.specs.declared.cmp.Ordering.{Ordering}
-use Rattle.shop_model.specs.Rankings.{in_order}
+use Rattle.shop_model.specs.lists.Rankings.{in_order}
 
 -- these elements in order are sorted, and are these elements
 pub record IsInOrder {A : Type 0} (order : A → A → Ordering) (xs : List A) : Type 0 where

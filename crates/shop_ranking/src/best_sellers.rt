@@ -1,8 +1,8 @@
 ghost use Rattle.std.specs.Prelude.{◌≡◌, ◌<◌, IfOk, OnOk, ◌&&◌, length, nat_lt};
 ghost use Rattle.std.specs.Str.{bytes_eq};
-ghost use Rattle.shop_model.specs.Rankings as spec;
-ghost use Rattle.shop_model.specs.Sound.{Sound};
-ghost use Rattle.shop_model.specs.Subjects.{subject_name};
+ghost use Rattle.shop_model.specs.lists.Rankings as spec;
+ghost use Rattle.shop_model.specs.rows.Sound.{Sound};
+ghost use Rattle.shop_model.specs.rows.Subjects.{subject_name};
 ghost use Rattle.shop_ranking.specs.Counts as counts;
 ghost use Rattle.shop_ranking.specs.Order.{IsInOrder};
 
@@ -23,7 +23,7 @@ pub(crate) struct Sold {
 }
 
 impl Model for Sold {
-    ghost use Rattle.shop_model.specs.Rankings.{Sale};
+    ghost use Rattle.shop_model.specs.lists.Rankings.{Sale};
 
     ghost Value = { Sale };
 
@@ -31,7 +31,7 @@ impl Model for Sold {
 }
 
 impl Ranked for Sold {
-    ghost use Rattle.shop_model.specs.Rankings.{better};
+    ghost use Rattle.shop_model.specs.lists.Rankings.{better};
 
     ghost order = { better };
 

@@ -1,7 +1,7 @@
 //! The units that were sold of each item.
 ghost use Rattle.std.specs.Prelude.{◌≡◌, ◌+◌, ◌^◌, ◌<◌, IfOk, length, set, slice_index};
-ghost use Rattle.shop_model.specs.Rankings as spec;
-ghost use Rattle.shop_model.specs.Sound.{Sound, units_in};
+ghost use Rattle.shop_model.specs.lists.Rankings as spec;
+ghost use Rattle.shop_model.specs.rows.Sound.{Sound, units_in};
 ghost use Rattle.shop_ranking.specs.Counts.{Adds, HasRoom, IsSoldLately};
 
 use shop_model::{Line, Order, Tables};

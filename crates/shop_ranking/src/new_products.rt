@@ -1,5 +1,5 @@
 ghost use Rattle.std.specs.Prelude.{◌≡◌, IfOk, OnOk};
-ghost use Rattle.shop_model.specs.Rankings as spec;
+ghost use Rattle.shop_model.specs.lists.Rankings as spec;
 ghost use Rattle.shop_ranking.specs.Order.{IsInOrder};
 
 use crate::subjects::is_of;
@@ -27,7 +27,7 @@ struct Published<'a> {
 }
 
 impl<'a> Model for Published<'a> {
-    ghost use Rattle.shop_model.specs.Rows.{ItemRow};
+    ghost use Rattle.shop_model.specs.rows.Rows.{ItemRow};
 
     ghost Value = { ItemRow };
 
@@ -35,7 +35,7 @@ impl<'a> Model for Published<'a> {
 }
 
 impl<'a> Ranked for Published<'a> {
-    ghost use Rattle.shop_model.specs.Rankings.{newer};
+    ghost use Rattle.shop_model.specs.lists.Rankings.{newer};
 
     ghost order = { newer };
 

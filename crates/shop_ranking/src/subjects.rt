@@ -1,6 +1,6 @@
 ghost use Rattle.std.specs.Prelude.{◌≡◌};
 ghost use Rattle.std.specs.Str.{bytes_eq};
-ghost use Rattle.shop_model.specs.Subjects.{subject_name};
+ghost use Rattle.shop_model.specs.rows.Subjects.{subject_name};
 
 use shop_model::{Item, Subject};
 

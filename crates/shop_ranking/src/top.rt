@@ -2,8 +2,8 @@
 ghost use Rattle.std.specs.Prelude.{◌≡◌, ◌≤◌, ℕ, IfOk, OnOk, length, map, take};
 ghost use Rattle.std.specs.declared.cmp.Ordering.{Ordering};
 ghost use Rattle.std.specs.List.{insert};
-ghost use Rattle.shop_model.specs.Limits.{list_limit};
-ghost use Rattle.shop_model.specs.Rankings.{put_among};
+ghost use Rattle.shop_model.specs.rows.Limits.{list_limit};
+ghost use Rattle.shop_model.specs.lists.Rankings.{put_among};
 
 use shop_text::{Listed, Memory};
 use std::alloc::Global;

@@ -7,8 +7,8 @@ use Rattle.std.proofs.lemmas.List.Folds.{list_any-append}
 use Rattle.std.proofs.lemmas.Slice.Eq.{bytes_eq-Decides}
 use Rattle.shop_model.specs.declared.author.Author.{Author}
 use Rattle.shop_model.specs.declared.requests.SearchKind.{SearchKind}
-use Rattle.shop_model.specs.Catalogues.{Catalogue, Naming, matches, by_title, found}
-use Rattle.shop_model.specs.Limits.{list_limit}
+use Rattle.shop_model.specs.lists.Catalogues.{Catalogue, Naming, matches, by_title, found}
+use Rattle.shop_model.specs.rows.Limits.{list_limit}
 use Rattle.shop_search.specs.Keys.{keys_of, key_of, is_among}
 use Rattle.shop_search.specs.Lists.{ids_at, with_id, Adds, AddsAll, Lists, Answers}
 use Rattle.shop_search.specs.Order.{by_title_total, IsListed}

@@ -5,8 +5,8 @@ use Rattle.std.proofs.lemmas.List.{take_more, take_all, length-map, get_or-map}
 use Rattle.shop_text.specs.Fold.{lower, fold_eq, fold_begins}
 use Rattle.shop_model.specs.declared.requests.SearchKind.{SearchKind}
 use Rattle.shop_model.specs.declared.requests.SearchKind.TheVariants as kind
-use Rattle.shop_model.specs.Catalogues.{Catalogue, Naming, matches, words, last_name}
-use Rattle.shop_model.specs.Subjects.{subject_name}
+use Rattle.shop_model.specs.lists.Catalogues.{Catalogue, Naming, matches, words, last_name}
+use Rattle.shop_model.specs.rows.Subjects.{subject_name}
 use Rattle.shop_search.specs.Keys.{fronts, keys_of, key_of, is_among}
 
 any_lower : (text : List ℕ) (ws : List (List ℕ))

@@ -8,7 +8,7 @@ use Rattle.std.specs.declared.cmp.Ordering.TheVariants.{Less, Equal, Greater}
 use Rattle.std.proofs.lemmas.Cmp.{upto, tied_itself}
 use Rattle.std.proofs.lemmas.List.Kept.{IsSortedBy-filter}
 use Rattle.std.proofs.lemmas.List.Sorted.{ranks_by, sorted_far}
-use Rattle.shop_model.specs.Rankings.{in_order, put_among}
+use Rattle.shop_model.specs.lists.Rankings.{in_order, put_among}
 use Rattle.shop_ranking.proofs.Order.{is_in_order}
 
 -- none of these comes before the first

@@ -3,7 +3,7 @@ use Rattle.std.proofs.Common.{◌≡◌, ℕ, ◌+◌, ◌<◌, ◌≤◌, Bool,
 use Rattle.std.proofs.Math.Seq.{drop-cons}
 use Rattle.std.proofs.lemmas.List.{drop_all}
 use Rattle.shop_text.specs.Fold.{lower}
-use Rattle.shop_model.specs.Catalogues.{runs_from, words}
+use Rattle.shop_model.specs.lists.Catalogues.{runs_from, words}
 
 -- the words among some runs, in small letters
 abbrev pub low : List (List ℕ) → List (List ℕ)

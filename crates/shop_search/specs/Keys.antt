@@ -6,9 +6,9 @@ use Rattle.shop_text.specs.Fold.{lower}
 use Rattle.shop_model.specs.declared.author.Author.{Author}
 use Rattle.shop_model.specs.declared.requests.SearchKind.{SearchKind}
 use Rattle.shop_model.specs.declared.requests.SearchKind.TheVariants as kind
-use Rattle.shop_model.specs.Catalogues.{Naming, words}
-use Rattle.shop_model.specs.Lookups.{row_numbered}
-use Rattle.shop_model.specs.Subjects.{subject_name}
+use Rattle.shop_model.specs.lists.Catalogues.{Naming, words}
+use Rattle.shop_model.specs.rows.Lookups.{row_numbered}
+use Rattle.shop_model.specs.rows.Subjects.{subject_name}
 
 -- the fronts of a text, the shortest first
 unfoldable pub fronts : List ℕ → List (List ℕ)

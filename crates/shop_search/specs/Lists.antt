@@ -5,8 +5,8 @@ use Rattle.std.specs.Str.{bytes_eq}
 use Rattle.shop_model.specs.declared.author.Author.{Author}
 use Rattle.shop_model.specs.declared.requests.SearchKind.{SearchKind}
 use Rattle.shop_model.specs.declared.requests.SearchKind.TheVariants as kind
-use Rattle.shop_model.specs.Catalogues.{Catalogue, Naming, found}
-use Rattle.shop_model.specs.Limits.{list_limit}
+use Rattle.shop_model.specs.lists.Catalogues.{Catalogue, Naming, found}
+use Rattle.shop_model.specs.rows.Limits.{list_limit}
 use Rattle.shop_search.specs.Keys.{keys_of, key_of, is_among}
 
 -- the ids at a key

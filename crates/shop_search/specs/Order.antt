@@ -3,7 +3,7 @@ use Rattle.std.specs.Prelude.{List}
 use Rattle.std.specs.Cmp.{IsTotalOrder}
 use Rattle.std.specs.List.Sorted.{IsSorted, IsStable}
 use Rattle.std.proofs.lemmas.Cmp.{nat_cmp_total, nat_list_cmp_total, on_total, then_total}
-use Rattle.shop_model.specs.Catalogues.{Naming, by_title}
+use Rattle.shop_model.specs.lists.Catalogues.{Naming, by_title}
 
 -- titles and ids order all namings
 pub by_title_total : IsTotalOrder by_title

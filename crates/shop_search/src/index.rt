@@ -1,6 +1,6 @@
 ghost use Rattle.std.specs.Prelude.{◌≡◌, IfOk};
 ghost use Rattle.shop_model.specs.declared.requests.SearchKind.TheVariants as kinds;
-ghost use Rattle.shop_model.specs.Catalogues.{catalogue, found};
+ghost use Rattle.shop_model.specs.lists.Catalogues.{catalogue, found};
 
 use crate::keys::key_of;
 use crate::lists::{at, lists_of};
@@ -28,7 +28,7 @@ pub struct Index {
 }
 
 impl Model for Index {
-    ghost use Rattle.shop_model.specs.Catalogues.{Catalogue};
+    ghost use Rattle.shop_model.specs.lists.Catalogues.{Catalogue};
     ghost use Rattle.shop_search.specs.Lists.{IsIndex};
 
     ghost Value = { Catalogue };

@@ -1,7 +1,7 @@
 ghost use Rattle.std.specs.Prelude.{◌≡◌, ◌++◌, ◌∷◌, ◌==◌, [], IfOk, OnOk, filter, length, map, not};
 ghost use Rattle.shop_text.specs.Fold.{lower};
-ghost use Rattle.shop_model.specs.Catalogues.{naming, words};
-ghost use Rattle.shop_model.specs.Subjects.{subject_name};
+ghost use Rattle.shop_model.specs.lists.Catalogues.{naming, words};
+ghost use Rattle.shop_model.specs.rows.Subjects.{subject_name};
 ghost use Rattle.shop_search.specs.Keys as spec;
 
 use shop_model::{Author, Item, SearchKind, Subject, row_numbered};

@@ -1,5 +1,5 @@
 ghost use Rattle.std.specs.Prelude.{◌≡◌, IfOk, map};
-ghost use Rattle.shop_model.specs.Catalogues.{naming};
+ghost use Rattle.shop_model.specs.lists.Catalogues.{naming};
 
 use shop_model::{Author, Item, ItemDetails};
 use shop_text::{Listed, Memory, Shared};
@@ -14,7 +14,7 @@ pub(crate) struct Named {
 }
 
 impl Model for Named {
-    ghost use Rattle.shop_model.specs.Catalogues.{Naming};
+    ghost use Rattle.shop_model.specs.lists.Catalogues.{Naming};
 
     ghost Value = { Naming };
 

@@ -4,7 +4,7 @@ ghost use Rattle.std.specs.Ordering.{as_partial_cmp, eq_by_cmp};
 ghost use Rattle.std.specs.Prelude.{◌≡◌, IfOk, map, refl};
 ghost use Rattle.std.proofs.Common.{rules};
 ghost use Rattle.std.proofs.lemmas.Cmp.{eq_by_cmp_equiv};
-ghost use Rattle.shop_model.specs.Catalogues.{by_title, naming};
+ghost use Rattle.shop_model.specs.lists.Catalogues.{by_title, naming};
 ghost use Rattle.shop_search.specs.Order.{by_title_total, IsListed};
 
 use shop_model::Item;
@@ -20,7 +20,7 @@ pub(crate) struct Ranked<'a> {
 }
 
 impl<'a> Model for Ranked<'a> {
-    ghost use Rattle.shop_model.specs.Catalogues.{Naming, naming};
+    ghost use Rattle.shop_model.specs.lists.Catalogues.{Naming, naming};
 
     ghost Value = { Naming };
 

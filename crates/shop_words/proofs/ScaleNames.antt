@@ -7,7 +7,7 @@ use Rattle.std.proofs.Math.Bool.{or-true}
 use Rattle.std.proofs.lemmas.List.Sums.{AllPass-from_list_all, split_at_first, passes_at_first}
 use Rattle.std.proofs.lemmas.Str.{IsAscii-append}
 use Rattle.std.proofs.lemmas.Str.Ascii.{IsAscii-from_all}
-use Rattle.shop_model.specs.Scales.{ScaleRow, desk, larger}
+use Rattle.shop_model.specs.population.Scales.{ScaleRow, desk, larger}
 use Rattle.shop_words.specs.Options.{IsPlain}
 use Rattle.shop_words.proofs.Numbers.{number-digits, number-plain}
 use Rattle.shop_words.proofs.Readings.{ascii-more}

@@ -9,7 +9,7 @@ use Rattle.std.proofs.lemmas.List.Sums.{AllPass-from_list_all}
 use Rattle.std.proofs.lemmas.Str.{IsUtf8-from_ascii}
 use Rattle.std.proofs.lemmas.Str.Ascii.{IsAscii-from_all}
 use Rattle.clap.specs.Walk.{Text}
-use Rattle.shop_model.specs.Scales.{desk}
+use Rattle.shop_model.specs.population.Scales.{desk}
 use Rattle.shop_words.specs.declared.command.Session.{Session}
 use Rattle.shop_words.specs.declared.options.Refusal.{Refusal}
 use Rattle.shop_words.specs.declared.options.Refusal.TheVariants as refusal

@@ -1,6 +1,6 @@
 -- The grammar of words, this project's own.
 use Rattle.std.specs.Prelude.{◌≡◌, ⊤, List, [], ◌∷◌, ℕ, Option, codes}
-use Rattle.shop_model.specs.Scales.{desk}
+use Rattle.shop_model.specs.population.Scales.{desk}
 use Rattle.shop_words.specs.Options.{Given, AreOptions, IsChosen, value_for}
 use Rattle.shop_words.specs.Values.{number_of, scale_of}
 use Rattle.shop_words.specs.declared.command.Session.{Session}

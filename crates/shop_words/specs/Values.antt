@@ -4,7 +4,7 @@ use Rattle.std.specs.List.{list_all, before_first, after_first}
 use Rattle.std.specs.Char.{is_ascii_digit}
 use Rattle.std.specs.Str.{bytes_eq}
 use Rattle.std.specs.Str.Parse.{digits_value}
-use Rattle.shop_model.specs.Scales.{ScaleRow, desk, larger}
+use Rattle.shop_model.specs.population.Scales.{ScaleRow, desk, larger}
 
 -- the number that 1 to 10 digits write, where it is below 2 ^ 32
 unfoldable pub number_of : List ℕ → Option ℕ

@@ -1,8 +1,8 @@
 ghost use Rattle.std.specs.Prelude.{◌≡◌, ◌≢◌, ◌<◌, ◌≤◌, IfOk, IfSome, length};
 ghost use Rattle.std.specs.Option.{option_map, ok_or};
-ghost use Rattle.shop_model.specs.Kinds.{kind_of};
-ghost use Rattle.shop_model.specs.Limits.{text_limit};
-ghost use Rattle.shop_model.specs.Subjects.{subject_of};
+ghost use Rattle.shop_model.specs.asked.Kinds.{kind_of};
+ghost use Rattle.shop_model.specs.rows.Limits.{text_limit};
+ghost use Rattle.shop_model.specs.rows.Subjects.{subject_of};
 ghost use Rattle.shop_model.specs.declared.parameter.Parameter.{Parameter};
 ghost use Rattle.shop_http.specs.Answers.{Reads};
 ghost use Rattle.shop_http.specs.Forms as spec;

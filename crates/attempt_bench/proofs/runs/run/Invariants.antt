@@ -1,5 +1,5 @@
 use Rattle.std.proofs.Common.{◌≡◌, ◌≤◌, length}
-use Rattle.shop_model.specs.Catalogues.{catalogue}
+use Rattle.shop_model.specs.lists.Catalogues.{catalogue}
 use Rattle.shop_book.specs.Solos.{seat_of}
 use Rattle.attempt_bench.proofs.runs.run.Given as goal
 

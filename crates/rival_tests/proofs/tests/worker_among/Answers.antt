@@ -1,9 +1,9 @@
 use Rattle.std.proofs.Common.{◌≡◌, ℕ, length, sym, ◌∙◌, ap}
 use Rattle.std.proofs.lemmas.List.FromFn.{length-map-range_with_len}
 use Rattle.shop_model.specs.declared.tables.Tables.{Tables}
-use Rattle.shop_model.specs.Catalogues.{Catalogue, catalogue}
-use Rattle.shop_model.specs.Population.{populated, items_table, item_row}
-use Rattle.shop_model.specs.Scales.{ScaleRow}
+use Rattle.shop_model.specs.lists.Catalogues.{Catalogue, catalogue}
+use Rattle.shop_model.specs.population.Population.{populated, items_table, item_row}
+use Rattle.shop_model.specs.population.Scales.{ScaleRow}
 use Rattle.shop_attempt.specs.Seats.{IsSeat}
 use Rattle.shop_book.specs.Books.{BookValue}
 use Rattle.shop_book.specs.Solos.{SoloValue, seat_of}

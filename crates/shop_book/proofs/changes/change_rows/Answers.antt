@@ -1,5 +1,5 @@
 use Rattle.std.proofs.Common.{length, sym, ◌∙◌, subst, arith, get_or}
-use Rattle.shop_model.specs.Empty.{no_tables}
+use Rattle.shop_model.specs.rows.Empty.{no_tables}
 use Rattle.shop_book.specs.declared.watching.Watched.{Watched}
 use Rattle.shop_book.specs.Puts.{IdsFit}
 use Rattle.shop_book.specs.RowsNow.{tables_with}

@@ -1,8 +1,8 @@
 use Rattle.std.proofs.Common.{◌≡◌, List, sym, ◌∙◌, ap}
 use Rattle.shop_model.specs.declared.subject.Subject.{Subject}
 use Rattle.shop_model.specs.declared.tables.Tables.{Tables}
-use Rattle.shop_model.specs.Rankings.{newest, best, sold_lately}
-use Rattle.shop_model.specs.Rows.{ItemRow, OrderRow}
+use Rattle.shop_model.specs.lists.Rankings.{newest, best, sold_lately}
+use Rattle.shop_model.specs.rows.Rows.{ItemRow, OrderRow}
 use Rattle.shop_history.specs.declared.keys.Row.TheVariants.{Items}
 use Rattle.shop_book.specs.declared.rows.Rows.{Rows}
 use Rattle.shop_book.specs.RowsNow.{tables_with, SameLists}

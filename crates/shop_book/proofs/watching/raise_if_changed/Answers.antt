@@ -1,6 +1,6 @@
 use Rattle.std.proofs.Common.{sym, ◌∙◌}
 use Rattle.std.proofs.lemmas.Bool.{false≢true}
-use Rattle.shop_model.specs.Empty.{no_tables}
+use Rattle.shop_model.specs.rows.Empty.{no_tables}
 use Rattle.shop_book.proofs.Placed.{place_changed}
 use Rattle.shop_book.proofs.watching.raise_if_changed.Goals as goal
 

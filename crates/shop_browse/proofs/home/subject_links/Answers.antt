@@ -1,5 +1,5 @@
 use Rattle.std.proofs.Common.{append_assoc, append-nil, refl}
-use Rattle.shop_model.specs.Show.{subject_links}
+use Rattle.shop_model.specs.pages.Home.{subject_links}
 use Rattle.shop_browse.proofs.home.subject_links.Goals as goal
 
 pub returns : goal.returns

@@ -1,6 +1,6 @@
 use Rattle.std.proofs.Common.{map, take}
 use Rattle.std.specs.List.{flat_map}
-use Rattle.shop_model.specs.PageText.{block_line}
+use Rattle.shop_model.specs.pages.PageText.{block_line}
 use Rattle.shop_draft.specs.Drawing.{ids_at}
 use Rattle.shop_draft.specs.Templates.{Adds}
 use Rattle.shop_browse.specs.Labels.{promoted_in}

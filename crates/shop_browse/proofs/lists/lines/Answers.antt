@@ -2,7 +2,7 @@ use Rattle.std.proofs.Common.{sym, ◌∙◌, ap, List, ◌++◌, length}
 use Rattle.std.specs.List.{flat_map}
 use Rattle.std.proofs.lemmas.Bool.{eqb-true}
 use Rattle.shop_model.specs.declared.page.Block.{Block}
-use Rattle.shop_model.specs.PageText.{block_line, block_text}
+use Rattle.shop_model.specs.pages.PageText.{block_line, block_text}
 use Rattle.shop_draft.specs.Drawing.{ids_at}
 use Rattle.shop_draft.specs.Templates.{filled}
 use Rattle.shop_browse.proofs.ListsLemmas.{no_lines}

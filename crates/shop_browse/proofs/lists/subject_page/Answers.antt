@@ -1,7 +1,7 @@
 use Rattle.std.proofs.Common.{List, ℕ, [], ◌∷◌, ◌++◌, append-nil, refl, sym, ◌∙◌, ap}
 use Rattle.shop_model.specs.declared.page.Block.TheVariants.{Heading}
-use Rattle.shop_model.specs.PageText.{block_line}
-use Rattle.shop_model.specs.Subjects.{subject_name}
+use Rattle.shop_model.specs.pages.PageText.{block_line}
+use Rattle.shop_model.specs.rows.Subjects.{subject_name}
 use Rattle.shop_draft.specs.Drawing.{ids_at}
 use Rattle.shop_draft.specs.Templates.{filled}
 use Rattle.shop_browse.proofs.ListsLemmas.{list_written}

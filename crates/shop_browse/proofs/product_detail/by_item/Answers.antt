@@ -1,6 +1,6 @@
 use Rattle.shop_model.specs.declared.refusal.Refusal.TheVariants.{NoItem}
 use Rattle.shop_model.specs.declared.requests.Request.TheVariants.{ProductDetail}
-use Rattle.shop_model.specs.Refusals.{page_of}
+use Rattle.shop_model.specs.asked.Refusals.{page_of}
 use Rattle.shop_browse.proofs.DriverLemmas.{shows_page}
 use Rattle.shop_browse.proofs.ProductDetailLemmas.{asks_label, none_shown}
 use Rattle.shop_browse.proofs.product_detail.by_item.Goals as goal

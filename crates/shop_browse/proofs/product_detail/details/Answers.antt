@@ -1,5 +1,5 @@
 use Rattle.std.proofs.Common.{append_assoc, append-nil, refl}
-use Rattle.shop_model.specs.Products.{details}
+use Rattle.shop_model.specs.pages.ProductDetail.{details}
 use Rattle.shop_browse.proofs.product_detail.details.Goals as goal
 
 pub returns : goal.returns

@@ -1,8 +1,8 @@
 use Rattle.std.proofs.Common.{refl, codes}
 use Rattle.shop_text.specs.Texts.{day_text}
-use Rattle.shop_model.specs.PageText.{block_text}
-use Rattle.shop_model.specs.Products.{subject_line}
-use Rattle.shop_model.specs.Subjects.{subject_name}
+use Rattle.shop_model.specs.pages.PageText.{block_text}
+use Rattle.shop_model.specs.pages.ProductDetail.{subject_line}
+use Rattle.shop_model.specs.rows.Subjects.{subject_name}
 use Rattle.shop_draft.proofs.PageTexts.{three_values}
 use Rattle.shop_browse.proofs.product_detail.subject_line.Goals as goal
 

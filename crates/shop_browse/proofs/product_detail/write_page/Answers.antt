@@ -1,7 +1,7 @@
 use Rattle.std.proofs.Common.{refl}
-use Rattle.shop_model.specs.PageText.{block_line}
-use Rattle.shop_model.specs.Products.{product_page, details}
-use Rattle.shop_model.specs.Targets.{nav}
+use Rattle.shop_model.specs.pages.PageText.{block_line}
+use Rattle.shop_model.specs.pages.ProductDetail.{product_page, details}
+use Rattle.shop_model.specs.pages.Targets.{nav}
 use Rattle.shop_draft.specs.Drawing.{ids_at}
 use Rattle.shop_draft.proofs.PageTexts.{five, both, written}
 use Rattle.shop_browse.specs.ProductDetail.{named}

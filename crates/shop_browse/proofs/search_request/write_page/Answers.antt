@@ -1,8 +1,8 @@
 use Rattle.std.proofs.Common.{List, ◌∷◌, [], ◌++◌, codes, map, append_assoc, refl}
 use Rattle.shop_model.specs.declared.page.Block.{Block}
-use Rattle.shop_model.specs.PageText.{block_line}
-use Rattle.shop_model.specs.Show.{search_form}
-use Rattle.shop_model.specs.Targets.{nav}
+use Rattle.shop_model.specs.pages.PageText.{block_line}
+use Rattle.shop_model.specs.pages.SearchRequest.{search_form}
+use Rattle.shop_model.specs.pages.Targets.{nav}
 use Rattle.shop_draft.specs.Drawing.{ids_at}
 use Rattle.shop_draft.proofs.PageTexts.{two, both, written}
 use Rattle.shop_browse.specs.Labels.{promoted_in}

@@ -1,7 +1,7 @@
 use Rattle.std.proofs.Common.{List, ℕ, [], ◌++◌, append-nil, codes, refl, sym, ◌∙◌, ap}
 use Rattle.shop_model.specs.declared.page.Block.TheVariants.{Heading, Para}
-use Rattle.shop_model.specs.Kinds.{kind_name}
-use Rattle.shop_model.specs.PageText.{block_line, block_text}
+use Rattle.shop_model.specs.asked.Kinds.{kind_name}
+use Rattle.shop_model.specs.pages.PageText.{block_line, block_text}
 use Rattle.shop_draft.specs.Templates.{filled}
 use Rattle.shop_draft.proofs.PageTexts.{two_values}
 use Rattle.shop_browse.proofs.search_results.heading.Goals as goal

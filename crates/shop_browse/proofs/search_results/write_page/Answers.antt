@@ -1,7 +1,7 @@
 use Rattle.std.proofs.Common.{◌≡◌, codes, refl, ◌∙◌, ap, subst}
 use Rattle.shop_model.specs.declared.requests.IdsAsked.{IdsAsked}
-use Rattle.shop_model.specs.PageText.{page_text}
-use Rattle.shop_model.specs.SearchAsked.{SearchAsked}
+use Rattle.shop_model.specs.pages.PageText.{page_text}
+use Rattle.shop_model.specs.asked.SearchAsked.{SearchAsked}
 use Rattle.shop_draft.specs.Drawing.{ids_at}
 use Rattle.shop_draft.specs.Templates.{filled}
 use Rattle.shop_browse.specs.Lists.{page_in}

@@ -1,4 +1,4 @@
-use Rattle.shop_model.specs.Refusals.{page_of}
+use Rattle.shop_model.specs.asked.Refusals.{page_of}
 use Rattle.shop_engine.proofs.replies.refusal_reply.Goals as goal
 
 -- the draft that was reserved is the one that the refusal was written into

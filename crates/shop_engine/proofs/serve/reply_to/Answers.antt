@@ -15,5 +15,5 @@ returns-clause-answered g c =
     let from = standing g.St.Store.seat c.args.worker.now (g.C.Clock.readings c.args.clock.now) in
     let to = standing g.St.Store.seat (state_of c.worker.inside) clock in
     let made : Answers c.args.last from to c.args.message.now c.in-Some.point (bytes_of c.worker.inside.reply) =
-      subst (λ w. Answers c.args.last from (standing g.St.Store.seat w clock) c.args.message.now c.in-Some.point w.reply) (sym c.worker.view_is) c.in-Some.ensures.answers in
+    subst (λ w. Answers c.args.last from (standing g.St.Store.seat w clock) c.args.message.now c.in-Some.point w.reply) (sym c.worker.view_is) c.in-Some.ensures.answers in
     subst (λ text. Answers c.args.last from to c.args.message.now c.in-Some.point text) (sym (c.into_text.ensures ∙ ap bytes_of c.replace-reply.ensures.value)) made

@@ -1,5 +1,5 @@
 use Rattle.std.proofs.Common.{◌∙◌, sym, ap}
-use Rattle.shop_model.specs.Interactions.{interaction_of}
+use Rattle.shop_model.specs.asked.Interactions.{interaction_of}
 use Rattle.shop_http.proofs.RequestLemmas.{asked-get, asked-post}
 use Rattle.shop_http.proofs.requests.asked_of.Goals as goal
 

@@ -1,6 +1,6 @@
 use Rattle.std.proofs.Common.{ap}
 use Rattle.shop_model.specs.declared.requests.IdsAsked.{IdsAsked}
-use Rattle.shop_model.specs.Carts.{ids_with}
+use Rattle.shop_model.specs.pages.ShoppingCart.{ids_with}
 use Rattle.shop_draft.specs.Drawing.{id_at}
 use Rattle.shop_order.proofs.page.page_ids.Goals as goal
 

@@ -1,6 +1,6 @@
 use Rattle.std.proofs.Common.{ℕ, subst}
 use Rattle.shop_model.specs.declared.requests.IdsAsked.{IdsAsked}
-use Rattle.shop_model.specs.Carts.{cart_page, ids_with}
+use Rattle.shop_model.specs.pages.ShoppingCart.{cart_page, ids_with}
 use Rattle.shop_draft.specs.Drawing.{id_at}
 use Rattle.shop_draft.specs.Pages.{IsPage}
 use Rattle.shop_order.proofs.page.write_page.Goals as goal

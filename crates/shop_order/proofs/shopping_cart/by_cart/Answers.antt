@@ -3,7 +3,7 @@ use Rattle.std.specs.Option.{option_copied}
 use Rattle.std.proofs.lemmas.Result.{IfOk-weaker}
 use Rattle.shop_history.specs.declared.keys.Key.TheVariants.{Item}
 use Rattle.shop_model.specs.declared.requests.Request.TheVariants.{CartRequest}
-use Rattle.shop_model.specs.Refusals.{page_of}
+use Rattle.shop_model.specs.asked.Refusals.{page_of}
 use Rattle.shop_browse.proofs.DriverLemmas.{shows_page}
 use Rattle.shop_order.specs.ShoppingCart.{IsBegun}
 use Rattle.shop_order.proofs.ShoppingCartLemmas.{refusal_shown, never_fits, asks_items, items_read, changed}

@@ -1,5 +1,5 @@
 use Rattle.std.proofs.Common.{◌++◌, ◌∙◌, ap, sym}
-use Rattle.shop_model.specs.PageText.{row_text}
+use Rattle.shop_model.specs.pages.PageText.{row_text}
 use Rattle.shop_attempt.specs.declared.attempts.ReadOf.{ReadOf}
 use Rattle.shop_draft.specs.Templates.{filled}
 use Rattle.shop_order.specs.Table.{cells_in}

@@ -1,8 +1,8 @@
 use Rattle.std.proofs.Common.{map, take}
 use Rattle.std.specs.List.{flat_map}
 use Rattle.shop_model.specs.declared.tables.Tables.{Tables}
-use Rattle.shop_model.specs.Carts.{line_cells}
-use Rattle.shop_model.specs.PageText.{row_text}
+use Rattle.shop_model.specs.pages.ShoppingCart.{line_cells}
+use Rattle.shop_model.specs.pages.PageText.{row_text}
 use Rattle.shop_draft.specs.Templates.{Says}
 use Rattle.shop_attempt.specs.Reads.{Shows}
 use Rattle.shop_order.proofs.table.rows.Given as goal

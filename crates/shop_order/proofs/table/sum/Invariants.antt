@@ -1,7 +1,7 @@
 use Rattle.std.proofs.Common.{◌≡◌, ◌≤◌, ◌*◌, take}
 use Rattle.std.specs.List.{sum_by}
 use Rattle.shop_model.specs.declared.tables.Tables.{Tables}
-use Rattle.shop_model.specs.Carts.{line_cost}
+use Rattle.shop_model.specs.pages.ShoppingCart.{line_cost}
 use Rattle.shop_attempt.specs.Reads.{Shows}
 use Rattle.shop_order.proofs.table.sum.Given as goal
 

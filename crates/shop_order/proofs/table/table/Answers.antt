@@ -1,5 +1,5 @@
 use Rattle.std.proofs.Common.{append_assoc, refl}
-use Rattle.shop_model.specs.PageText.{block_text}
+use Rattle.shop_model.specs.pages.PageText.{block_text}
 use Rattle.shop_order.proofs.table.table.Goals as goal
 
 pub returns : goal.returns

@@ -1,6 +1,6 @@
 use Rattle.std.proofs.Common.{◌≡◌, ◌++◌, take}
 use Rattle.std.specs.List.{flat_map}
-use Rattle.shop_model.specs.PageText.{field_text}
+use Rattle.shop_model.specs.pages.PageText.{field_text}
 use Rattle.shop_pages.proofs.blocks.push_fields.Given as goal
 
 abbrev pub invariant-loop-field : goal.invariant-loop-field

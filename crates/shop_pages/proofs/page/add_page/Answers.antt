@@ -1,6 +1,6 @@
 use Rattle.std.proofs.Common.{◌≡◌, ◌++◌, List, ℕ, append_assoc}
 use Rattle.std.proofs.lemmas.Result.{on_ok_weaker}
-use Rattle.shop_model.specs.PageText.{page_text}
+use Rattle.shop_model.specs.pages.PageText.{page_text}
 use Rattle.shop_pages.proofs.page.add_page.Goals as goal
 
 -- what is pushed in turn is pushed as one

@@ -1,5 +1,5 @@
 use Rattle.std.proofs.Common.{◌≡◌}
-use Rattle.shop_model.specs.Population as spec
+use Rattle.shop_model.specs.population.Population as spec
 use Rattle.shop_populate.proofs.addresses.addresses_table.Given as goal
 
 abbrev pub invariant-loop-made : goal.invariant-loop-made

@@ -1,5 +1,5 @@
 use Rattle.std.proofs.Common.{◌≡◌, ◌∙◌, ap, arith}
-use Rattle.shop_model.specs.Population as spec
+use Rattle.shop_model.specs.population.Population as spec
 use Rattle.shop_populate.proofs.countries.countries_table.Goals as goal
 
 pub returns : goal.returns

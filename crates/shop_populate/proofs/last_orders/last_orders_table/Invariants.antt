@@ -1,6 +1,6 @@
 use Rattle.std.proofs.Common.{◌≡◌, take}
-use Rattle.shop_model.specs.Population.{rows}
-use Rattle.shop_model.specs.Sound.{last_of}
+use Rattle.shop_model.specs.population.Population.{rows}
+use Rattle.shop_model.specs.rows.Sound.{last_of}
 use Rattle.shop_populate.proofs.last_orders.last_orders_table.Given as goal
 
 abbrev pub invariant-loop-order : goal.invariant-loop-order

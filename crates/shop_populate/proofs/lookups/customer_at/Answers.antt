@@ -1,4 +1,4 @@
-use Rattle.shop_model.specs.Population as spec
+use Rattle.shop_model.specs.population.Population as spec
 use Rattle.shop_model.proofs.Lists.{row_at}
 use Rattle.shop_model.proofs.Scales.{is_roomy}
 use Rattle.shop_populate.proofs.RowFacts.{address_exists}

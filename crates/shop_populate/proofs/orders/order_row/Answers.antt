@@ -1,6 +1,6 @@
 use Rattle.std.proofs.Common.{ap}
-use Rattle.shop_model.specs.Rows.{CustomerRow}
-use Rattle.shop_model.specs.Population as spec
+use Rattle.shop_model.specs.rows.Rows.{CustomerRow}
+use Rattle.shop_model.specs.population.Population as spec
 use Rattle.shop_populate.proofs.orders.order_row.Goals as goal
 
 pub returns : goal.returns

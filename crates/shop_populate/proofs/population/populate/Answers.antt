@@ -1,6 +1,6 @@
 use Rattle.std.proofs.Common.{◌≡◌, length, subst, sym}
 use Rattle.shop_model.specs.declared.tables.Tables.{Tables}
-use Rattle.shop_model.specs.Population as spec
+use Rattle.shop_model.specs.population.Population as spec
 use Rattle.shop_populate.proofs.Opening.{is_sound, has_room, all_born, orders_run, buyers_exist}
 use Rattle.shop_populate.proofs.population.populate.Goals as goal
 

@@ -1,6 +1,6 @@
 use Rattle.std.proofs.Common.{◌≡◌, ℕ, List, Some, subst}
-use Rattle.shop_model.specs.CartAsked.{CartAsked}
-use Rattle.shop_model.specs.Carts.{one_more, wanted, check_lines}
+use Rattle.shop_model.specs.asked.CartAsked.{CartAsked}
+use Rattle.shop_model.specs.trade.Carts.{one_more, wanted, check_lines}
 use Rattle.shop_pricing.specs.Fills.{AreSet}
 use Rattle.shop_pricing.proofs.Runs.{set_then, set_refused}
 use Rattle.shop_pricing.proofs.filling.set_wanted.Goals as goal

@@ -1,6 +1,6 @@
 use Rattle.std.proofs.Common.{◌≡◌, ℕ, List, sym, ap, ◌∙◌, subst, refl, nat_eq, false}
 use Rattle.indexmap.specs.IndexMap.{shift_remove_entry}
-use Rattle.shop_model.specs.Carts.{set_line, is_too_many}
+use Rattle.shop_model.specs.trade.Carts.{set_line, is_too_many}
 use Rattle.shop_pricing.specs.Bounds.{AreLines}
 use Rattle.shop_pricing.proofs.Setting.{set_line-none, set_line_kept}
 use Rattle.shop_pricing.proofs.lines.change.Goals as goal

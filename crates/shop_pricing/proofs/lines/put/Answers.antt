@@ -1,6 +1,6 @@
 use Rattle.std.proofs.Common.{◌≡◌, ◌≤◌, ℕ, List, sym, ap, ◌∙◌, subst, nat_eq}
 use Rattle.indexmap.specs.IndexMap.{insert_entry}
-use Rattle.shop_model.specs.Carts.{set_line}
+use Rattle.shop_model.specs.trade.Carts.{set_line}
 use Rattle.shop_pricing.specs.Bounds.{AreLines}
 use Rattle.shop_pricing.specs.Changes.{IsChanged}
 use Rattle.shop_pricing.specs.declared.lines.Changed.{Changed}

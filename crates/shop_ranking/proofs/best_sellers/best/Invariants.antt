@@ -1,6 +1,6 @@
 use Rattle.std.proofs.Common.{◌≡◌, take, drop}
-use Rattle.shop_model.specs.Limits.{list_limit}
-use Rattle.shop_model.specs.Rankings.{in_order, better}
+use Rattle.shop_model.specs.rows.Limits.{list_limit}
+use Rattle.shop_model.specs.lists.Rankings.{in_order, better}
 use Rattle.shop_ranking.proofs.Lists.{sales_of}
 use Rattle.shop_ranking.proofs.best_sellers.best.Given as goal
 

@@ -1,5 +1,5 @@
 use Rattle.std.proofs.Common.{arith, ap}
-use Rattle.shop_model.specs.Rows.{LineRow}
+use Rattle.shop_model.specs.rows.Rows.{LineRow}
 use Rattle.shop_ranking.proofs.Adding.{line_added}
 use Rattle.shop_ranking.proofs.counting.add_lines.Goals as goal
 

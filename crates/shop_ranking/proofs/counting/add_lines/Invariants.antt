@@ -1,5 +1,5 @@
 use Rattle.std.proofs.Common.{drop}
-use Rattle.shop_model.specs.Sound.{units_in}
+use Rattle.shop_model.specs.rows.Sound.{units_in}
 use Rattle.shop_ranking.proofs.counting.add_lines.Given as goal
 use Rattle.shop_ranking.proofs.Adding.{IsAdding}
 

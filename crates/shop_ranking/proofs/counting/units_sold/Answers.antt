@@ -1,6 +1,6 @@
 use Rattle.std.proofs.Common.{◌≡◌, ◌+◌, arith, ap, ◌∙◌, length, replicate, rules}
-use Rattle.shop_model.specs.Rankings.{latest_orders}
-use Rattle.shop_model.specs.Rows.{OrderRow}
+use Rattle.shop_model.specs.lists.Rankings.{latest_orders}
+use Rattle.shop_model.specs.rows.Rows.{OrderRow}
 use Rattle.shop_ranking.proofs.Adding.{has_room, order_added, all_added}
 use Rattle.shop_ranking.proofs.counting.units_sold.Goals as goal
 

@@ -1,6 +1,6 @@
 use Rattle.std.proofs.Common.{◌≡◌, sym, arith, ◌∙◌, map}
-use Rattle.shop_model.specs.Limits.{list_limit}
-use Rattle.shop_model.specs.Rankings.{newer, newest}
+use Rattle.shop_model.specs.rows.Limits.{list_limit}
+use Rattle.shop_model.specs.lists.Rankings.{newer, newest}
 use Rattle.shop_ranking.proofs.Places.{top_none, top_more}
 use Rattle.shop_ranking.proofs.Lists.{nothing_walked, subject_more, newest_is}
 use Rattle.shop_ranking.proofs.new_products.newest.Goals as goal

@@ -1,6 +1,6 @@
 use Rattle.std.proofs.Common.{◌≡◌, take, drop}
-use Rattle.shop_model.specs.Limits.{list_limit}
-use Rattle.shop_model.specs.Rankings.{in_order, in_subject, newer}
+use Rattle.shop_model.specs.rows.Limits.{list_limit}
+use Rattle.shop_model.specs.lists.Rankings.{in_order, in_subject, newer}
 use Rattle.shop_ranking.proofs.new_products.newest.Given as goal
 
 abbrev pub invariant-loop-place : goal.invariant-loop-place

@@ -1,5 +1,5 @@
 use Rattle.std.proofs.Common.{◌≡◌, ◌++◌, take, drop}
-use Rattle.shop_model.specs.Rankings.{put_among}
+use Rattle.shop_model.specs.lists.Rankings.{put_among}
 use Rattle.shop_ranking.proofs.top.place_among.Given as goal
 
 abbrev pub invariant-loop-place : goal.invariant-loop-place

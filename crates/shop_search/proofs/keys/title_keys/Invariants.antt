@@ -1,6 +1,6 @@
 use Rattle.std.proofs.Common.{◌≡◌, ◌++◌, drop, map}
 use Rattle.shop_text.specs.Fold.{lower}
-use Rattle.shop_model.specs.Catalogues.{words}
+use Rattle.shop_model.specs.lists.Catalogues.{words}
 use Rattle.shop_search.proofs.Words.{low_words}
 use Rattle.shop_search.proofs.keys.title_keys.Given as goal
 

@@ -1,6 +1,6 @@
 use Rattle.std.proofs.Common.{◌≡◌, ◌∙◌, arith, ap}
-use Rattle.shop_model.specs.Catalogues.{Naming, naming}
-use Rattle.shop_model.specs.Rows.{ItemRow}
+use Rattle.shop_model.specs.lists.Catalogues.{Naming, naming}
+use Rattle.shop_model.specs.rows.Rows.{ItemRow}
 use Rattle.shop_search.specs.Keys.{keys_of}
 use Rattle.shop_search.proofs.Filling.{item_listed}
 use Rattle.shop_search.proofs.lists.lists_of.Goals as goal

@@ -1,5 +1,5 @@
 use Rattle.std.proofs.Common.{◌≡◌, map, take}
-use Rattle.shop_model.specs.Catalogues.{naming}
+use Rattle.shop_model.specs.lists.Catalogues.{naming}
 use Rattle.shop_search.proofs.order.in_list_order.Given as goal
 
 abbrev pub invariant-loop-item : goal.invariant-loop-item

@@ -1,5 +1,5 @@
 use Rattle.std.proofs.Common.{◌≡◌, ◌<◌, ◌≤◌, ◌∙◌, length, Some, None, is_some, ap, sym, refl, arith}
-use Rattle.shop_model.specs.Limits.{stamp_limit}
+use Rattle.shop_model.specs.rows.Limits.{stamp_limit}
 use Rattle.shop_attempt.specs.Reads.{first_stale}
 use Rattle.shop_attempt.proofs.Hinge.{overtaken, makes_now}
 use Rattle.shop_book.proofs.book.Book.settle.Goals as goal

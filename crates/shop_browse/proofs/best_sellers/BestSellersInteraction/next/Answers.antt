@@ -3,8 +3,8 @@ use Rattle.shop_model.specs.declared.page.Block.{Block}
 use Rattle.shop_model.specs.declared.page.Block.TheVariants.{Heading}
 use Rattle.shop_model.specs.declared.requests.IdsAsked.{IdsAsked}
 use Rattle.shop_model.specs.declared.requests.Request.TheVariants.{BestSellers}
-use Rattle.shop_model.specs.Lines.{best_sellers}
-use Rattle.shop_model.specs.Subjects.{subject_name}
+use Rattle.shop_model.specs.pages.BestSellers.{best_sellers}
+use Rattle.shop_model.specs.rows.Subjects.{subject_name}
 use Rattle.shop_history.specs.declared.keys.Key.TheVariants.{BestIn}
 use Rattle.shop_draft.specs.Pages.{Shows}
 use Rattle.shop_attempt.specs.declared.attempts.ReadOf.{ReadOf}

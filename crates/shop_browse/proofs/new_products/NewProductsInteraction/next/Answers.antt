@@ -3,8 +3,8 @@ use Rattle.shop_model.specs.declared.page.Block.{Block}
 use Rattle.shop_model.specs.declared.page.Block.TheVariants.{Heading}
 use Rattle.shop_model.specs.declared.requests.IdsAsked.{IdsAsked}
 use Rattle.shop_model.specs.declared.requests.Request.TheVariants.{NewProducts}
-use Rattle.shop_model.specs.Lines.{new_products}
-use Rattle.shop_model.specs.Subjects.{subject_name}
+use Rattle.shop_model.specs.pages.NewProducts.{new_products}
+use Rattle.shop_model.specs.rows.Subjects.{subject_name}
 use Rattle.shop_history.specs.declared.keys.Key.TheVariants.{NewIn}
 use Rattle.shop_draft.specs.Pages.{Shows}
 use Rattle.shop_attempt.specs.declared.attempts.ReadOf.{ReadOf}

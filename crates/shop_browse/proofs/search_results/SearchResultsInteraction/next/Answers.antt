@@ -1,7 +1,7 @@
 use Rattle.std.proofs.Common.{map, ap, ◌∙◌}
 use Rattle.shop_model.specs.declared.requests.Request.TheVariants.{SearchResults}
-use Rattle.shop_model.specs.Catalogues.{found}
-use Rattle.shop_model.specs.SearchAsked.{SearchAsked}
+use Rattle.shop_model.specs.lists.Catalogues.{found}
+use Rattle.shop_model.specs.asked.SearchAsked.{SearchAsked}
 use Rattle.shop_history.specs.declared.keys.Key.TheVariants.{Label}
 use Rattle.shop_browse.proofs.DriverLemmas.{shows_page}
 use Rattle.shop_browse.proofs.SearchResultsLemmas.{asks_found, found_shown}

@@ -1,6 +1,6 @@
 use Rattle.std.proofs.Common.{codes, refl}
-use Rattle.shop_model.specs.Lines.{line_label}
-use Rattle.shop_model.specs.PageText.{block_text}
+use Rattle.shop_model.specs.pages.Lists.{line_label}
+use Rattle.shop_model.specs.pages.PageText.{block_text}
 use Rattle.shop_draft.specs.Links.{link_front}
 use Rattle.shop_draft.proofs.PageTexts.{three_texts}
 use Rattle.shop_draft.proofs.template.Template.author_link.Goals as goal

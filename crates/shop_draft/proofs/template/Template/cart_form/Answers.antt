@@ -1,6 +1,6 @@
 use Rattle.std.proofs.Common.{append_assoc, refl}
 use Rattle.std.proofs.lemmas.Grind.{flat_map-append}
-use Rattle.shop_model.specs.PageText.{block_text}
+use Rattle.shop_model.specs.pages.PageText.{block_text}
 use Rattle.shop_draft.proofs.template.Template.cart_form.Goals as goal
 
 pub returns : goal.returns

@@ -1,7 +1,7 @@
 use Rattle.std.proofs.Common.{map, take}
 use Rattle.std.specs.List.{flat_map}
-use Rattle.shop_model.specs.Carts.{line_field}
-use Rattle.shop_model.specs.PageText.{field_text}
+use Rattle.shop_model.specs.pages.ShoppingCart.{line_field}
+use Rattle.shop_model.specs.pages.PageText.{field_text}
 use Rattle.shop_draft.specs.Templates.{Says}
 use Rattle.shop_draft.proofs.template.Template.line_fields.Given as goal
 

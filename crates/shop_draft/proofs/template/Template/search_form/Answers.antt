@@ -1,6 +1,6 @@
 use Rattle.std.proofs.Common.{append_assoc, refl}
-use Rattle.shop_model.specs.PageText.{block_text, field_text}
-use Rattle.shop_model.specs.Show.{search_form}
+use Rattle.shop_model.specs.pages.PageText.{block_text, field_text}
+use Rattle.shop_model.specs.pages.SearchRequest.{search_form}
 use Rattle.shop_draft.proofs.template.Template.search_form.Goals as goal
 
 pub returns : goal.returns

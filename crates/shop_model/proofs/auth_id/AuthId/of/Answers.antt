@@ -2,7 +2,7 @@ use Rattle.std.proofs.Common.{◌≡◌, ◌∙◌, sym, arith}
 use Rattle.std.specs.Char.{IsAsciiDigit}
 use Rattle.std.proofs.Math.ListN.{length-set}
 use Rattle.std.proofs.lemmas.List.Elements.{All-set}
-use Rattle.shop_model.specs.AuthIds as spec
+use Rattle.shop_model.specs.rows.AuthIds as spec
 use Rattle.shop_model.proofs.DigitLemmas.{digits_more}
 use Rattle.shop_model.proofs.auth_id.AuthId.of.Goals as goal
 

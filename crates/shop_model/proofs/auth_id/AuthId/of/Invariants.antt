@@ -1,7 +1,7 @@
 use Rattle.std.proofs.Common.{◌≡◌, ◌≤◌, ◌++◌, length, drop}
 use Rattle.std.specs.List.{All}
 use Rattle.std.specs.Char.{IsAsciiDigit}
-use Rattle.shop_model.specs.AuthIds as spec
+use Rattle.shop_model.specs.rows.AuthIds as spec
 use Rattle.shop_model.proofs.auth_id.AuthId.of.Given as goal
 
 abbrev pub invariant-loop-place : goal.invariant-loop-place

@@ -1,6 +1,6 @@
 use Rattle.std.proofs.Common.{◌∙◌, sym}
 use Rattle.std.specs.Str.{bytes_eq}
-use Rattle.shop_model.specs.Subjects.{subject_name}
+use Rattle.shop_model.specs.rows.Subjects.{subject_name}
 use Rattle.shop_model.proofs.Finds.{find_behind}
 use Rattle.shop_model.proofs.subject.Subject.of.Goals as goal
 

@@ -1,7 +1,7 @@
 use Rattle.std.proofs.Common.{◌≡◌, length}
 use Rattle.std.specs.List.{find}
 use Rattle.std.specs.Str.{bytes_eq}
-use Rattle.shop_model.specs.Subjects.{subject_of, subject_name}
+use Rattle.shop_model.specs.rows.Subjects.{subject_of, subject_name}
 use Rattle.shop_model.proofs.subject.Subject.of.Given as goal
 
 abbrev pub invariant-loop-rest : goal.invariant-loop-rest

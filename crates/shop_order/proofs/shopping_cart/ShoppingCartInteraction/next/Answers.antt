@@ -1,7 +1,7 @@
 use Rattle.std.proofs.Common.{◌≡◌, List, ◌∷◌, drop, Some, sym, ◌∙◌, ap, subst}
 use Rattle.std.proofs.lemmas.Result.{IfOk-weaker}
 use Rattle.shop_model.specs.declared.requests.Request.TheVariants.{CartRequest}
-use Rattle.shop_model.specs.CartAsked.{CartAsked}
+use Rattle.shop_model.specs.asked.CartAsked.{CartAsked}
 use Rattle.shop_attempt.specs.declared.attempts.ReadOf.{ReadOf}
 use Rattle.shop_browse.specs.Driver.{AreSeen, IsNext}
 use Rattle.shop_browse.proofs.DriverLemmas.{behind}

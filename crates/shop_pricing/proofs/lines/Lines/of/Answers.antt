@@ -1,6 +1,6 @@
 use Rattle.std.proofs.Common.{◌≡◌, ◌≢◌, ℕ, suc, ◌<◌, ◌+◌, List, length, get_or, take, AllPairs, ap, ◌∙◌, nat_eq, arith}
 use Rattle.indexmap.specs.IndexMap.{insert_entry}
-use Rattle.shop_model.specs.Rows.{CartRow}
+use Rattle.shop_model.specs.rows.Rows.{CartRow}
 use Rattle.shop_pricing.proofs.Setting.{insert_next}
 use Rattle.shop_pricing.proofs.lines.Lines.of.Goals as goal
 

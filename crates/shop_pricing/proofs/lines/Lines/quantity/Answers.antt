@@ -1,8 +1,8 @@
 use Rattle.std.proofs.Common.{◌≡◌, ℕ, List, Option, Some, None, sym, ap, ◌∙◌, subst, nat_eq, IfSome, unwrap_or}
 use Rattle.std.specs.Map.{lookup}
 use Rattle.std.proofs.lemmas.Map.Entries.{All-lookup}
-use Rattle.shop_model.specs.Carts.{quantity_of}
-use Rattle.shop_model.specs.Sound.{IsQuantity}
+use Rattle.shop_model.specs.trade.Carts.{quantity_of}
+use Rattle.shop_model.specs.rows.Sound.{IsQuantity}
 use Rattle.shop_pricing.proofs.lines.Lines.quantity.Goals as goal
 
 -- what a look-up finds is the quantity

@@ -1,6 +1,6 @@
 use Rattle.std.proofs.Common.{◌≡◌, ◌∙◌, sym, ap, map}
 use Rattle.shop_model.specs.declared.requests.SearchKind.TheVariants as kind
-use Rattle.shop_model.specs.Catalogues.{naming}
+use Rattle.shop_model.specs.lists.Catalogues.{naming}
 use Rattle.shop_search.specs.Order.{IsListed}
 use Rattle.shop_search.proofs.Filling.{answers_are}
 use Rattle.shop_search.proofs.index.Index.build.Goals as goal

@@ -1,5 +1,0 @@
-use Rattle.shop_model.specs.declared.requests.SearchResults.TheInside.{Inside}
-use Rattle.shop_model.specs.SearchAsked.{SearchAsked}
-
-abbrev pub asked_of : Inside → SearchAsked
-asked_of i = record { kind = i.kind; text = i.text; ids = i.ids }

@@ -1,0 +1,12 @@
+pub mod PageText
+pub mod Targets
+pub mod Promotion
+pub mod Home
+pub mod Lists
+pub mod NewProducts
+pub mod BestSellers
+pub mod ProductDetail
+pub mod SearchRequest
+pub mod SearchResults
+pub mod ShoppingCart
+pub mod Show

@@ -1,0 +1,5 @@
+pub mod Scales
+pub mod ScaleView
+pub mod Words
+pub mod DrawingView
+pub mod Population

@@ -1,0 +1,13 @@
+pub mod Limits
+pub mod Subjects
+pub mod Rows
+pub mod CustomerView
+pub mod ItemView
+pub mod LineView
+pub mod CardUseView
+pub mod OrderView
+pub mod CartView
+pub mod AuthIds
+pub mod Lookups
+pub mod Sound
+pub mod Empty
