@@ -1,7 +1,7 @@
 -- What an attempt must be to be settled: its reads are true, and its writes make what its act does.
 use Rattle.std.specs.Prelude.{◌≡◌, ℕ, ◌≤◌, List, Option, Some, None}
 use Rattle.shop_model.specs.declared.tables.Tables.{Tables}
-use Rattle.shop_model.specs.asked.Checks.{check}
+use Rattle.shop_model.specs.pages.Show.{check}
 use Rattle.shop_model.specs.rows.Limits.{stamp_limit}
 use Rattle.shop_history.specs.declared.acts.Act.{Act}
 use Rattle.shop_history.specs.declared.acts.Entry.{Entry}

@@ -8,11 +8,10 @@ use Rattle.shop_model.specs.declared.requests.IdsAsked.{IdsAsked}
 use Rattle.shop_model.specs.declared.requests.Request.TheVariants.{Home}
 use Rattle.shop_model.specs.declared.tables.Tables.{Tables}
 use Rattle.shop_model.specs.lists.Catalogues.{Catalogue, catalogue}
-use Rattle.shop_model.specs.asked.Checks.{check_there, check_customer}
+use Rattle.shop_model.specs.pages.Show.{check_there, check_customer, show, refused_or}
 use Rattle.shop_model.specs.rows.Lookups.{row_numbered}
 use Rattle.shop_model.specs.asked.Refusals.{page_of}
 use Rattle.shop_model.specs.rows.Rows.{CustomerRow}
-use Rattle.shop_model.specs.pages.Show.{show, refused_or}
 use Rattle.shop_model.specs.pages.Promotion.{promo}
 use Rattle.shop_model.specs.pages.Home.{home_page, customer_asked}
 use Rattle.shop_history.specs.declared.acts.Entry.{Entry}

@@ -8,12 +8,11 @@ use Rattle.shop_model.specs.declared.requests.ProductDetail as asked_for
 use Rattle.shop_model.specs.declared.requests.Request.TheVariants.{ProductDetail}
 use Rattle.shop_model.specs.declared.tables.Tables.{Tables}
 use Rattle.shop_model.specs.lists.Catalogues.{Catalogue}
-use Rattle.shop_model.specs.asked.Checks.{check_there}
+use Rattle.shop_model.specs.pages.Show.{check_there, show, refused_or}
 use Rattle.shop_model.specs.rows.Lookups.{row_numbered, author_of}
 use Rattle.shop_model.specs.pages.ProductDetail.{product_page, author_line}
 use Rattle.shop_model.specs.asked.Refusals.{page_of}
 use Rattle.shop_model.specs.rows.Rows.{ItemRow}
-use Rattle.shop_model.specs.pages.Show.{show, refused_or}
 use Rattle.shop_model.specs.rows.Sound.{Has}
 use Rattle.shop_history.specs.declared.acts.Entry.{Entry}
 use Rattle.shop_history.specs.declared.keys.Key.{Key}

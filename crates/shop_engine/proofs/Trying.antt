@@ -12,7 +12,7 @@ use Rattle.shop_model.specs.declared.requests.Request.{Request}
 use Rattle.shop_model.specs.declared.tables.Tables.{Tables}
 use Rattle.shop_model.specs.rows.Limits.{stamp_limit}
 use Rattle.shop_model.specs.rows.Lookups.{row_numbered}
-use Rattle.shop_model.specs.asked.Checks.{is_changing, check}
+use Rattle.shop_model.specs.pages.Show.{is_changing, check}
 use Rattle.shop_model.specs.asked.Refusals.{page_of}
 use Rattle.shop_history.specs.declared.acts.Act.{Act}
 use Rattle.shop_history.specs.declared.acts.Act.TheVariants.{Cart}

@@ -3,9 +3,8 @@ use Rattle.std.specs.Prelude.{◌≡◌, ℕ, ◌<◌, ◌≤◌, max, List, [],
 use Rattle.shop_model.specs.declared.page.Page.{Page}
 use Rattle.shop_model.specs.declared.refusal.Refusal.TheVariants.{RowsKeptChanging, FullLog}
 use Rattle.shop_model.specs.declared.requests.Request.{Request}
-use Rattle.shop_model.specs.asked.Checks.{is_changing, check}
+use Rattle.shop_model.specs.pages.Show.{is_changing, check, show}
 use Rattle.shop_model.specs.asked.Refusals.{page_of}
-use Rattle.shop_model.specs.pages.Show.{show}
 use Rattle.shop_history.specs.declared.acts.Entry.{Entry}
 use Rattle.shop_history.specs.Acts.{IsActOf}
 use Rattle.shop_history.specs.Logs.{tables, page_at}

@@ -8,7 +8,7 @@ use Rattle.shop_log.proofs.Legality.{legal_front}
 use Rattle.shop_model.specs.declared.tables.Tables.{Tables}
 use Rattle.shop_model.specs.asked.CartAsked.{CartAsked}
 use Rattle.shop_model.specs.trade.Carts.{check_cart, check_asked, lines_named, lines_after, cart_lines, carts_with}
-use Rattle.shop_model.specs.asked.Checks.{check}
+use Rattle.shop_model.specs.pages.Show.{check}
 use Rattle.shop_model.specs.rows.Limits.{stamp_limit, restocks_limit}
 use Rattle.shop_model.specs.rows.Lookups.{row_numbered}
 use Rattle.shop_model.specs.rows.Rows.{CartRow}

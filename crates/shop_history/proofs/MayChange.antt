@@ -4,7 +4,7 @@ use Rattle.std.proofs.lemmas.Bool.{cases_eq}
 use Rattle.shop_model.specs.declared.tables.Tables.{Tables}
 use Rattle.shop_model.specs.asked.CartAsked.{CartAsked}
 use Rattle.shop_model.specs.trade.Carts.{check_asked, lines_named, lines_after, cart_meant, carts_with}
-use Rattle.shop_model.specs.asked.Checks.{check}
+use Rattle.shop_model.specs.pages.Show.{check}
 use Rattle.shop_model.specs.rows.Lookups.{row_numbered}
 use Rattle.shop_model.specs.lists.Rankings.{newest, best, sold_lately}
 use Rattle.shop_model.specs.rows.Rows.{CartRow}

@@ -5,7 +5,7 @@ use Rattle.shop_log.specs.Histories.{History, state_after}
 use Rattle.shop_model.specs.declared.page.Page.{Page}
 use Rattle.shop_model.specs.declared.tables.Tables.{Tables}
 use Rattle.shop_model.specs.lists.Catalogues.{catalogue}
-use Rattle.shop_model.specs.asked.Checks.{check}
+use Rattle.shop_model.specs.pages.Show.{check}
 use Rattle.shop_model.specs.rows.Limits.{stamp_limit}
 use Rattle.shop_model.specs.rows.Lookups.{row_numbered}
 use Rattle.shop_model.specs.rows.Sound.{Sound, Room}

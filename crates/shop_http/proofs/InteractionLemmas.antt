@@ -12,8 +12,8 @@ use Rattle.std.proofs.lemmas.Str.Ascii.{IsAscii-from_all}
 use Rattle.matchit.specs.Order.{lookup}
 use Rattle.matchit.specs.Route.{parse_route}
 use Rattle.matchit.proofs.OnLiterals.{matchit_on_literals}
-use Rattle.shop_model.specs.declared.interaction.Interaction.{Interaction}
-use Rattle.shop_model.specs.declared.interaction.Interaction.TheVariants.{Home, NewProducts, BestSellers, ProductDetail, SearchRequest, SearchResults, ShoppingCart}
+use Rattle.shop_model.specs.declared.requests.Interaction.{Interaction}
+use Rattle.shop_model.specs.declared.requests.Interaction.TheVariants.{Home, NewProducts, BestSellers, ProductDetail, SearchRequest, SearchResults, ShoppingCart}
 use Rattle.shop_model.specs.asked.Interactions.{paths, path_of, interaction_of}
 use Rattle.shop_http.specs.Routes.{plain_scan, row_of, rows_of, FindsAll}
 use Rattle.shop_http.proofs.RouteLemmas.{first_literal}

@@ -2,7 +2,7 @@
 use Rattle.std.proofs.Common.{◌≡◌, ℕ, List, [], ◌++◌, Some, true, refl, codes}
 use Rattle.std.specs.Str.{bytes_eq}
 use Rattle.std.proofs.lemmas.Slice.Eq.{bytes_eq-Decides}
-use Rattle.shop_model.specs.declared.interaction.Interaction.{Interaction}
+use Rattle.shop_model.specs.declared.requests.Interaction.{Interaction}
 use Rattle.shop_model.specs.asked.Interactions.{interaction_of}
 use Rattle.shop_http.specs.Forms.{pairs}
 use Rattle.shop_http.specs.Requests.{path_of, query_of, request_by, named, asked_of}

@@ -4,8 +4,8 @@ use Rattle.std.specs.List.{before_first, after_first}
 use Rattle.std.specs.Option.{ok_or}
 use Rattle.std.specs.Result.{result_map_both}
 use Rattle.std.specs.Str.{bytes_eq}
-use Rattle.shop_model.specs.declared.interaction.Interaction.{Interaction}
-use Rattle.shop_model.specs.declared.interaction.Interaction.TheVariants as interaction
+use Rattle.shop_model.specs.declared.requests.Interaction.{Interaction}
+use Rattle.shop_model.specs.declared.requests.Interaction.TheVariants as interaction
 use Rattle.shop_model.specs.declared.parameter.Parameter.{Parameter}
 use Rattle.shop_model.specs.declared.parameter.Parameter.TheVariants.{C, Cart, Item, Qty, Subject, Kind, Text}
 use Rattle.shop_model.specs.declared.requests.IdsAsked.{IdsAsked}

@@ -4,7 +4,7 @@ use Rattle.matchit.specs.Route.{Scan, outside}
 use Rattle.matchit.specs.Router.{RouteOf, route_from}
 use Rattle.matchit.specs.Rows.{RowsOf}
 use Rattle.matchit.specs.Seek.{first}
-use Rattle.shop_model.specs.declared.interaction.Interaction.{Interaction}
+use Rattle.shop_model.specs.declared.requests.Interaction.{Interaction}
 use Rattle.shop_model.specs.asked.Interactions.{interaction_of}
 
 -- a path without parameters, as the router reads it

@@ -6,4 +6,3 @@ pub mod CartRequestView
 pub mod Interactions
 pub mod Parameters
 pub mod Refusals
-pub mod Checks

@@ -11,7 +11,6 @@ mod cart;
 mod country;
 mod customer;
 mod drawing;
-mod interaction;
 mod item;
 mod limits;
 mod line;
@@ -38,7 +37,6 @@ pub use cart::Cart;
 pub use country::Country;
 pub use customer::{Customer, CustomerDetails};
 pub use drawing::{Words, drawn, word};
-pub use interaction::Interaction;
 pub use item::{Item, ItemDetails};
 pub use limits::{
     DAY_LIMIT, DISCOUNT_LIMIT, LINES_LIMIT, PRICE_LIMIT, QUANTITY_LIMIT, SESSION_TIME, SETS_LIMIT,
@@ -52,8 +50,8 @@ pub use page::{Block, Field, Page};
 pub use parameter::Parameter;
 pub use refusal::{Refusal, refusal_page};
 pub use requests::{
-    BestSellers, CartRequest, Home, IdsAsked, NewProducts, ProductDetail, Request, SearchKind,
-    SearchRequest, SearchResults,
+    BestSellers, CartRequest, Home, IdsAsked, Interaction, NewProducts, ProductDetail, Request,
+    SearchKind, SearchRequest, SearchResults,
 };
 pub use scale::Scale;
 pub use ship_type::ShipType;

@@ -3,8 +3,8 @@ use Rattle.std.specs.Prelude.{ℕ, List, [], ◌∷◌, codes, Option}
 use Rattle.std.specs.List.{find}
 use Rattle.std.specs.Option.{option_map}
 use Rattle.std.specs.Str.{bytes_eq}
-use Rattle.shop_model.specs.declared.interaction.Interaction.{Interaction}
-use Rattle.shop_model.specs.declared.interaction.Interaction.TheVariants.{Home, NewProducts, BestSellers, ProductDetail, SearchRequest, SearchResults, ShoppingCart}
+use Rattle.shop_model.specs.declared.requests.Interaction.{Interaction}
+use Rattle.shop_model.specs.declared.requests.Interaction.TheVariants.{Home, NewProducts, BestSellers, ProductDetail, SearchRequest, SearchResults, ShoppingCart}
 
 -- the path of each
 abbrev pub path_of : Interaction → List ℕ
