@@ -25,7 +25,7 @@ use Rattle.shop_attempt.proofs.Looks.{looked_trans, since_now, since_push, all_s
 use Rattle.shop_browse.specs.declared.attempted.Ask.{Ask}
 use Rattle.shop_browse.specs.declared.driver.Next.{Next}
 use Rattle.shop_browse.specs.declared.driver.Next.TheVariants.{Read, Show, Change, Never}
-use Rattle.shop_browse.specs.Attempts.{AreReadFor, IsAttempt, IsShownBy, AttemptedAs, Suits}
+use Rattle.shop_browse.specs.Attempts.{AreReadFor, IsAttempt, IsShownBy, AttemptedAs, Suits, asking_of}
 use Rattle.shop_browse.specs.Driver.{keys_of, Fits, AreSeen, WereRead, MayRead, AsksFor, IsNext, AddsReads, attempted_by, attempt_with}
 use Rattle.shop_browse.specs.Footprints.{InFootprint}
 use Rattle.shop_browse.proofs.Items.{seat_sound}
@@ -157,7 +157,7 @@ has_more start middle now follows request ask round reads new keys first second 
 -- the decision
 
 -- all that was read may be read after the log seen
-reads_for : (start now : Seat) (request : Request) (ask : Ask) (reads : List ReadOf) → HasRead start now request ask reads → AreReadFor start now request ask.draw reads
+reads_for : (start now : Seat) (request : Request) (ask : Ask) (reads : List ReadOf) → HasRead start now request ask reads → AreReadFor start now (asking_of ask request) reads
 reads_for start now request ask [] has = tt
 reads_for start now request ask (read ∷ reads) has =
     let seen = has.seen.0 in
@@ -167,7 +167,7 @@ reads_for start now request ask (read ∷ reads) has =
       are = are_true start now (read ∷ reads) has.since;
     }))
   where
-    each : (rs : List ReadOf) → AreReadSince start now rs → All (InFootprint now.opening now.seen request ask.draw) (keys_of rs) → AreReadFor start now request ask.draw rs
+    each : (rs : List ReadOf) → AreReadSince start now rs → All (InFootprint now.opening now.seen request ask.draw) (keys_of rs) → AreReadFor start now (asking_of ask request) rs
     each [] since about = tt
     each (r ∷ rs) since about =
         let P : Key → Type 0 = InFootprint now.opening now.seen request ask.draw in
@@ -177,7 +177,7 @@ reads_for start now request ask (read ∷ reads) has =
 fits : (c : Catalogue) (opening t : Tables) (reads : List ReadOf) → c ≡ catalogue opening → Agrees opening t reads → Fits c t reads
 fits c opening t reads is agrees = record { sound = agrees.sound; named = agrees.catalogue ∙ sym is; shows = agrees.shows }
 
-looks_only : (start now : Seat) (request : Request) (ask : Ask) (reads : List ReadOf) → HasRead start now request ask reads → IsAttempt start now request ask.moment ask.draw (attempt_with ask reads None None)
+looks_only : (start now : Seat) (request : Request) (ask : Ask) (reads : List ReadOf) → HasRead start now request ask reads → IsAttempt start now (asking_of ask request) (attempt_with ask reads None None)
 looks_only start now request ask reads has = record {
   at = refl;
   drew = refl;
@@ -186,7 +186,7 @@ looks_only start now request ask reads has = record {
 }
 
 pub decided : (start now : Seat) (follows : ℕ → List ReadOf → Type 0) (request : Request) (ask : Ask) (round : ℕ) (reads : List ReadOf) (draft : Draft) (next : Next)
-    → HasRead start now request ask reads → IsNext follows request ask round reads draft next → AttemptedAs start now request ask.moment ask.draw draft (attempted_by ask reads next)
+    → HasRead start now request ask reads → IsNext follows request ask round reads draft next → AttemptedAs start now (asking_of ask request) draft (attempted_by ask reads next)
 decided start now follows request ask round reads draft (Read keys) has is = tt
 decided start now follows request ask round reads draft Show has is = record {
   attempts = looks_only start now request ask reads has;

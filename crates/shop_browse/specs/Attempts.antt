@@ -26,21 +26,29 @@ pub record Suits (ask : Ask) (seat : Seat) : Type 0 where
   pub index : ask.index.now ≡ catalogue seat.opening
   pub scale : ask.scale.now.items ≡ length seat.opening.items
 
--- a read of this call, of a row that the request may read
-pub record IsReadFor (start now : Seat) (request : Request) (draw : ℕ) (read : ReadOf) : Type 0 where
-  pub since : IsReadSince start now read
-  pub footprint : InFootprint now.opening now.seen request draw read.key
+-- a request, its moment, and the word that was drawn for it
+pub record Asking : Type 0 where
+  pub request : Request
+  pub moment : ℕ
+  pub draw : ℕ
 
-abbrev pub AreReadFor : Seat → Seat → Request → ℕ → List ReadOf → Type 0
-AreReadFor start now request draw [] = Unit {0}
-AreReadFor start now request draw (read ∷ reads) =
-    IsReadFor start now request draw read × AreReadFor start now request draw reads
+abbrev pub asking_of : Ask → Request → Asking
+asking_of ask request = record { request = request; moment = ask.moment; draw = ask.draw }
+
+-- a read of this call, of a row that the request may read
+pub record IsReadFor (start now : Seat) (asking : Asking) (read : ReadOf) : Type 0 where
+  pub since : IsReadSince start now read
+  pub footprint : InFootprint now.opening now.seen asking.request asking.draw read.key
+
+abbrev pub AreReadFor : Seat → Seat → Asking → List ReadOf → Type 0
+AreReadFor start now asking [] = Unit {0}
+AreReadFor start now asking (read ∷ reads) = IsReadFor start now asking read × AreReadFor start now asking reads
 
 -- a faithful attempt at this moment and with this word
-pub record IsAttempt (start now : Seat) (request : Request) (moment draw : ℕ) (attempt : Attempt) : Type 0 where
-  pub at : attempt.moment ≡ moment
-  pub drew : attempt.draw ≡ draw
-  pub reads : AreReadFor start now request draw attempt.reads
+pub record IsAttempt (start now : Seat) (asking : Asking) (attempt : Attempt) : Type 0 where
+  pub at : attempt.moment ≡ asking.moment
+  pub drew : attempt.draw ≡ asking.draw
+  pub reads : AreReadFor start now asking attempt.reads
   pub faithful : Faithful now.opening now.seen attempt
 
 -- the draft is of the page that the request shows in these tables, which it changes nothing of
@@ -57,27 +65,26 @@ Becomes t stamp act draft =
 
 -- whichever tables agree with the reads, the draft is of the page that the request shows there; or of that of
 -- its act, with the ids that are drawn there, at any stamp
-abbrev pub IsDraftOf : Tables → Request → ℕ → List ReadOf → Draft → Option Act → Type 0
-IsDraftOf opening request draw reads draft None = (t : Tables) → Agrees opening t reads → IsShownBy t request draw draft
-IsDraftOf opening request draw reads draft (Some act) =
-    IsActOf request draw act
+abbrev pub IsDraftOf : Tables → Asking → List ReadOf → Draft → Option Act → Type 0
+IsDraftOf opening asking reads draft None =
+    (t : Tables) → Agrees opening t reads → IsShownBy t asking.request asking.draw draft
+IsDraftOf opening asking reads draft (Some act) =
+    IsActOf asking.request asking.draw act
     × ((t : Tables) (stamp : ℕ) → Agrees opening t reads → stamp ≤ stamp_limit → Becomes t stamp act draft)
 
 -- an attempt, and the draft of its page
-pub record IsReady (start now : Seat) (request : Request) (moment draw : ℕ) (draft : Draft) (attempt : Attempt) : Type 0 where
-  pub attempts : IsAttempt start now request moment draw attempt
-  pub drafts : IsDraftOf now.opening request draw attempt.reads draft attempt.act
+pub record IsReady (start now : Seat) (asking : Asking) (draft : Draft) (attempt : Attempt) : Type 0 where
+  pub attempts : IsAttempt start now asking attempt
+  pub drafts : IsDraftOf now.opening asking attempt.reads draft attempt.act
 
 -- no tables agree with the reads
-pub record IsContradiction (start now : Seat) (request : Request) (moment draw : ℕ) (attempt : Attempt) : Type 0 where
-  pub attempts : IsAttempt start now request moment draw attempt
+pub record IsContradiction (start now : Seat) (asking : Asking) (attempt : Attempt) : Type 0 where
+  pub attempts : IsAttempt start now asking attempt
   pub reading : attempt.act ≡ None
   pub never : (t : Tables) → Agrees now.opening t attempt.reads → ⊥
 
 -- what is answered, with the draft as the call leaves it
-abbrev pub AttemptedAs : Seat → Seat → Request → ℕ → ℕ → Draft → Attempted → Type 0
-AttemptedAs start now request moment draw draft (Ready attempt) =
-    IsReady start now request moment draw draft attempt
-AttemptedAs start now request moment draw draft (Contradiction attempt) =
-    IsContradiction start now request moment draw attempt
-AttemptedAs start now request moment draw draft Memory = Unit {0}
+abbrev pub AttemptedAs : Seat → Seat → Asking → Draft → Attempted → Type 0
+AttemptedAs start now asking draft (Ready attempt) = IsReady start now asking draft attempt
+AttemptedAs start now asking draft (Contradiction attempt) = IsContradiction start now asking attempt
+AttemptedAs start now asking draft Memory = Unit {0}

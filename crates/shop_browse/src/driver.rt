@@ -5,7 +5,7 @@ ghost use Rattle.shop_model.specs.declared.requests.Request.{Request};
 ghost use Rattle.shop_attempt.specs.declared.attempts.ReadOf.{ReadOf};
 ghost use Rattle.shop_attempt.specs.Marks.{Looks};
 ghost use Rattle.shop_browse.specs.declared.attempted.Ask.{Ask};
-ghost use Rattle.shop_browse.specs.Attempts.{AttemptedAs, Suits};
+ghost use Rattle.shop_browse.specs.Attempts.{AttemptedAs, Suits, asking_of};
 ghost use Rattle.shop_browse.specs.Driver as spec;
 
 use crate::{Ask, Attempted};
@@ -114,7 +114,7 @@ fn drive<St: Store, I: Interaction>(
     requires begins { I.follows interaction.now ask.now 0 [] }
     requires suits { Suits ask.now (St.seat store.old) }
     ensures looks { Looks St.seat St.marked store.old store.new }
-    ensures attempted { IfOk result (AttemptedAs (St.seat store.old) (St.seat store.new) (I.request interaction.now) ask.now.moment ask.now.draw draft.new) }
+    ensures attempted { IfOk result (AttemptedAs (St.seat store.old) (St.seat store.new) (asking_of ask.now (I.request interaction.now)) draft.new) }
 {
     let mut reads = Vec::new(alloc);
     for round in 0..ROUNDS {
@@ -137,7 +137,7 @@ pub fn attempt_by<St: Store, I: Interaction>(
     requires begins { I.follows interaction.now ask.now 0 [] }
     requires suits { Suits ask.now (St.seat store.old) }
     ensures looks { Looks St.seat St.marked store.old store.new }
-    ensures attempted { AttemptedAs (St.seat store.old) (St.seat store.new) (I.request interaction.now) ask.now.moment ask.now.draw draft.new result }
+    ensures attempted { AttemptedAs (St.seat store.old) (St.seat store.new) (asking_of ask.now (I.request interaction.now)) draft.new result }
 {
     match drive(alloc, store, ask, interaction, draft) {
         Ok(attempted) => attempted,

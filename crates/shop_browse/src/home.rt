@@ -8,7 +8,7 @@ ghost use Rattle.shop_draft.specs.Templates.{Adds, Says};
 ghost use Rattle.shop_history.specs.declared.keys.Key.TheVariants as key_kinds;
 ghost use Rattle.shop_model.specs.pages.Home as spec;
 ghost use Rattle.shop_attempt.specs.Marks.{Looks};
-ghost use Rattle.shop_browse.specs.Attempts.{AttemptedAs, Suits};
+ghost use Rattle.shop_browse.specs.Attempts.{AttemptedAs, Suits, asking_of};
 ghost use Rattle.shop_browse.specs.Driver.{IsWhole, AreSeen, IsNext};
 ghost use Rattle.shop_browse.specs.Home.{FollowsHome, IsWelcome, home_in, drawn_key as drawn_key_is};
 ghost use Rattle.shop_browse.specs.Labels.{FollowsLabels};
@@ -206,7 +206,7 @@ pub fn home<St: Store>(
 ) -> Attempted
     requires suits { Suits ask.now (St.seat store.old) }
     ensures looks { Looks St.seat St.marked store.old store.new }
-    ensures attempted { AttemptedAs (St.seat store.old) (St.seat store.new) (Request.Home asked.now) ask.now.moment ask.now.draw draft.new result }
+    ensures attempted { AttemptedAs (St.seat store.old) (St.seat store.new) (asking_of ask.now (Request.Home asked.now)) draft.new result }
 {
     attempt_by(alloc, store, ask, asked, draft)
 }

@@ -9,7 +9,7 @@ ghost use Rattle.shop_draft.specs.Pages.{Shows};
 ghost use Rattle.shop_draft.specs.Templates.{Adds, Says};
 ghost use Rattle.shop_attempt.specs.Marks.{Looks};
 ghost use Rattle.shop_browse.specs.declared.attempted.Ask.{Ask};
-ghost use Rattle.shop_browse.specs.Attempts.{AttemptedAs, Suits};
+ghost use Rattle.shop_browse.specs.Attempts.{AttemptedAs, Suits, asking_of};
 ghost use Rattle.shop_browse.specs.Driver.{IsNext};
 ghost use Rattle.shop_browse.specs.ProductDetail.{FollowsProduct, named};
 
@@ -202,7 +202,7 @@ pub fn product_detail<St: Store>(
 ) -> Attempted
     requires suits { Suits ask.now (St.seat store.old) }
     ensures looks { Looks St.seat St.marked store.old store.new }
-    ensures attempted { AttemptedAs (St.seat store.old) (St.seat store.new) (Request.ProductDetail asked.now) ask.now.moment ask.now.draw draft.new result }
+    ensures attempted { AttemptedAs (St.seat store.old) (St.seat store.new) (asking_of ask.now (Request.ProductDetail asked.now)) draft.new result }
 {
     attempt_by(alloc, store, ask, asked, draft)
 }

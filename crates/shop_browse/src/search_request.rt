@@ -5,7 +5,7 @@ ghost use Rattle.shop_draft.specs.Drawing.{ids_at};
 ghost use Rattle.shop_draft.specs.Pages.{Shows};
 ghost use Rattle.shop_draft.specs.Templates.{Says};
 ghost use Rattle.shop_attempt.specs.Marks.{Looks};
-ghost use Rattle.shop_browse.specs.Attempts.{AttemptedAs, Suits};
+ghost use Rattle.shop_browse.specs.Attempts.{AttemptedAs, Suits, asking_of};
 ghost use Rattle.shop_browse.specs.Home.{drawn_key};
 ghost use Rattle.shop_browse.specs.Labels.{FollowsLabels};
 ghost use Rattle.shop_browse.specs.SearchRequest.{search_in};
@@ -79,7 +79,7 @@ pub fn search_request<St: Store>(
 ) -> Attempted
     requires suits { Suits ask.now (St.seat store.old) }
     ensures looks { Looks St.seat St.marked store.old store.new }
-    ensures attempted { AttemptedAs (St.seat store.old) (St.seat store.new) (Request.SearchRequest asked.now) ask.now.moment ask.now.draw draft.new result }
+    ensures attempted { AttemptedAs (St.seat store.old) (St.seat store.new) (asking_of ask.now (Request.SearchRequest asked.now)) draft.new result }
 {
     attempt_by(alloc, store, ask, asked, draft)
 }

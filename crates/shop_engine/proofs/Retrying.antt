@@ -12,6 +12,7 @@ use Rattle.shop_history.specs.Logs.{history, version_of}
 use Rattle.shop_attempt.specs.declared.attempts.Conflict.{Conflict}
 use Rattle.shop_attempt.specs.Reads.{IsConflict}
 use Rattle.shop_attempt.specs.Seats.{Seat, Follows}
+use Rattle.shop_browse.specs.Attempts.{Asking}
 use Rattle.shop_pages.specs.declared.reply.Form.{Form}
 use Rattle.shop_pages.specs.Replies.{reply}
 use Rattle.shop_model.specs.declared.refusal.Refusal.TheVariants.{RowsKeptChanging}
@@ -21,7 +22,7 @@ use Rattle.shop_engine.specs.declared.report.PointKind.TheVariants.{Plain, At, C
 use Rattle.shop_engine.specs.declared.tries.Outcome.{Outcome}
 use Rattle.shop_engine.specs.Decided.{IsMet, CauseAs}
 use Rattle.shop_engine.specs.Staying.{Stays}
-use Rattle.shop_engine.specs.Tries.{Asking, IsAnswer, IsAgain, StaysWithin, point_of}
+use Rattle.shop_engine.specs.Tries.{IsAnswer, IsAgain, StaysWithin, point_of}
 use Rattle.shop_engine.proofs.Staying.{stays_trans, within_trans, within_of, still_told, stamp_from}
 use Rattle.shop_engine.proofs.Footprints.{footprint_later}
 

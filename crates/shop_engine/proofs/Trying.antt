@@ -40,11 +40,11 @@ use Rattle.shop_attempt.proofs.Hinge.{true_longer_all, agrees_now, conflict_with
 use Rattle.shop_attempt.proofs.Looks.{conflict_of, follows_trans}
 use Rattle.shop_pages.specs.declared.reply.Form.{Form}
 use Rattle.shop_pages.specs.Replies.{reply}
-use Rattle.shop_browse.specs.Attempts.{IsReadFor, AreReadFor, IsAttempt, IsDraftOf, IsReady, IsContradiction, Becomes}
+use Rattle.shop_browse.specs.Attempts.{Asking, IsReadFor, AreReadFor, IsAttempt, IsDraftOf, IsReady, IsContradiction, Becomes}
 use Rattle.shop_browse.specs.Footprints.{InFootprint}
 use Rattle.shop_engine.specs.declared.report.PointKind.TheVariants.{At, Change, Full as FullKind}
 use Rattle.shop_engine.specs.Staying.{Stays}
-use Rattle.shop_engine.specs.Tries.{Asking, IsAnswer, IsAgain, StaysWithin}
+use Rattle.shop_engine.specs.Tries.{IsAnswer, IsAgain, StaysWithin}
 use Rattle.shop_engine.proofs.Footprints.{footprint_later}
 use Rattle.shop_engine.proofs.Staying.{StampRose, stamp_kept, stamp_raised, stays_looked, within_of}
 
@@ -108,13 +108,13 @@ some_act (Some act) is = (act, refl)
 -- a settle that was done without a change
 
 pub shown_is : (start old new : Seat) (asking : Asking) (draft : Draft) (attempt : Attempt) (drawn : Drawn) (form : Form) (bytes : List ℕ) → Looked start old → Follows old new → IsSeat new
-    → RoseOnce old.settles new.settles → IsReady start old asking.request asking.moment asking.draw draft attempt → DoneAs old new attempt attempt.act drawn → is_some attempt.act ≡ false
+    → RoseOnce old.settles new.settles → IsReady start old asking draft attempt → DoneAs old new attempt attempt.act drawn → is_some attempt.act ≡ false
     → ((page : Page) → IsPage draft drawn page → bytes ≡ reply page form) → IsAnswer start new asking form bytes (record { kind = At; front = drawn.front; tries = 1 })
 shown_is start old new asking draft attempt drawn form bytes looked follows seat rose ready done reads bytes_are =
     let none : attempt.act ≡ None = no_act attempt.act reads in
     let was : Confirmed old new attempt drawn = subst (λ o. DoneAs old new attempt o drawn) none done in
     let t : Tables = tables new.opening new.seen in
-    let drafts : IsDraftOf old.opening asking.request asking.draw attempt.reads draft None = subst (IsDraftOf old.opening asking.request asking.draw attempt.reads draft) none ready.drafts in
+    let drafts : IsDraftOf old.opening asking attempt.reads draft None = subst (IsDraftOf old.opening asking attempt.reads draft) none ready.drafts in
     let shown = drafts t (agrees_found old new new.seen attempt follows seat was.accepted.is_found.grows (extends_self new.seen) ready.attempts.faithful was.accepted.fresh) in
     record {
       made = [];
@@ -152,7 +152,7 @@ exact_stamp latest now moment stamp is rose told same =
     same_stamp one other is = cc
 
 pub changed_is : (start old new : Seat) (asking : Asking) (draft : Draft) (attempt : Attempt) (drawn : Drawn) (form : Form) (bytes : List ℕ) → Looked start old → Follows old new → IsSeat new
-    → RoseOnce old.settles new.settles → IsReady start old asking.request asking.moment asking.draw draft attempt → DoneAs old new attempt attempt.act drawn → is_some attempt.act ≡ true
+    → RoseOnce old.settles new.settles → IsReady start old asking draft attempt → DoneAs old new attempt attempt.act drawn → is_some attempt.act ≡ true
     → ((page : Page) → IsPage draft drawn page → bytes ≡ reply page form) → IsAnswer start new asking form bytes (record { kind = Change; front = drawn.front; tries = 1 })
 changed_is start old new asking draft attempt drawn form bytes looked follows seat rose ready done changes bytes_are =
     let some = some_act attempt.act changes in
@@ -161,7 +161,7 @@ changed_is start old new asking draft attempt drawn form bytes looked follows se
     let accepted : Accepted old new was.before attempt drawn = was.accepted in
     let begins : Extends was.before new.seen = record { rest = was.entry ∷ []; is = was.seen } in
     let t : Tables = tables new.opening was.before in
-    let drafts : IsDraftOf old.opening asking.request asking.draw attempt.reads draft (Some act) = subst (IsDraftOf old.opening asking.request asking.draw attempt.reads draft) some.1 ready.drafts in
+    let drafts : IsDraftOf old.opening asking attempt.reads draft (Some act) = subst (IsDraftOf old.opening asking attempt.reads draft) some.1 ready.drafts in
     let may : MayFollow new.opening was.before was.entry = legal_last (MayFollow new.opening) was.before was.entry (subst (Legal new.opening) was.seen seat.legal) in
     let becomes : Becomes t was.entry.stamp act draft
     = drafts.1 t was.entry.stamp (agrees_found old new was.before attempt follows seat accepted.is_found.grows begins ready.attempts.faithful accepted.fresh) may.bound in
@@ -221,7 +221,7 @@ passes_there opening reads act None t stamp makes agrees bound = absurd makes
 passes_there opening reads act (Some writes) t stamp makes agrees bound = (makes t stamp agrees bound).passes
 
 pub full_is : (start old new : Seat) (asking : Asking) (draft : Draft) (attempt : Attempt) (size : ℕ) (form : Form) (bytes : List ℕ) → Looked start old → Follows old new → IsSeat new → RoseOnce old.settles new.settles
-    → IsReady start old asking.request asking.moment asking.draw draft attempt → SettledAs old new attempt (settle.Full size)
+    → IsReady start old asking draft attempt → SettledAs old new attempt (settle.Full size)
     → bytes ≡ reply (page_of FullLog) form → IsAnswer start new asking form bytes (record { kind = FullKind; front = size; tries = 1 })
 full_is start old new asking draft attempt size form bytes looked follows seat rose ready settled bytes_are =
     let some = some_act attempt.act settled.0.changes in
@@ -229,7 +229,7 @@ full_is start old new asking draft attempt size form bytes looked follows seat r
     let agrees : Agrees old.opening t attempt.reads
     = agrees_found old new new.seen attempt follows seat settled.0.refused.found.grows (extends_self new.seen) ready.attempts.faithful settled.0.fresh in
     let makes : MakesAct old.opening attempt.reads (Some some.0) attempt.writes = subst (λ o. MakesAct old.opening attempt.reads o attempt.writes) some.1 ready.attempts.faithful.makes in
-    let drafts : IsDraftOf old.opening asking.request asking.draw attempt.reads draft (Some some.0) = subst (IsDraftOf old.opening asking.request asking.draw attempt.reads draft) some.1 ready.drafts in
+    let drafts : IsDraftOf old.opening asking attempt.reads draft (Some some.0) = subst (IsDraftOf old.opening asking attempt.reads draft) some.1 ready.drafts in
     record {
       made = [];
       page = page_of FullLog;
@@ -263,18 +263,18 @@ no_room start old moment looked = within_of start old [] 0 1 moment (stays_looke
 
 -- what is known of a stale read beside the conflict
 
-record IsStaleOf (start new : Seat) (request : Request) (draw : ℕ) (conflict : Conflict) : Type 0 where
-  footprint : InFootprint new.opening new.seen request draw conflict.key
+record IsStaleOf (start new : Seat) (asking : Asking) (conflict : Conflict) : Type 0 where
+  footprint : InFootprint new.opening new.seen asking.request asking.draw conflict.key
   since : conflict.read ≤ length start.seen → version_of new.opening start.seen conflict.key ≡ conflict.read
   others : IsSome start.latest → ⊥
 
-stale_of : (start old new : Seat) (request : Request) (draw : ℕ) (read : ReadOf) → Looked start old → Follows old new → Found old new.seen → IsReadFor start old request draw read
-    → version_of new.opening new.seen read.key ≢ read.version → IsStaleOf start new request draw (conflict_with new.opening new.seen read)
-stale_of start old new request draw read looked follows found is apart =
+stale_of : (start old new : Seat) (asking : Asking) (read : ReadOf) → Looked start old → Follows old new → Found old new.seen → IsReadFor start old asking read
+    → version_of new.opening new.seen read.key ≢ read.version → IsStaleOf start new asking (conflict_with new.opening new.seen read)
+stale_of start old new asking read looked follows found is apart =
     let since : read.version ≤ length start.seen → version_of new.opening start.seen read.key ≡ read.version
     = λ early. ap (λ (t : Tables). version_of t start.seen read.key) follows.opening ∙ is.since.since early in
     record {
-      footprint = footprint_later old new request draw read.key follows is.footprint;
+      footprint = footprint_later old new asking.request asking.draw read.key follows is.footprint;
       since = since;
       others = λ told.
           let same : old.seen ≡ start.seen = looked.alone told in
@@ -282,22 +282,22 @@ stale_of start old new request draw read looked follows found is apart =
           apart (ap (λ (log : List Entry). version_of new.opening log read.key) now ∙ since (omega (arith, is.since.holds.within, ap length same)));
     }
 
-stale_in : (start old new : Seat) (request : Request) (draw : ℕ) (reads : List ReadOf) (conflict : Conflict) → Looked start old → Follows old new → Found old new.seen
-    → AreReadFor start old request draw reads → first_stale new.opening new.seen reads ≡ Some conflict → IsStaleOf start new request draw conflict
-stale_in start old new request draw [] conflict looked follows found are is = absurd cc
-stale_in start old new request draw (read ∷ reads) conflict looked follows found are is =
-    first_stale_some new.opening new.seen (IsStaleOf start new request draw) read reads conflict (stale_of start old new request draw read looked follows found are.0)
-    (stale_in start old new request draw reads conflict looked follows found are.1) is
+stale_in : (start old new : Seat) (asking : Asking) (reads : List ReadOf) (conflict : Conflict) → Looked start old → Follows old new → Found old new.seen
+    → AreReadFor start old asking reads → first_stale new.opening new.seen reads ≡ Some conflict → IsStaleOf start new asking conflict
+stale_in start old new asking [] conflict looked follows found are is = absurd cc
+stale_in start old new asking (read ∷ reads) conflict looked follows found are is =
+    first_stale_some new.opening new.seen (IsStaleOf start new asking) read reads conflict (stale_of start old new asking read looked follows found are.0)
+    (stale_in start old new asking reads conflict looked follows found are.1) is
 
-are_since : (start old : Seat) (request : Request) (draw : ℕ) (reads : List ReadOf) → AreReadFor start old request draw reads → AreReadSince start old reads
-are_since start old request draw [] are = tt
-are_since start old request draw (read ∷ reads) are = (are.0.since, are_since start old request draw reads are.1)
+are_since : (start old : Seat) (asking : Asking) (reads : List ReadOf) → AreReadFor start old asking reads → AreReadSince start old reads
+are_since start old asking [] are = tt
+are_since start old asking (read ∷ reads) are = (are.0.since, are_since start old asking reads are.1)
 
 pub again_is : (start old new : Seat) (asking : Asking) (attempt : Attempt) (conflict : Conflict) → Looked start old → Follows old new → RoseOnce old.settles new.settles
-    → IsAttempt start old asking.request asking.moment asking.draw attempt → SettledAs old new attempt (settle.Stale conflict) → IsAgain start new asking conflict
+    → IsAttempt start old asking attempt → SettledAs old new attempt (settle.Stale conflict) → IsAgain start new asking conflict
 again_is start old new asking attempt conflict looked follows rose made settled =
-    let both = conflict_of start old new attempt conflict looked follows (are_since start old asking.request asking.draw attempt.reads made.reads) settled in
-    let stale = stale_in start old new asking.request asking.draw attempt.reads conflict looked follows settled.0.found made.reads settled.1 in
+    let both = conflict_of start old new attempt conflict looked follows (are_since start old asking attempt.reads made.reads) settled in
+    let stale = stale_in start old new asking attempt.reads conflict looked follows settled.0.found made.reads settled.1 in
     record {
       stays = stays_refused start old new asking.moment looked follows rose settled.0;
       met = record { conflicts = both.0; footprint = stale.footprint; above = both.1 };
@@ -307,19 +307,19 @@ again_is start old new asking attempt conflict looked follows rose made settled 
 
 -- an attempt that no tables agree with is stale
 
-never_fresh : (start old new : Seat) (request : Request) (moment draw : ℕ) (attempt : Attempt) → Follows old new → IsSeat new → IsContradiction start old request moment draw attempt → Extends old.seen new.seen
+never_fresh : (start old new : Seat) (asking : Asking) (attempt : Attempt) → Follows old new → IsSeat new → IsContradiction start old asking attempt → Extends old.seen new.seen
     → first_stale new.opening new.seen attempt.reads ≡ None → ⊥
-never_fresh start old new request moment draw attempt follows seat contradicts grows fresh =
+never_fresh start old new asking attempt follows seat contradicts grows fresh =
     contradicts.never (tables new.opening new.seen) (agrees_found old new new.seen attempt follows seat grows (extends_self new.seen) contradicts.attempts.faithful fresh)
 
 not_some : (act : Option Act) → act ≡ None → IsSome act → ⊥
 not_some act none is = let no : IsSome {T = Act} None = subst IsSome none is in cc
 
-pub never_else : (start old new : Seat) (request : Request) (moment draw : ℕ) (attempt : Attempt) (result : Settle) → Follows old new → IsSeat new → IsContradiction start old request moment draw attempt
+pub never_else : (start old new : Seat) (asking : Asking) (attempt : Attempt) (result : Settle) → Follows old new → IsSeat new → IsContradiction start old asking attempt
     → SettledAs old new attempt result → ((conflict : Conflict) → result ≡ settle.Stale conflict → ⊥) → ⊥
-never_else start old new request moment draw attempt (settle.Done drawn) follows seat contradicts settled other =
+never_else start old new asking attempt (settle.Done drawn) follows seat contradicts settled other =
     let was : Confirmed old new attempt drawn = subst (λ o. DoneAs old new attempt o drawn) contradicts.reading settled in
-    never_fresh start old new request moment draw attempt follows seat contradicts was.accepted.is_found.grows was.accepted.fresh
-never_else start old new request moment draw attempt (settle.Stale conflict) follows seat contradicts settled other = other conflict refl
-never_else start old new request moment draw attempt (settle.Full size) follows seat contradicts settled other = not_some attempt.act contradicts.reading settled.0.changes
-never_else start old new request moment draw attempt settle.Memory follows seat contradicts settled other = not_some attempt.act contradicts.reading settled.0.changes
+    never_fresh start old new asking attempt follows seat contradicts was.accepted.is_found.grows was.accepted.fresh
+never_else start old new asking attempt (settle.Stale conflict) follows seat contradicts settled other = other conflict refl
+never_else start old new asking attempt (settle.Full size) follows seat contradicts settled other = not_some attempt.act contradicts.reading settled.0.changes
+never_else start old new asking attempt settle.Memory follows seat contradicts settled other = not_some attempt.act contradicts.reading settled.0.changes

@@ -1,11 +1,11 @@
 -- What one try of a request leaves, and what its tries together do.
 use Rattle.std.specs.Prelude.{◌≡◌, ℕ, ◌≤◌, List, [], length, IsSome}
 use Rattle.shop_model.specs.declared.page.Page.{Page}
-use Rattle.shop_model.specs.declared.requests.Request.{Request}
 use Rattle.shop_history.specs.declared.acts.Entry.{Entry}
 use Rattle.shop_history.specs.Logs.{version_of}
 use Rattle.shop_attempt.specs.declared.attempts.Conflict.{Conflict}
 use Rattle.shop_attempt.specs.Seats.{Seat}
+use Rattle.shop_browse.specs.Attempts.{Asking}
 use Rattle.shop_pages.specs.declared.reply.Form.{Form}
 use Rattle.shop_pages.specs.Replies.{reply}
 use Rattle.shop_engine.specs.declared.report.Point.{Point}
@@ -14,12 +14,6 @@ use Rattle.shop_engine.specs.declared.tries.Tried.{Tried}
 use Rattle.shop_engine.specs.declared.tries.Tried.TheVariants.{Settled, Again, Memory}
 use Rattle.shop_engine.specs.Decided.{IsMet, IsDecided}
 use Rattle.shop_engine.specs.Staying.{Stays}
-
--- a request, its moment, and the word that was drawn for it
-pub record Asking : Type 0 where
-  pub request : Request
-  pub moment : ℕ
-  pub draw : ℕ
 
 -- the point of what came of it, by its number among the caller's requests
 abbrev pub point_of : Asking → Outcome → ℕ → Point

@@ -1,7 +1,7 @@
 ghost use Rattle.std.specs.Prelude.{◌≤◌, [], IfSome, IsNone};
 ghost use Rattle.shop_model.specs.rows.Limits.{stamp_limit};
 ghost use Rattle.shop_attempt.specs.Marks.{KeepsMarks};
-ghost use Rattle.shop_browse.specs.Attempts.{Suits};
+ghost use Rattle.shop_browse.specs.Attempts.{Suits, asking_of};
 ghost use Rattle.shop_pages.specs.Replies.{bytes_of};
 ghost use Rattle.shop_engine.specs.Tries.{TriedAs, IsAnswer, StaysWithin};
 
@@ -48,7 +48,7 @@ fn try_once<St: Store>(
     requires suits { Suits ask.now (St.seat store.old) }
     requires moment { ask.now.moment ≤ stamp_limit }
     ensures tried { TriedAs (St.seat store.old) (St.seat store.new)
-        (record { request = request.now; moment = ask.now.moment; draw = ask.now.draw }) form (bytes_of reply.new) result }
+        (asking_of ask.now request.now) form (bytes_of reply.new) result }
     ensures marks { KeepsMarks (St.marked store.old) (St.marked store.new) (St.seat store.old) (St.seat store.new) }
 {
     match attempt(alloc, store, ask, request, reply.draft()) {
@@ -94,7 +94,7 @@ pub(crate) fn try_all<St: Store>(
     requires suits { Suits ask.now (St.seat store.old) }
     requires moment { ask.now.moment ≤ stamp_limit }
     ensures answer { IfSome result (IsAnswer (St.seat store.old) (St.seat store.new)
-        (record { request = request.now; moment = ask.now.moment; draw = ask.now.draw }) form (bytes_of reply.new)) }
+        (asking_of ask.now request.now) form (bytes_of reply.new)) }
     ensures memory { IsNone result → StaysWithin (St.seat store.old) (St.seat store.new) [] 8 ask.now.moment }
     ensures marks { KeepsMarks (St.marked store.old) (St.marked store.new) (St.seat store.old) (St.seat store.new) }
 {

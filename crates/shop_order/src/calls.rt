@@ -1,5 +1,5 @@
 ghost use Rattle.shop_attempt.specs.Marks.{Looks};
-ghost use Rattle.shop_browse.specs.Attempts.{AttemptedAs, Suits};
+ghost use Rattle.shop_browse.specs.Attempts.{AttemptedAs, Suits, asking_of};
 
 use crate::shopping_cart::shopping_cart;
 use shop_attempt::Store;
@@ -24,7 +24,7 @@ pub fn attempt<St: Store>(
 ) -> Attempted
     requires suits { Suits ask.now (St.seat store.old) }
     ensures looks { Looks St.seat St.marked store.old store.new }
-    ensures attempted { AttemptedAs (St.seat store.old) (St.seat store.new) request.now ask.now.moment ask.now.draw draft.new result }
+    ensures attempted { AttemptedAs (St.seat store.old) (St.seat store.new) (asking_of ask.now request.now) draft.new result }
 {
     match request {
         Request::Home(asked) => home(alloc, store, ask, asked, draft),

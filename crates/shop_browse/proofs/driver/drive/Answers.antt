@@ -1,7 +1,7 @@
 use Rattle.std.proofs.Common.{◌≡◌, List, suc, ◌+◌, sym, subst, arith}
 use Rattle.shop_attempt.specs.declared.attempts.ReadOf.{ReadOf}
 use Rattle.shop_attempt.proofs.Marks.{looks_then}
-use Rattle.shop_browse.specs.Attempts.{AttemptedAs}
+use Rattle.shop_browse.specs.Attempts.{AttemptedAs, asking_of}
 use Rattle.shop_browse.specs.Driver.{IsNext, AsksFor}
 use Rattle.shop_browse.proofs.DriverLemmas.{has_more, decided}
 use Rattle.shop_browse.proofs.driver.drive.Goals as goal
@@ -20,7 +20,7 @@ returns-in_default g c =
     let next = subst (λ (l : List ReadOf). IsNext (i.follows self ask) (i.request self) ask c.loop-round.round l draft c.in_ok-next.next) c.deref.ensures.value c.in_ok-next.ensures.next in
     record {
       looks = c.loop-round.invariant.looks;
-      attempted = subst (AttemptedAs start now (i.request self) ask.moment ask.draw draft) (sym c.attempted.ensures)
+      attempted = subst (AttemptedAs start now (asking_of ask (i.request self)) draft) (sym c.attempted.ensures)
           (decided start now (i.follows self ask) (i.request self) ask c.loop-round.round c.loop-round.reads.items draft c.in_ok-next.next c.loop-round.invariant.has next);
     }
 

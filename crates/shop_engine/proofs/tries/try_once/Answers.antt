@@ -6,7 +6,7 @@ use Rattle.shop_engine.proofs.tries.try_once.Goals as goal
 pub unreachable-requires : goal.unreachable-requires
 unreachable-requires g c =
     let settled = c.settle-in-Contradiction.ensures in
-    never_else _ _ _ _ _ _ _ _ settled.follows settled.valid c.in-Contradiction.ensures.attempted settled.settled c.in_default-settle.not-Stale
+    never_else _ _ _ _ _ _ settled.follows settled.valid c.in-Contradiction.ensures.attempted settled.settled c.in_default-settle.not-Stale
 
 pub returns-in_default-clause-tried : goal.returns-in_default-clause-tried
 returns-in_default-clause-tried g c = no_room _ _ _ c.attempt.ensures.looks.looked
