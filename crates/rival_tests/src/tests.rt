@@ -1,6 +1,7 @@
 //! Connections of caller 1 at the desk with seed 0, where caller 2 changes the cart meanwhile.
 ghost use Rattle.std.specs.Arc.{arc_value};
-ghost use Rattle.std.specs.Prelude.{◌≡◌, IfOk};
+ghost use Rattle.std.specs.Prelude.{◌≡◌, IfOk, length};
+ghost use Rattle.shop_model.specs.lists.Catalogues.{catalogue};
 
 use crate::Rivalled;
 use shop_attempt::Conflict;
@@ -12,7 +13,7 @@ use shop_history::Key;
 use shop_model::Scale;
 use shop_populate::populate;
 use shop_search::Index;
-use shop_text::{Listed, Text};
+use shop_text::{Listed, Memory, Text};
 use std::alloc::Global;
 use std::sync::Arc;
 use std::test::Fail;
@@ -30,6 +31,22 @@ Content-Length: 106\r\n\r\n\
 </body></html>
 ";
 
+/// The book of the desk with seed 0 before any change, and the index of its catalogue.
+pub(crate) fn desk(alloc: Global, scale: &Scale) -> Result<(Book, Index), Fail>
+    ensures scale { IfOk result (λ desk. scale.now.items ≡ length desk.0.opening.tables.items) }
+    ensures index { IfOk result (λ desk. desk.1 ≡ catalogue desk.0.opening.tables) }
+{
+    let tables = populate(alloc, 0, scale)?;
+    let index = Index::build(alloc, &tables)?;
+    Ok((Book::open(alloc, tables, 100)?, index))
+}
+
+/// A draft with nothing in it.
+pub(crate) fn empty_draft(alloc: Global) -> Result<Draft, Memory> {
+    let page = Template::with_room(alloc, 0)?;
+    Ok(Draft { status: 0, page })
+}
+
 /// One more owner of the index.
 fn twin(index: &Arc<Index, Global>) -> Result<Arc<Index, Global>, Fail>
     ensures { IfOk result (λ twin. arc_value twin ≡ arc_value index.now) }
@@ -43,12 +60,10 @@ fn twin(index: &Arc<Index, Global>) -> Result<Arc<Index, Global>, Fail>
 /// A worker of caller 1, at whose cart caller 2 makes so many changes.
 fn worker_among(alloc: Global, changes: u32) -> Result<Worker<Rivalled>, Fail> {
     let scale = Scale::desk();
-    let tables = populate(alloc, 0, &scale)?;
-    let index = Arc::new(alloc, Index::build(alloc, &tables)?)?;
+    let (book, index) = desk(alloc, &scale)?;
+    let index = Arc::new(alloc, index)?;
     let shared = twin(&index)?;
-    let book = Book::open(alloc, tables, 100)?;
-    let page = Template::with_room(alloc, 0)?;
-    let draft = Draft { status: 0, page };
+    let draft = empty_draft(alloc)?;
     let store = Rivalled::new(alloc, book, shared, scale, changes, draft);
     Ok(Worker::new(alloc, store, 1, 0, scale, index)?)
 }
