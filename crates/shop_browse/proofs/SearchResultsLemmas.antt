@@ -1,5 +1,5 @@
 -- What Search Results asks for, and the page of what was found.
-use Rattle.std.proofs.Common.{◌≡◌, ℕ, zero, suc, List, [], ◌∷◌, ◌++◌, length, map, All, codes, Some, refl, sym, ◌∙◌, ap, subst, arith}
+use Rattle.std.proofs.Common.{◌≡◌, ℕ, zero, suc, List, ◌++◌, length, map, All, codes, Some, refl, sym, ◌∙◌, ap, subst, arith}
 use Rattle.shop_model.specs.declared.requests.Request.TheVariants.{SearchResults}
 use Rattle.shop_model.specs.declared.tables.Tables.{Tables}
 use Rattle.shop_model.specs.lists.Catalogues.{Catalogue, found}

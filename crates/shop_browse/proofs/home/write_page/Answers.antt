@@ -1,7 +1,7 @@
 use Rattle.std.proofs.Common.{map, refl}
 use Rattle.std.specs.Prelude.{option_copied}
 use Rattle.shop_model.specs.pages.PageText.{block_line}
-use Rattle.shop_model.specs.pages.Home.{greetings, subject_links}
+use Rattle.shop_model.specs.pages.Home.{greetings}
 use Rattle.shop_model.specs.pages.Targets.{nav}
 use Rattle.shop_draft.specs.Drawing.{ids_at}
 use Rattle.shop_draft.proofs.PageTexts.{two, written}

@@ -1,5 +1,4 @@
-use Rattle.std.proofs.Common.{List, ◌∷◌, [], ◌++◌, codes, map, append_assoc, refl}
-use Rattle.shop_model.specs.declared.page.Block.{Block}
+use Rattle.std.proofs.Common.{◌∷◌, map, refl}
 use Rattle.shop_model.specs.pages.PageText.{block_line}
 use Rattle.shop_model.specs.pages.SearchRequest.{search_form}
 use Rattle.shop_model.specs.pages.Targets.{nav}
