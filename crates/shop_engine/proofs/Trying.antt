@@ -8,7 +8,6 @@ use Rattle.shop_log.proofs.Extending.{extends_self, extends_trans}
 use Rattle.shop_log.proofs.Legality.{legal_shorter, legal_last}
 use Rattle.shop_model.specs.declared.page.Page.{Page}
 use Rattle.shop_model.specs.declared.refusal.Refusal.TheVariants.{FullLog}
-use Rattle.shop_model.specs.declared.requests.Request.{Request}
 use Rattle.shop_model.specs.declared.tables.Tables.{Tables}
 use Rattle.shop_model.specs.rows.Limits.{stamp_limit}
 use Rattle.shop_model.specs.rows.Lookups.{row_numbered}
