@@ -1,8 +1,8 @@
-use Rattle.std.proofs.Common.{ap, sym, subst}
+use Rattle.std.proofs.Common.{sym, subst}
 use Rattle.shop_attempt.specs.Faithful.{Faithful}
 use Rattle.shop_attempt.specs.Seats.{Looked}
 use Rattle.shop_attempt.specs.Marks.{StillMarked}
-use Rattle.shop_book.specs.Solos.{SoloValue, seat_of, marks_of}
+use Rattle.shop_book.specs.Solos.{seat_of, marks_of}
 use Rattle.rival_tests.specs.Rivals.{RivalledValue, among}
 use Rattle.rival_tests.proofs.Rivals.{faithful_later, follows_then, settled_then, still_then}
 use Rattle.rival_tests.proofs.rivalled.RivalledStore.settle.Goals as goal
