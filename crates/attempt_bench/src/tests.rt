@@ -1,19 +1,14 @@
-//! Each call that only reads, once over the desk's shop with seed 0.
+//! Each request that only reads, once over the desk's shop with seed 0.
 ghost use Rattle.std.specs.Prelude.{◌≡◌};
 
 use crate::runs::Shop;
-use shop_browse::best_sellers::best_sellers;
-use shop_browse::home::home;
-use shop_browse::new_products::new_products;
-use shop_browse::product_detail::product_detail;
-use shop_browse::search_request::search_request;
-use shop_browse::search_results::search_results;
 use shop_browse::{Ask, Attempted};
 use shop_draft::Draft;
 use shop_model::{
-    BestSellers, Home, IdsAsked, NewProducts, ProductDetail, Scale, SearchKind, SearchRequest,
-    SearchResults, Subject,
+    BestSellers, Home, IdsAsked, NewProducts, ProductDetail, Request, Scale, SearchKind,
+    SearchRequest, SearchResults, Subject,
 };
+use shop_order::attempt;
 use shop_search::Index;
 use shop_text::{Memory, Text};
 use std::alloc::Global;
@@ -37,62 +32,11 @@ fn ask_of<'a>(scale: &'a Scale, index: &'a Index) -> Ask<'a>
     }
 }
 
-fn at_home(alloc: Global) -> Result<(Attempted, Draft), Memory> {
+/// What comes of a request, and its page.
+fn attempted(alloc: Global, request: &Request) -> Result<(Attempted, Draft), Memory> {
     let mut shop = Shop::open(alloc, Scale::desk())?;
     let ask = ask_of(&shop.scale, &shop.index);
-    let attempted = home(
-        alloc,
-        &mut shop.store,
-        &ask,
-        &Home { ids: IDS },
-        &mut shop.draft,
-    );
-    Ok((attempted, shop.draft))
-}
-
-fn at_new_products(alloc: Global) -> Result<(Attempted, Draft), Memory> {
-    let mut shop = Shop::open(alloc, Scale::desk())?;
-    let ask = ask_of(&shop.scale, &shop.index);
-    let subject = Subject::NonFiction;
-    let asked = NewProducts { subject, ids: IDS };
-    let attempted = new_products(alloc, &mut shop.store, &ask, &asked, &mut shop.draft);
-    Ok((attempted, shop.draft))
-}
-
-fn at_best_sellers(alloc: Global) -> Result<(Attempted, Draft), Memory> {
-    let mut shop = Shop::open(alloc, Scale::desk())?;
-    let ask = ask_of(&shop.scale, &shop.index);
-    let subject = Subject::NonFiction;
-    let asked = BestSellers { subject, ids: IDS };
-    let attempted = best_sellers(alloc, &mut shop.store, &ask, &asked, &mut shop.draft);
-    Ok((attempted, shop.draft))
-}
-
-fn at_product_detail(alloc: Global) -> Result<(Attempted, Draft), Memory> {
-    let mut shop = Shop::open(alloc, Scale::desk())?;
-    let ask = ask_of(&shop.scale, &shop.index);
-    let asked = ProductDetail { item: 1, ids: IDS };
-    let attempted = product_detail(alloc, &mut shop.store, &ask, &asked, &mut shop.draft);
-    Ok((attempted, shop.draft))
-}
-
-fn at_search_request(alloc: Global) -> Result<(Attempted, Draft), Memory> {
-    let mut shop = Shop::open(alloc, Scale::desk())?;
-    let ask = ask_of(&shop.scale, &shop.index);
-    let asked = SearchRequest { ids: IDS };
-    let attempted = search_request(alloc, &mut shop.store, &ask, &asked, &mut shop.draft);
-    Ok((attempted, shop.draft))
-}
-
-fn at_search_results(alloc: Global) -> Result<(Attempted, Draft), Memory> {
-    let mut shop = Shop::open(alloc, Scale::desk())?;
-    let ask = ask_of(&shop.scale, &shop.index);
-    let asked = SearchResults {
-        kind: SearchKind::Title,
-        text: Text::copy(alloc, b"ALSE")?,
-        ids: IDS,
-    };
-    let attempted = search_results(alloc, &mut shop.store, &ask, &asked, &mut shop.draft);
+    let attempted = attempt(alloc, &mut shop.store, &ask, request, &mut shop.draft);
     Ok((attempted, shop.draft))
 }
 
@@ -112,14 +56,48 @@ fn shows(attempted: &(Attempted, Draft), title: &str, reads: usize) -> bool {
     }
 }
 
+/// The requests that only read, each with the title of its page and how many rows it reads.
+fn readings(alloc: Global) -> Result<[(Request, &'static str, usize); 6], Memory> {
+    let subject = Subject::NonFiction;
+    let found = SearchResults {
+        kind: SearchKind::Title,
+        text: Text::copy(alloc, b"ALSE")?,
+        ids: IDS,
+    };
+    Ok([
+        (Request::Home(Home { ids: IDS }), "Home", 6),
+        (
+            Request::NewProducts(NewProducts { subject, ids: IDS }),
+            "New Products",
+            6,
+        ),
+        (
+            Request::BestSellers(BestSellers { subject, ids: IDS }),
+            "Best Sellers",
+            5,
+        ),
+        (
+            Request::ProductDetail(ProductDetail { item: 1, ids: IDS }),
+            "Product Detail",
+            2,
+        ),
+        (
+            Request::SearchRequest(SearchRequest { ids: IDS }),
+            "Search Request",
+            6,
+        ),
+        (Request::SearchResults(found), "Search Results", 1),
+    ])
+}
+
 #[test]
 fn each_shows_its_page(rt: HostRuntime) -> Result<(), Fail> {
     let alloc = rt.alloc();
-    assert!(rt; shows(&at_home(alloc)?, "Home", 6));
-    assert!(rt; shows(&at_new_products(alloc)?, "New Products", 6));
-    assert!(rt; shows(&at_best_sellers(alloc)?, "Best Sellers", 5));
-    assert!(rt; shows(&at_product_detail(alloc)?, "Product Detail", 2));
-    assert!(rt; shows(&at_search_request(alloc)?, "Search Request", 6));
-    assert!(rt; shows(&at_search_results(alloc)?, "Search Results", 1));
+    for (request, title, reads) in &readings(alloc)? {
+        assert!(rt;
+            shows(&attempted(alloc, request)?, title, *reads),
+            "{title}"
+        );
+    }
     Ok(())
 }

@@ -70,12 +70,12 @@ fn worker_among(alloc: Global, changes: u32) -> Result<Worker<Rivalled>, Fail> {
 
 /// What comes of the input while caller 2 makes so many changes.
 fn served(alloc: Global, changes: u32) -> Result<(Report, BytesOut), Fail> {
-    let mut worker = worker_among(alloc, changes)?;
-    let mut source = BytesIn::new(Text::copy(alloc, INPUT)?, 1_000_000, Listed::new(alloc));
-    let mut sink = BytesOut::new(alloc, 1_000_000, Listed::new(alloc));
-    let mut readings = Listed::new(alloc);
-    readings.push(1_000)?;
+    let readings = Listed::from_vec(Vec::from_slice(alloc, &[1_000])?);
     let mut clock = ListClock::new(alloc, readings)?;
+    let input = Text::copy(alloc, INPUT)?;
+    let mut worker = worker_among(alloc, changes)?;
+    let mut source = BytesIn::new(input, 1_000_000, Listed::new(alloc));
+    let mut sink = BytesOut::new(alloc, 1_000_000, Listed::new(alloc));
     let report = serve_connection(alloc, &mut worker, &mut source, &mut sink, &mut clock);
     Ok((report, sink))
 }

@@ -16,8 +16,11 @@ pub fn print_row(rt: &impl Print, book: &Book, key: &Key) -> Result<()> {
         Row::Absent => answer(rt, key, &("absent", version)),
         Row::Items(ids) => answer(rt, key, &(ids.as_slice(), version)),
         Row::Label(label) => {
-            let author = (text_of(label.first.bytes()), text_of(label.last.bytes()));
-            answer(rt, key, &(text_of(label.title.bytes()), author, version))
+            let author = (
+                text_of(label.first().bytes()),
+                text_of(label.last().bytes()),
+            );
+            answer(rt, key, &(text_of(label.title().bytes()), author, version))
         }
         _ => answer(rt, key, &("there", version)),
     }
