@@ -87,6 +87,6 @@ faithful_beside old now attempt id read cart writes follows was is row_is own =
 pub returns-clause-faithful : goal.returns-clause-faithful
 returns-clause-faithful g c =
     let id_is : c.cart.inside.id ≡ c.in_ok-cart.cart.id = ap (λ (cart : CartRow). cart.id) c.cart.view_is in
-    rw (c.in_ok-with_first.ensures, c.in_ok-with_first-2.ensures, c.in_ok-writes-2.ensures, c.new.ensures, id_is)
+    rw (c.in_ok-with_first.ensures, c.in_ok-with_first-2.ensures, c.in_ok-writes-2.ensures, c.in_ok-new.ensures, c.new.ensures, id_is)
     (faithful_beside _ _ c.args.attempt c.args.id c.in_ok-read.read c.in_ok-cart.cart c.in_ok-writes.writes c.read.ensures.looks.looked.follows c.requires c.in_ok-read.ensures.read
     c.in_ok-cart.ensures c.in_ok-writes.ensures.ok_part)
