@@ -1,6 +1,6 @@
 -- What a rival's settle leaves to the caller at whose seat it was made.
 use Rattle.std.proofs.Common.{◌≡◌, max, List, [], ◌∷◌, ◌++◌, Option, Some, None, refl, sym, ◌∙◌, ap, subst, arith}
-use Rattle.shop_log.proofs.Extending.{extends_trans}
+use Rattle.shop_log.proofs.cited.Extends.{extends_trans}
 use Rattle.shop_model.specs.declared.tables.Tables.{Tables}
 use Rattle.shop_history.specs.declared.acts.Act.{Act}
 use Rattle.shop_history.specs.declared.acts.Drawn.{Drawn}
@@ -13,10 +13,10 @@ use Rattle.shop_attempt.specs.Faithful.{Faithful}
 use Rattle.shop_attempt.specs.Marks.{StillMarked, KeepsMarks}
 use Rattle.shop_attempt.specs.Seats.{Seat, IsSeat, Follows, Looked}
 use Rattle.shop_attempt.specs.Settles.{Found, Refused, Accepted, DoneAs, SettledAs, NotTaken}
-use Rattle.shop_attempt.proofs.Hinge.{true_longer_all}
+use Rattle.shop_attempt.proofs.cited.Settles.{true_longer_all}
 use Rattle.shop_book.specs.Books.{BookValue}
 use Rattle.shop_book.specs.Solos.{SoloValue, seat_of, marks_of, IsKeptMark}
-use Rattle.shop_book.proofs.Solos.{marks_are}
+use Rattle.shop_book.proofs.cited.Marks.{marks_are}
 use Rattle.rival_tests.specs.Rivals.{among}
 
 -- what was faithful still is, where calls settled nothing since

@@ -1,13 +1,13 @@
 -- The version of a key is the shortest front that shows what the key shows, and each front of the log is sound.
 use Rattle.std.proofs.Common.{◌≡◌, ℕ, ◌+◌, ◌-◌, List, length, take, sym, subst, arith}
 use Rattle.std.proofs.lemmas.List.{length-take-le}
-use Rattle.shop_log.proofs.Legality.{legal_front}
-use Rattle.shop_log.proofs.Shortest.{still_from, shortest}
+use Rattle.shop_log.proofs.cited.Legality.{legal_front}
+use Rattle.shop_log.proofs.cited.Shortest.{still_from, shortest}
 use Rattle.shop_model.specs.declared.tables.Tables.{Tables}
 use Rattle.shop_history.specs.declared.acts.Entry.{Entry}
 use Rattle.shop_history.specs.declared.keys.Key.{Key}
 use Rattle.shop_history.specs.Logs.{history, tables, version_of, MayFollow, IsGood}
-use Rattle.shop_history.proofs.Goods.{good_log}
+use Rattle.shop_history.proofs.cited.GoodTables.{good_log}
 use Rattle.shop_book.specs.Books.{BookValue, IsBook}
 use Rattle.shop_book.specs.Laws.{IsShortest, IsGoodThroughout}
 

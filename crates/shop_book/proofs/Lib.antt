@@ -1,10 +1,11 @@
-pub mod Puts
-pub mod Raises
+pub mod cited
+pub mod Readiness
+pub mod WatchingLemmas
 pub mod Placed
-pub mod Few
-pub mod Kept
+pub mod Sizes
+pub mod Keeping
 pub mod Laws
 pub mod OldOrders
 pub mod Callers
 pub mod Solos
-pub mod Changing
+pub mod ChangesLemmas

@@ -4,7 +4,7 @@ use Rattle.std.specs.List.{range_with_len}
 use Rattle.std.proofs.lemmas.Bool.{le-ltb}
 use Rattle.std.proofs.lemmas.List.{length-map}
 use Rattle.shop_model.specs.rows.Rows.{OrderRow}
-use Rattle.shop_history.proofs.Kept.{kept}
+use Rattle.shop_history.proofs.cited.KeptTables.{kept}
 use Rattle.shop_book.specs.Books.{BookValue, IsBook, tables_of}
 use Rattle.shop_book.specs.Summaries.{new_orders, summary_of}
 

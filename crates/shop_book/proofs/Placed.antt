@@ -13,7 +13,7 @@ use Rattle.shop_history.specs.declared.keys.Row.{Row}
 use Rattle.shop_history.specs.declared.keys.Row.TheVariants as row
 use Rattle.shop_history.specs.Keys.{row_of, shown}
 use Rattle.shop_history.specs.Same.{same}
-use Rattle.shop_history.proofs.Places.{IsThere, is_there}
+use Rattle.shop_history.proofs.cited.Places.{IsThere, is_there}
 use Rattle.shop_book.specs.declared.rows.Rows.{Rows}
 use Rattle.shop_book.specs.declared.versions.Versions.{Versions}
 use Rattle.shop_book.specs.Stored.{HasPlace, HasPlaces, MorePlaces}

@@ -11,7 +11,7 @@ use Rattle.shop_history.specs.Logs.{entries_of}
 use Rattle.shop_attempt.specs.declared.attempts.Attempt.{Attempt}
 use Rattle.shop_attempt.specs.declared.attempts.Settle.{Settle}
 use Rattle.shop_attempt.specs.declared.attempts.Settle.TheVariants.{Done}
-use Rattle.shop_attempt.specs.Marks.{AreMarks, StillMarked}
+use Rattle.shop_attempt.specs.Marks.{StillMarked}
 use Rattle.shop_attempt.specs.Reads.{first_stale}
 use Rattle.shop_attempt.specs.Settles as seat
 use Rattle.shop_book.specs.Books.{BookValue}
@@ -99,7 +99,3 @@ pub marks_stay : (old new : SoloValue) (number stamp : ℕ) (act : Option Act) (
 marks_stay old new number stamp act drawn late is = record {
   kept = λ front moment mark. subst (λ (b : BookValue). IsKeptMark b front moment) (sym is.book) (mark_taken old.book old.visitor.caller number stamp act late front moment mark);
 }
-
--- what is marked of a book is a mark
-pub marks_are : (solo : SoloValue) → AreMarks (marks_of solo) solo.book.log
-marks_are solo = record { are = λ front moment mark. record { within = mark.within; behind = mark.behind } }

@@ -3,7 +3,7 @@ pub mod Books
 pub mod Laws
 pub mod BookView
 pub mod RowsNow
-pub mod Puts
+pub mod Readiness
 pub mod Sizes
 pub mod Stored
 pub mod Counted

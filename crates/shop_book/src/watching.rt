@@ -5,7 +5,7 @@ ghost use Rattle.shop_model.specs.declared.tables.Tables.{Tables};
 ghost use Rattle.shop_history.specs.Acts.{IsInForm};
 ghost use Rattle.shop_history.specs.Keys.{shown, row_of};
 ghost use Rattle.shop_history.specs.MayChange.{may_change};
-ghost use Rattle.shop_history.proofs.Raising.{RaisedFor};
+ghost use Rattle.shop_history.proofs.cited.Versions.{RaisedFor};
 ghost use Rattle.shop_book.specs.RowsNow.{tables_with};
 ghost use Rattle.shop_book.specs.Stored.{stored, HasPlaces, MorePlaces};
 ghost use Rattle.shop_book.specs.Watching as spec;

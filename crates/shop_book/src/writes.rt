@@ -3,17 +3,14 @@ ghost use Rattle.shop_model.specs.rows.Limits.{stamp_limit, day_of};
 ghost use Rattle.shop_model.specs.declared.tables.Tables.{Tables};
 ghost use Rattle.shop_attempt.specs.Writes as write;
 ghost use Rattle.shop_attempt.specs.Writes.{changed_at, put_row, logged_in, written_one, written};
-ghost use Rattle.shop_book.specs.Puts as spec;
+ghost use Rattle.shop_book.specs.Readiness as spec;
 ghost use Rattle.shop_book.specs.RowsNow.{tables_with, KeepsRoom, TakesOne};
 
 use crate::rows::Rows;
 use shop_attempt::{Stock, Write};
 use shop_model::{
-    Address, AddressText, CardUse, Cart, Customer, DAY_LIMIT, Item, Order, SESSION_TIME,
+    Address, AddressText, CardUse, Cart, Customer, DAY_LENGTH, DAY_LIMIT, Item, Order, SESSION_TIME,
 };
-
-/// How long a day lasts, in milliseconds.
-const DAY_LENGTH: u64 = 86_400_000;
 
 /// Puts a cart in its place, or a new one behind the others.
 fn put_cart(carts: &mut Vec<Cart>, cart: Cart)

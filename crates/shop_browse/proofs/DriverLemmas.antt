@@ -1,5 +1,5 @@
 -- What the driver has read, round by round, and the attempt that it makes of a decision.
-use Rattle.std.proofs.Common.{◌≡◌, ℕ, suc, List, [], ◌∷◌, ◌++◌, ◌-◌, ◌≤◌, length, take, drop, get_or, All, Some, None, refl, sym, ◌∙◌, ap, subst, arith}
+use Rattle.std.proofs.Common.{◌≡◌, ℕ, suc, List, [], ◌∷◌, ◌++◌, ◌+◌, ◌-◌, ◌≤◌, length, take, drop, get_or, All, Some, None, refl, sym, ◌∙◌, ap, subst, arith}
 use Rattle.std.proofs.lemmas.List.{append_assoc, append-nil, map-append, take_all}
 use Rattle.std.proofs.lemmas.List.Elements.{All-nil, All-append, All-head, All-tail}
 use Rattle.shop_model.specs.declared.page.Page.{Page}
@@ -13,20 +13,25 @@ use Rattle.shop_history.specs.declared.acts.Entry.{Entry}
 use Rattle.shop_history.specs.declared.keys.Key.{Key}
 use Rattle.shop_history.specs.Keys.{row_of}
 use Rattle.shop_history.specs.Logs.{tables}
-use Rattle.shop_history.proofs.Kept.{kept}
+use Rattle.shop_history.proofs.cited.KeptTables.{kept}
 use Rattle.shop_draft.specs.declared.draft.Draft.{Draft}
 use Rattle.shop_draft.specs.declared.ids.PageIds.{PageIds}
 use Rattle.shop_draft.specs.Drawing.{ids_at}
 use Rattle.shop_draft.specs.Pages.{IsPage, Shows}
 use Rattle.shop_attempt.specs.declared.attempts.ReadOf.{ReadOf}
+use Rattle.shop_attempt.specs.Marks.{Looks}
 use Rattle.shop_attempt.specs.Reads.{Agrees, AreTrue, IsReadOf, IsReadSince, AreReadSince}
 use Rattle.shop_attempt.specs.Seats.{Seat, IsSeat, Looked, IsReadAt}
-use Rattle.shop_attempt.proofs.Looks.{looked_trans, since_now, since_push, all_since_later, all_since_earlier, are_true}
+use Rattle.shop_attempt.proofs.cited.Marks.{looks_then}
+use Rattle.shop_attempt.proofs.cited.Looks.{looked_trans, since_now, since_push, all_since_later, all_since_earlier, are_true}
 use Rattle.shop_browse.specs.declared.attempted.Ask.{Ask}
 use Rattle.shop_browse.specs.declared.driver.Next.{Next}
-use Rattle.shop_browse.specs.declared.driver.Next.TheVariants.{Read, Show, Change, Never}
+use Rattle.shop_browse.specs.declared.driver.Next.TheVariants.{Show, Change, Never}
+use Rattle.shop_browse.specs.declared.attempted.Attempted.TheVariants.{Ready, Contradiction}
+use Rattle.shop_history.specs.declared.acts.Act.{Act}
+use Rattle.shop_attempt.specs.declared.attempts.Write.{Write}
 use Rattle.shop_browse.specs.Attempts.{AreReadFor, IsAttempt, IsShownBy, AttemptedAs, Suits, asking_of}
-use Rattle.shop_browse.specs.Driver.{keys_of, Fits, AreSeen, WereRead, MayRead, AsksFor, IsNext, AddsReads, attempted_by, attempt_with}
+use Rattle.shop_browse.specs.Driver.{keys_of, Fits, AreSeen, WereRead, MayRead, AsksFor, IsNext, AddsReads, attempt_with}
 use Rattle.shop_browse.specs.Footprints.{InFootprint}
 use Rattle.shop_browse.proofs.Items.{seat_sound}
 
@@ -47,6 +52,21 @@ seen_append : (c : Catalogue) (one other : List ReadOf) → AreSeen c one → Ar
 seen_append c [] other are more = more
 seen_append c (read ∷ one) other are more = (are.0, seen_append c one other are.1 more)
 
+since_append : (start now : Seat) (one other : List ReadOf) → AreReadSince start now one → AreReadSince start now other → AreReadSince start now (one ++ other)
+since_append start now [] other are more = more
+since_append start now (read ∷ one) other are more = (are.0, since_append start now one other are.1 more)
+
+-- a row more was read
+pub read_adds : (start now : Seat) (key : Key) (old new : List ReadOf) (read : ReadOf) → Looked start now → IsSeat now → IsReadOf now key read → new ≡ old ++ read ∷ []
+    → AddsReads start now (key ∷ []) old new
+read_adds start now key old new read looked valid of pushed = record {
+  more = read ∷ [];
+  added = pushed;
+  keys_are = ap (λ (k : Key). k ∷ []) of.key_is;
+  since = (read_since start now key read looked of, tt);
+  seen = ((tables now.opening now.seen, read_fits now key read valid of), tt);
+}
+
 -- some of these rows were read, and these keys are left
 pub record ReadsSome (start now : Seat) (keys left : List Key) (old new : List ReadOf) : Type 0 where
   pub more : List ReadOf
@@ -58,20 +78,19 @@ pub record ReadsSome (start now : Seat) (keys left : List Key) (old new : List R
 pub none_read : (seat : Seat) (keys left : List Key) (reads : List ReadOf) → keys ≡ left → ReadsSome seat seat keys left reads reads
 none_read seat keys left reads is = record { more = []; added = sym (append-nil reads); keys_are = is; since = tt; seen = tt }
 
-pub one_more : (start middle now : Seat) (keys before left : List Key) (key : Key) (old reads new : List ReadOf) (read : ReadOf) → ReadsSome start middle keys before old reads
-    → before ≡ key ∷ left → Looked start middle → Looked middle now → IsSeat now → IsReadOf now key read → new ≡ reads ++ read ∷ [] → ReadsSome start now keys left old new
-one_more start middle now keys before left key old reads new read some is first second valid of pushed = record {
-  more = some.more ++ read ∷ [];
-  added = pushed ∙ ap (λ (l : List ReadOf). l ++ read ∷ []) some.added ∙ append_assoc old some.more (read ∷ []);
+pub one_more : (start middle now : Seat) (keys before left : List Key) (key : Key) (old reads new : List ReadOf) → ReadsSome start middle keys before old reads
+    → before ≡ key ∷ left → Looked start middle → Looked middle now → AddsReads middle now (key ∷ []) reads new → ReadsSome start now keys left old new
+one_more start middle now keys before left key old reads new some is first second adds = record {
+  more = some.more ++ adds.more;
+  added = adds.added ∙ ap (λ (l : List ReadOf). l ++ adds.more) some.added ∙ append_assoc old some.more adds.more;
   keys_are =
       some.keys_are
-      ∙ ap (λ (l : List Key). keys_of some.more ++ l) (is ∙ ap (λ (k : Key). k ∷ left) (sym of.key_is))
-      ∙ sym (append_assoc (keys_of some.more) (read.key ∷ []) left)
-      ∙ ap (λ (l : List Key). l ++ left) (sym (map-append (λ (r : ReadOf). r.key) some.more (read ∷ [])));
-  since = since_push start now some.more read (all_since_later start middle now some.more second some.since) (read_since start now key read (looked_trans start middle now first second) of);
-  seen = seen_append (catalogue now.opening) some.more (read ∷ [])
-      (subst (λ (t : Tables). AreSeen (catalogue t) some.more) (sym second.follows.opening) some.seen)
-      ((tables now.opening now.seen, read_fits now key read valid of), tt);
+      ∙ ap (λ (l : List Key). keys_of some.more ++ l) (is ∙ ap (λ (l : List Key). l ++ left) (sym adds.keys_are))
+      ∙ sym (append_assoc (keys_of some.more) (keys_of adds.more) left)
+      ∙ ap (λ (l : List Key). l ++ left) (sym (map-append (λ (r : ReadOf). r.key) some.more adds.more));
+  since = since_append start now some.more adds.more (all_since_later start middle now some.more second some.since) (all_since_earlier start middle now adds.more first second adds.since);
+  seen = seen_append (catalogue now.opening) some.more adds.more
+      (subst (λ (t : Tables). AreSeen (catalogue t) some.more) (sym second.follows.opening) some.seen) adds.seen;
 }
 
 pub all_read : (start now : Seat) (keys left : List Key) (old new : List ReadOf) → ReadsSome start now keys left old new → left ≡ [] → AddsReads start now keys old new
@@ -83,10 +102,6 @@ all_read start now keys left old new some none = record {
   seen = some.seen;
 }
 
--- the page of a draft is what a request shows
-pub shows_page : (t : Tables) (request : Request) (draw : ℕ) (draft : Draft) (page : Page) → show t request draw ≡ Some page → Shows draft (λ drawn. page) → IsShownBy t request draw draft
-shows_page t request draw draft page shows written = record { page = page; shows = shows; written = written }
-
 -- a draft with the ids that a request hands on
 pub with_ids : (draft : Draft) (page : IdsAsked → Page) (given : PageIds) (ids : IdsAsked) → ((drawn : Drawn) → ids_at drawn given ≡ ids)
     → Shows draft (λ drawn. page (ids_at drawn given)) → Shows draft (λ drawn. page ids)
@@ -94,22 +109,12 @@ with_ids draft page given ids same shows drawn = subst (λ i. IsPage draft drawn
 
 -- reads by their keys
 
-pub one_read : (k : Key) (reads : List ReadOf) (read : ReadOf) → keys_of reads ≡ k ∷ [] → read ≡ get_or reads 0 read → (reads ≡ read ∷ []) × (read.key ≡ k)
-one_read k [] read are at = absurd cc
-one_read k (one ∷ []) read are at = (ap (λ (r : ReadOf). r ∷ []) (sym at), cc)
-one_read k (one ∷ other ∷ reads) read are at = absurd cc
-
 pub two_reads : (k l : Key) (reads : List ReadOf) (first second : ReadOf) → keys_of reads ≡ k ∷ l ∷ [] → first ≡ get_or reads 0 first → second ≡ get_or reads 1 second
     → (reads ≡ first ∷ second ∷ []) × (first.key ≡ k) × (second.key ≡ l)
 two_reads k l [] first second are at then = absurd cc
 two_reads k l (one ∷ []) first second are at then = absurd cc
 two_reads k l (one ∷ two ∷ []) first second are at then = (cc, cc, cc)
 two_reads k l (one ∷ two ∷ other ∷ reads) first second are at then = absurd cc
-
--- the reads behind the first
-pub behind : (reads : List ReadOf) → take (length reads - 1) (drop 1 reads) ≡ drop 1 reads
-behind [] = refl
-behind (read ∷ reads) = let many : length reads ≤ length (read ∷ reads) - 1 = omega arith in take_all (length (read ∷ reads) - 1) reads many
 
 -- the rounds
 
@@ -127,10 +132,6 @@ has_none start request ask (read ∷ reads) suits none = absurd cc
 true_front : (opening : Tables) (log : List Entry) (one other : List ReadOf) → AreTrue opening log (one ++ other) → AreTrue opening log one
 true_front opening log [] other are = tt
 true_front opening log (read ∷ one) other are = (are.0, true_front opening log one other are.1)
-
-since_append : (start now : Seat) (one other : List ReadOf) → AreReadSince start now one → AreReadSince start now other → AreReadSince start now (one ++ other)
-since_append start now [] other are more = more
-since_append start now (read ∷ one) other are more = (are.0, since_append start now one other are.1 more)
 
 more_may : (follows : ℕ → List ReadOf → Type 0) (request : Request) (ask : Ask) (round : ℕ) (reads more : List ReadOf) (keys : List Key)
     → MayRead request ask reads (keys_of reads) → AsksFor follows request ask round reads keys → keys_of more ≡ keys → MayRead request ask (reads ++ more) (keys_of (reads ++ more))
@@ -153,6 +154,35 @@ has_more start middle now follows request ask round reads new keys first second 
       },
       asks.goes_on adds.more adds.keys_are,
     )
+
+-- what has been read in so many rounds
+pub record HasGone {Store : Type 0} (seat : Store → Seat) (marked : Store → ℕ → ℕ → Type 0) (first now : Store) (follows : ℕ → List ReadOf → Type 0) (request : Request) (ask : Ask) (round : ℕ) (reads : List ReadOf) : Type 0 where
+  pub looks : Looks seat marked first now
+  pub has : HasRead (seat first) (seat now) request ask reads
+  pub few : round ≤ 6
+  pub asked_for : follows round reads
+
+-- one round more
+pub one_round : {Store : Type 0} (seat : Store → Seat) (marked : Store → ℕ → ℕ → Type 0) (first old now : Store) (before follows : ℕ → List ReadOf → Type 0) (request : Request) (ask : Ask) (round : ℕ) (reads new : List ReadOf) (keys : List Key)
+    → HasGone seat marked first old before request ask round reads → AsksFor follows request ask round reads keys → Looks seat marked old now → AddsReads (seat old) (seat now) keys reads new
+    → HasGone seat marked first now follows request ask (round + 1) new
+one_round seat marked first old now before follows request ask round reads new keys gone asks looks adds =
+    let more = has_more _ _ _ follows request ask round reads new keys gone.looks.looked looks.looked gone.has asks adds in
+    let few = asks.few in
+    let next : suc round ≡ round + 1 = omega arith in
+    record {
+      looks = looks_then gone.looks looks;
+      has = more.0;
+      few = omega (arith, few);
+      asked_for = subst (λ n. follows n new) next more.1;
+    }
+
+-- what is next is this, of the same request
+pub next_is : (follows : ℕ → List ReadOf → Type 0) (own request : Request) (ask : Ask) (round : ℕ) (reads seen : List ReadOf) (draft : Draft) (next one : Next) → own ≡ request → seen ≡ reads → next ≡ one
+    → IsNext follows own ask round seen draft next → IsNext follows request ask round reads draft one
+next_is follows own request ask round reads seen draft next one same are is right =
+    subst (λ r. IsNext follows r ask round reads draft one) same
+    (subst (λ (l : List ReadOf). IsNext follows own ask round l draft one) are (subst (IsNext follows own ask round seen draft) is right))
 
 -- the decision
 
@@ -185,14 +215,17 @@ looks_only start now request ask reads has = record {
   faithful = record { reads_are = are_true start now reads has.since; makes = tt };
 }
 
-pub decided : (start now : Seat) (follows : ℕ → List ReadOf → Type 0) (request : Request) (ask : Ask) (round : ℕ) (reads : List ReadOf) (draft : Draft) (next : Next)
-    → HasRead start now request ask reads → IsNext follows request ask round reads draft next → AttemptedAs start now (asking_of ask request) draft (attempted_by ask reads next)
-decided start now follows request ask round reads draft (Read keys) has is = tt
-decided start now follows request ask round reads draft Show has is = record {
+pub showed : (start now : Seat) (follows : ℕ → List ReadOf → Type 0) (request : Request) (ask : Ask) (round : ℕ) (reads : List ReadOf) (draft : Draft) → HasRead start now request ask reads
+    → IsNext follows request ask round reads draft Show → AttemptedAs start now (asking_of ask request) draft (Ready (attempt_with ask reads None None))
+showed start now follows request ask round reads draft has is = record {
   attempts = looks_only start now request ask reads has;
   drafts = λ t agrees. is t (fits ask.index.now now.opening t reads has.same agrees);
 }
-decided start now follows request ask round reads draft (Change act writes) has is = record {
+
+pub changed : (start now : Seat) (follows : ℕ → List ReadOf → Type 0) (request : Request) (ask : Ask) (round : ℕ) (reads : List ReadOf) (draft : Draft) (act : Act) (writes : List Write)
+    → HasRead start now request ask reads → IsNext follows request ask round reads draft (Change act writes)
+    → AttemptedAs start now (asking_of ask request) draft (Ready (attempt_with ask reads (Some writes) (Some act)))
+changed start now follows request ask round reads draft act writes has is = record {
   attempts = record {
     at = refl;
     drew = refl;
@@ -204,7 +237,10 @@ decided start now follows request ask round reads draft (Change act writes) has 
   };
   drafts = (is.does, λ t stamp agrees bound. is.becomes t stamp (fits ask.index.now now.opening t reads has.same agrees) bound);
 }
-decided start now follows request ask round reads draft Never has is = record {
+
+pub never_shown : (start now : Seat) (follows : ℕ → List ReadOf → Type 0) (request : Request) (ask : Ask) (round : ℕ) (reads : List ReadOf) (draft : Draft) → HasRead start now request ask reads
+    → IsNext follows request ask round reads draft Never → AttemptedAs start now (asking_of ask request) draft (Contradiction (attempt_with ask reads None None))
+never_shown start now follows request ask round reads draft has is = record {
   attempts = looks_only start now request ask reads has;
   reading = refl;
   never = λ t agrees. is t (fits ask.index.now now.opening t reads has.same agrees);

@@ -21,19 +21,20 @@ use Rattle.shop_history.specs.declared.keys.Row.{Row}
 use Rattle.shop_history.specs.declared.keys.Row.TheVariants as row
 use Rattle.shop_history.specs.Keys.{row_of, shown}
 use Rattle.shop_history.specs.Logs.{tables}
-use Rattle.shop_draft.proofs.PageTexts.{both}
+use Rattle.shop_draft.proofs.cited.PageTexts.{both}
 use Rattle.shop_draft.specs.declared.draft.Draft.{Draft}
 use Rattle.shop_attempt.specs.declared.attempts.ReadOf.{ReadOf}
 use Rattle.shop_browse.specs.declared.attempted.Ask.{Ask}
 use Rattle.shop_browse.specs.declared.driver.Next.{Next}
-use Rattle.shop_browse.specs.declared.driver.Next.TheVariants.{Read, Show, Change, Never}
+use Rattle.shop_browse.specs.declared.driver.Next.TheVariants.{ReadOne, Read, Show, Change, Never}
 use Rattle.shop_browse.specs.Driver.{keys_of, IsWhole, Fits, AsksFor, IsNext}
 use Rattle.shop_browse.specs.Footprints.{drawn_item, InFootprint}
 use Rattle.shop_browse.specs.Home.{drawn_key, FollowsHome, home_in, IsWelcome}
-use Rattle.shop_browse.specs.Labels.{HaveLabels, FollowsLabels, promoted_in}
-use Rattle.shop_browse.proofs.DriverLemmas.{shows_page}
+use Rattle.shop_browse.specs.Labels.{HaveLabels, FollowsLabels, AsksLabels, promoted_in}
+use Rattle.shop_browse.proofs.cited.Reads.{shows_page}
 use Rattle.shop_browse.proofs.Items.{row_missing}
-use Rattle.shop_browse.proofs.LabelsLemmas.{ShowsLabels, size_of, size_after, labels_fit, promotion_shown}
+use Rattle.shop_browse.proofs.cited.Sizes.{size_of, size_after}
+use Rattle.shop_browse.proofs.LabelsLemmas.{ShowsLabels, labels_fit, promotion_shown}
 
 -- four lists of blocks that were added in turn
 pub four_parts : {A : Type 0} (f : A → List ℕ) (k l m n : List A) (old s1 s2 s3 now : List ℕ) → s1 ≡ old ++ flat_map f k → s2 ≡ s1 ++ flat_map f l → s3 ≡ s2 ++ flat_map f m
@@ -61,6 +62,15 @@ home_shown ask ids customer reads whole have t fits =
     let links = promo_shown ask t ids reads whole have fits in
     cc
 
+-- what is asked for next of the promotion
+pub is_welcome : (ids : IdsAsked) (customer : Option CustomerRow) (ask : Ask) (round : ℕ) (reads : List ReadOf) (draft : Draft) (next : Next) → AsksLabels (drawn_key ask) ask round reads (Some next)
+    → IsWelcome ids customer ask round reads draft next
+is_welcome ids customer ask round reads draft (ReadOne k) asks = asks
+is_welcome ids customer ask round reads draft (Read keys) asks = asks
+is_welcome ids customer ask round reads draft Show asks = absurd asks
+is_welcome ids customer ask round reads draft (Change act writes) asks = absurd asks
+is_welcome ids customer ask round reads draft Never asks = absurd asks
+
 -- what Home shows by the number that is given, and by the row with it
 
 home_shows : (t : Tables) (asked : home_asked.Home) (draw : ℕ) (number : Option ℕ) → asked.ids.c ≡ number
@@ -78,6 +88,7 @@ pub anyone_next : (asked : home_asked.Home) (ask : Ask) (round : ℕ) (reads : L
 anyone_next asked ask round reads draft next none whole is = subst (λ c. IsNext (FollowsHome c ask) (Home asked) ask round reads draft next) (sym none) (by next is)
   where
     by : (n : Next) → IsWelcome asked.ids None ask round reads draft n → IsNext (FollowsHome None ask) (Home asked) ask round reads draft n
+    by (ReadOne k) is = is (Home asked) (λ opening log named. inr (drawn_after ask opening log whole named))
     by (Read keys) is = is (Home asked) (λ opening log named. inr (drawn_after ask opening log whole named))
     by Show is = λ t fits. shows_page t (Home asked) ask.draw draft (home_page t asked.ids ask.draw None) (home_shows t asked ask.draw None none) (is t fits)
     by (Change act writes) is = absurd is
@@ -123,16 +134,22 @@ module _ (asked : home_asked.Home) (number : ℕ) (ask : Ask) (is_c : asked.ids.
         number_shows t asked ask.draw number None is_c
         (row_missing row.Customer (λ (x : CustomerRow) is. absurd cc) (row_numbered t.customers number) (shown_row t row.Absent fits.shows.0 is))
 
+    -- what the promotion asks for, behind the customer
+    asks_behind : (round : ℕ) (reads : List ReadOf) (keys : List Key) → AsksFor (FollowsLabels (drawn_key ask)) (Home asked) ask (suc round) reads keys
+        → AsksFor (FollowsHome (Some number) ask) (Home asked) ask (suc round) (known ∷ reads) keys
+    asks_behind round reads keys asks = record {
+      few = asks.few;
+      goes_on = λ more of. (key_is, asks.goes_on more of);
+      may = λ opening log were. asks.may opening log (record { named = were.named; sound = were.sound; are = were.are.1 });
+    }
+
     pub known_next : (customer : CustomerRow) (round : ℕ) (reads : List ReadOf) (draft : Draft) (next : Next) → known.row ≡ row.Customer customer → IsWhole ask → (round ≡ 0 → ⊥)
         → IsWelcome asked.ids (Some customer) ask round reads draft next → IsNext (FollowsHome (Some number) ask) (Home asked) ask round (known ∷ reads) draft next
     known_next customer zero reads draft next is whole some welcome = absurd (some refl)
+    known_next customer (suc round) reads draft (ReadOne k) is whole some welcome =
+        asks_behind round reads (k ∷ []) (welcome (Home asked) (λ opening log named. inr (drawn_after ask opening log whole named)))
     known_next customer (suc round) reads draft (Read keys) is whole some welcome =
-        let asks : AsksFor (FollowsLabels (drawn_key ask)) (Home asked) ask (suc round) reads keys = welcome (Home asked) (λ opening log named. inr (drawn_after ask opening log whole named)) in
-        record {
-          few = asks.few;
-          goes_on = λ more of. (key_is, asks.goes_on more of);
-          may = λ opening log were. asks.may opening log (record { named = were.named; sound = were.sound; are = were.are.1 });
-        }
+        asks_behind round reads keys (welcome (Home asked) (λ opening log named. inr (drawn_after ask opening log whole named)))
     known_next customer (suc round) reads draft Show is whole some welcome = λ t fits.
         let o : Option CustomerRow = row_numbered t.customers number in
         shows_page t (Home asked) ask.draw draft (home_page t asked.ids ask.draw (Some customer))

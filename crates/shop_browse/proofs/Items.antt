@@ -12,14 +12,10 @@ use Rattle.shop_history.specs.declared.keys.Row.{Row}
 use Rattle.shop_history.specs.declared.keys.Row.TheVariants as row
 use Rattle.shop_history.specs.Keys.{row_of, shown, label_of, is_item}
 use Rattle.shop_history.specs.Logs.{tables}
-use Rattle.shop_history.proofs.Goods.{good_log}
-use Rattle.shop_history.proofs.Kept.{kept, same_items}
-use Rattle.shop_history.proofs.Places.{IsThere, is_there}
+use Rattle.shop_history.proofs.cited.GoodTables.{good_log}
+use Rattle.shop_history.proofs.cited.KeptTables.{kept, same_items}
+use Rattle.shop_history.proofs.cited.Places.{IsThere, is_there}
 use Rattle.shop_attempt.specs.Seats.{Seat, IsSeat}
-
--- the opening's number of items stays
-pub same_size : (t : Tables) (log : List Entry) → length (tables t log).items ≡ length t.items
-same_size t log = same_items t (tables t log) (kept t log).catalogue
 
 -- the tables after the log seen are sound
 pub seat_sound : (seat : Seat) → IsSeat seat → Sound (tables seat.opening seat.seen)

@@ -19,7 +19,7 @@ use Rattle.shop_model.specs.lists.Rankings.{Sale, put_among, in_order, in_subjec
 use Rattle.shop_model.specs.rows.Rows.{ItemRow}
 use Rattle.shop_model.specs.pages.Promotion.{promoted, promo}
 use Rattle.shop_model.specs.rows.Sound.{Has, Runs, Sound}
-use Rattle.shop_model.proofs.Lists.{all_head, all_tail, id_of_place}
+use Rattle.shop_model.proofs.cited.Lists.{all_head, all_tail, id_of_place}
 use Rattle.shop_history.specs.declared.acts.Entry.{Entry}
 use Rattle.shop_history.specs.declared.keys.Key.{Key}
 use Rattle.shop_history.specs.declared.keys.Key.TheVariants as key
@@ -27,15 +27,18 @@ use Rattle.shop_history.specs.declared.keys.Row.{Row}
 use Rattle.shop_history.specs.declared.keys.Row.TheVariants as row
 use Rattle.shop_history.specs.Keys.{shown, label_of, row_of}
 use Rattle.shop_history.specs.Logs.{tables}
-use Rattle.shop_history.proofs.Places.{all_numbered}
-use Rattle.shop_draft.proofs.PageTexts.{both}
+use Rattle.shop_history.proofs.cited.Places.{all_numbered}
+use Rattle.shop_draft.proofs.cited.PageTexts.{both}
+use Rattle.shop_draft.specs.declared.draft.Draft.{Draft}
 use Rattle.shop_attempt.specs.declared.attempts.ReadOf.{ReadOf}
 use Rattle.shop_attempt.specs.Reads.{Shows}
 use Rattle.shop_browse.specs.declared.attempted.Ask.{Ask}
-use Rattle.shop_browse.specs.Driver.{keys_of, Fits, AreSeen}
-use Rattle.shop_browse.specs.Footprints.{drawn_item, InFootprint}
+use Rattle.shop_browse.specs.declared.driver.Next.{Next}
+use Rattle.shop_browse.specs.declared.driver.Next.TheVariants.{ReadOne, Read, Show, Change, Never}
+use Rattle.shop_browse.specs.Driver.{keys_of, Fits, AreSeen, IsNext}
+use Rattle.shop_browse.specs.Footprints.{drawn_item, InFootprint, IsAbout}
 use Rattle.shop_browse.specs.Labels.{ids_in, HaveLabels, FollowsLabels, AsksLabels, title_in, promoted_in}
-use Rattle.shop_browse.proofs.Items.{same_size}
+use Rattle.shop_browse.proofs.cited.Sizes.{size_of, size_after}
 
 -- what holds of all elements holds of all in order
 
@@ -111,13 +114,6 @@ module _ (t : Tables) (sound : Sound t) where
   named_within (key.NewIn subject) = newest_within subject
   named_within (key.BestIn subject) = best_within subject
 
--- tables have as many items as their catalogue
-pub size_of : (c : Catalogue) (t : Tables) → catalogue t ≡ c → length t.items ≡ length c.items
-size_of c t named = sym (length-map t.items naming) ∙ ap (λ (d : Catalogue). length d.items) named
-
-pub size_after : (c : Catalogue) (opening : Tables) (log : List Entry) → c ≡ catalogue opening → length (tables opening log).items ≡ length c.items
-size_after c opening log named = same_size opening log ∙ size_of c opening (sym named)
-
 -- the labels of items that there are may be read by any request
 pub labels_may : (c : Catalogue) (opening : Tables) (log : List Entry) (request : Request) (draw : ℕ) (ids : List ℕ) → c ≡ catalogue opening → All (Has (length c.items)) ids
     → All (InFootprint opening log request draw) (map key.Label ids)
@@ -128,7 +124,7 @@ labels_may c opening log request draw ids named within =
 -- what is asked for next
 
 pub asks_labels : (k : Key) (ask : Ask) (round : ℕ) (reads : List ReadOf) (first : ReadOf) (keys : List Key) → round ≡ 1 → FollowsLabels k round reads → AreSeen ask.index.now reads → first ≡ get_or reads 0 first
-    → keys ≡ map key.Label (ids_in first.row) → AsksLabels k ask round reads (Some keys)
+    → keys ≡ map key.Label (ids_in first.row) → AsksLabels k ask round reads (Some (Read keys))
 asks_labels k ask zero reads first keys is follows seen at are request about = absurd (omega (arith, is))
 asks_labels k ask (suc zero) [] first keys is follows seen at are request about = absurd cc
 asks_labels k ask (suc zero) (read ∷ []) first keys is follows seen at are request about =
@@ -145,6 +141,15 @@ asks_labels k ask (suc zero) (read ∷ []) first keys is follows seen at are req
     }
 asks_labels k ask (suc zero) (read ∷ other ∷ reads) first keys is follows seen at are request about = absurd cc
 asks_labels k ask (suc (suc round)) reads first keys is follows seen at are request about = absurd (omega (arith, is))
+
+-- so it is right next, for a request that is about the key
+pub asks_next : (k : Key) (ask : Ask) (round : ℕ) (reads : List ReadOf) (request : Request) (draft : Draft) (next : Next) → ((opening : Tables) (log : List Entry) → ask.index.now ≡ catalogue opening → IsAbout opening log request ask.draw k)
+    → AsksLabels k ask round reads (Some next) → IsNext (FollowsLabels k) request ask round reads draft next
+asks_next k ask round reads request draft (ReadOne one) about asks = asks request about
+asks_next k ask round reads request draft (Read keys) about asks = asks request about
+asks_next k ask round reads request draft Show about asks = absurd asks
+asks_next k ask round reads request draft (Change act writes) about asks = absurd asks
+asks_next k ask round reads request draft Never about asks = absurd asks
 
 -- what tables show of the labels
 

@@ -1,3 +1,4 @@
+pub mod cited
 pub mod Items
 pub mod DriverLemmas
 pub mod LabelsLemmas

@@ -17,7 +17,7 @@ use Rattle.shop_history.specs.declared.keys.Key.TheVariants as key
 use Rattle.shop_history.specs.declared.keys.Row.TheVariants as row
 use Rattle.shop_history.specs.Keys.{shown, label_of, row_of}
 use Rattle.shop_draft.specs.Pages.{page_front}
-use Rattle.shop_draft.proofs.PageTexts.{both, written}
+use Rattle.shop_draft.proofs.cited.PageTexts.{both, written}
 use Rattle.shop_attempt.specs.declared.attempts.ReadOf.{ReadOf}
 use Rattle.shop_attempt.specs.Reads.{Shows}
 use Rattle.shop_browse.specs.Driver.{keys_of, Fits}

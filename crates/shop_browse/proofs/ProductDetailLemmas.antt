@@ -27,7 +27,8 @@ use Rattle.shop_browse.specs.declared.attempted.Ask.{Ask}
 use Rattle.shop_browse.specs.Driver.{keys_of, Fits, AsksFor}
 use Rattle.shop_browse.specs.Footprints.{InFootprint}
 use Rattle.shop_browse.specs.ProductDetail.{named, FollowsProduct}
-use Rattle.shop_browse.proofs.Items.{same_size, item_found, item_within, label_found, row_missing}
+use Rattle.shop_browse.proofs.cited.Sizes.{same_size}
+use Rattle.shop_browse.proofs.Items.{item_found, item_within, label_found, row_missing}
 
 -- both were read after the second round
 pub both_follow : (asked : asked_for.ProductDetail) (round : ℕ) (reads : List ReadOf) → (round ≡ 0 → ⊥) → (round ≡ 1 → ⊥) → FollowsProduct asked round reads
@@ -45,14 +46,14 @@ item_there id item x opening log key_is row_is are =
     let shown : row.Item x ≡ row_of then (key.Item id) = sym (ap (row_of then) (sym key_is) ∙ are.0.row_is ∙ row_is) in
     subst (λ n. Has n id) (same_size opening (take item.version log) ∙ sym (same_size opening log)) (item_within then id (row.Item x) shown refl)
 
-pub asks_label : (asked : asked_for.ProductDetail) (item : ReadOf) (x : ItemRow) (keys : List Key) → item.key ≡ key.Item asked.item → item.row ≡ row.Item x → keys ≡ key.Label asked.item ∷ []
-    → (ask : Ask) → AsksFor (FollowsProduct asked) (ProductDetail asked) ask 1 (item ∷ []) keys
-asks_label asked item x keys key_is row_is are ask = record {
+pub asks_label : (asked : asked_for.ProductDetail) (item : ReadOf) (x : ItemRow) → item.key ≡ key.Item asked.item → item.row ≡ row.Item x
+    → (ask : Ask) → AsksFor (FollowsProduct asked) (ProductDetail asked) ask 1 (item ∷ []) (key.Label asked.item ∷ [])
+asks_label asked item x key_is row_is ask = record {
   few = omega arith;
-  goes_on = λ more of. let same = of ∙ are in cc;
+  goes_on = λ more of. cc;
   may = λ opening log were.
       let P : Key → Type 0 = InFootprint opening log (ProductDetail asked) ask.draw in
-      subst (All P) (sym are) (All-cons P (key.Label asked.item) [] (inr (asked.item, item_there asked.item item x opening log key_is row_is were.are, refl)) (All-nil P));
+      All-cons P (key.Label asked.item) [] (inr (asked.item, item_there asked.item item x opening log key_is row_is were.are, refl)) (All-nil P);
 }
 
 -- the page says no more of the author than the names

@@ -17,10 +17,8 @@ use Rattle.shop_attempt.specs.Faithful.{Makes}
 use Rattle.shop_attempt.specs.Reads.{Shows, AreTrue, AreReadSince}
 use Rattle.shop_attempt.specs.Seats.{Seat}
 use Rattle.shop_browse.specs.declared.attempted.Ask.{Ask}
-use Rattle.shop_browse.specs.declared.attempted.Attempted.{Attempted}
-use Rattle.shop_browse.specs.declared.attempted.Attempted.TheVariants.{Ready, Contradiction, Memory}
 use Rattle.shop_browse.specs.declared.driver.Next.{Next}
-use Rattle.shop_browse.specs.declared.driver.Next.TheVariants.{Read, Show, Change, Never}
+use Rattle.shop_browse.specs.declared.driver.Next.TheVariants.{ReadOne, Read, Show, Change, Never}
 use Rattle.shop_browse.specs.Attempts.{Becomes, IsShownBy}
 use Rattle.shop_browse.specs.Footprints.{InFootprint}
 
@@ -71,6 +69,7 @@ pub record IsChange (request : Request) (ask : Ask) (reads : List ReadOf) (draft
 
 -- what is done next is right in whichever tables fit what was read, with the draft as it is then
 abbrev pub IsNext : (ℕ → List ReadOf → Type 0) → Request → Ask → ℕ → List ReadOf → Draft → Next → Type 0
+IsNext follows request ask round reads draft (ReadOne key) = AsksFor follows request ask round reads (key ∷ [])
 IsNext follows request ask round reads draft (Read keys) = AsksFor follows request ask round reads keys
 IsNext follows request ask round reads draft Show =
     (t : Tables) → Fits ask.index.now t reads → IsShownBy t request ask.draw draft
@@ -89,10 +88,3 @@ pub record AddsReads (start now : Seat) (keys : List Key) (old new : List ReadOf
 abbrev pub attempt_with : Ask → List ReadOf → Option (List Write) → Option Act → Attempt
 attempt_with ask reads writes act =
     record { reads = reads; moment = ask.moment; draw = ask.draw; writes = writes; act = act }
-
--- the attempt of what was decided
-abbrev pub attempted_by : Ask → List ReadOf → Next → Attempted
-attempted_by ask reads (Read keys) = Memory
-attempted_by ask reads Show = Ready (attempt_with ask reads None None)
-attempted_by ask reads (Change act writes) = Ready (attempt_with ask reads (Some writes) (Some act))
-attempted_by ask reads Never = Contradiction (attempt_with ask reads None None)

@@ -13,6 +13,8 @@ use Rattle.shop_history.specs.declared.keys.Row.{Row}
 use Rattle.shop_history.specs.declared.keys.Row.TheVariants as row
 use Rattle.shop_attempt.specs.declared.attempts.ReadOf.{ReadOf}
 use Rattle.shop_browse.specs.declared.attempted.Ask.{Ask}
+use Rattle.shop_browse.specs.declared.driver.Next.{Next}
+use Rattle.shop_browse.specs.declared.driver.Next.TheVariants.{ReadOne, Read}
 use Rattle.shop_browse.specs.Driver.{keys_of, AsksFor}
 use Rattle.shop_browse.specs.Footprints.{IsAbout}
 
@@ -36,12 +38,18 @@ FollowsLabels k zero reads = reads ≡ []
 FollowsLabels k (suc zero) reads = keys_of reads ≡ k ∷ []
 FollowsLabels k (suc (suc more)) reads = HaveLabels k reads
 
--- what any request that is about the key asks for next; there is none where all was read
-abbrev pub AsksLabels : Key → Ask → ℕ → List ReadOf → Option (List Key) → Type 0
-AsksLabels k ask round reads (Some keys) =
+-- any request that is about the key asks for these keys
+abbrev pub AsksAbout : Key → Ask → ℕ → List ReadOf → List Key → Type 0
+AsksAbout k ask round reads keys =
     (request : Request)
     → ((opening : Tables) (log : List Entry) → ask.index.now ≡ catalogue opening → IsAbout opening log request ask.draw k)
     → AsksFor (FollowsLabels k) request ask round reads keys
+
+-- what it asks for next; there is none where all was read
+abbrev pub AsksLabels : Key → Ask → ℕ → List ReadOf → Option Next → Type 0
+AsksLabels k ask round reads (Some (ReadOne key)) = AsksAbout k ask round reads (key ∷ [])
+AsksLabels k ask round reads (Some (Read keys)) = AsksAbout k ask round reads keys
+AsksLabels k ask round reads (Some _) = ⊥
 AsksLabels k ask round reads None = HaveLabels k reads
 
 -- the item whose label a key shows

@@ -15,15 +15,15 @@ use shop_model::{BestSellers, Request};
 use shop_text::Memory;
 use std::alloc::Global;
 
-impl Interaction for BestSellers {
+impl<'a> Interaction for &'a BestSellers {
     ghost use Rattle.shop_model.specs.declared.requests.Request.TheVariants as request_kinds;
 
-    ghost request = { λ asked. request_kinds.BestSellers asked };
+    ghost request = { λ asked. request_kinds.BestSellers asked.now };
 
-    ghost follows = { λ asked ask. FollowsLabels (key_kinds.BestIn asked.subject) };
+    ghost follows = { λ asked ask. FollowsLabels (key_kinds.BestIn asked.now.subject) };
 
     fn next(
-        &self,
+        &mut self,
         alloc: Global,
         ask: &Ask,
         round: u32,
@@ -31,7 +31,7 @@ impl Interaction for BestSellers {
         draft: &mut Draft,
     ) -> Result<Next, Memory> {
         match labels_asked(alloc, ask, Key::BestIn(self.subject), round, reads)? {
-            Some(keys) => Ok(Next::Read(keys)),
+            Some(next) => Ok(next),
             None => {
                 subject_page(
                     draft,

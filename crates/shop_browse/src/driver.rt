@@ -1,6 +1,6 @@
 //! The one call that has a store: it reads the rows that an interaction asks for, round by round, and
 //! makes the attempt of what the interaction decides by them, whose page is in the draft that it lends.
-ghost use Rattle.std.specs.Prelude.{◌≡◌, ◌∷◌, [], List, ℕ, IfOk};
+ghost use Rattle.std.specs.Prelude.{◌≡◌, ◌∷◌, [], List, ℕ, None, IfOk};
 ghost use Rattle.shop_model.specs.declared.requests.Request.{Request};
 ghost use Rattle.shop_attempt.specs.declared.attempts.ReadOf.{ReadOf};
 ghost use Rattle.shop_attempt.specs.Marks.{Looks};
@@ -18,9 +18,14 @@ use std::alloc::Global;
 /// The most rounds of an interaction, the last of which decides.
 const ROUNDS: u32 = 7;
 
+/// How many reads have room from the start: those of most requests.
+const READS: usize = 8;
+
 /// What an interaction does next.
 #[derive(Drop)]
 pub enum Next {
+    /// It reads this row.
+    ReadOne(Key),
     /// It reads these rows.
     Read(Listed<Key>),
     /// It shows the page that it has written, and changes nothing.
@@ -31,7 +36,7 @@ pub enum Next {
     Never,
 }
 
-/// A request as a function of the rows that it has read.
+/// A request as a function of the rows that it has read; it may keep what it works out for its next round.
 pub trait Interaction {
     /// What is asked for.
     ghost request: { Self → Request };
@@ -41,7 +46,7 @@ pub trait Interaction {
 
     /// What it does after so many rounds of reads; it writes its page into the draft.
     fn next(
-        &self,
+        &mut self,
         alloc: Global,
         ask: &Ask,
         round: u32,
@@ -49,18 +54,20 @@ pub trait Interaction {
         draft: &mut Draft,
     ) -> Result<Next, Memory>
         requires whole { spec.IsWhole ask.now }
-        requires follows { follows self.now ask.now round reads.now }
+        requires follows { follows self.old ask.now round reads.now }
         requires seen { spec.AreSeen ask.now.index.now reads.now }
-        ensures next { IfOk result (spec.IsNext (follows self.now ask.now) (request self.now) ask.now round reads.now draft.new) };
+        ensures same { request self.new ≡ request self.old }
+        ensures next { IfOk result (spec.IsNext (follows self.new ask.now) (request self.new) ask.now round reads.now draft.new) };
 }
 
-/// One key.
-pub fn one_key(alloc: Global, key: Key) -> Result<Listed<Key>, Memory>
-    ensures { IfOk result (λ keys. keys ≡ key ∷ []) }
+/// Reads one row more.
+fn read_one<St: Store>(store: &mut St, reads: &mut Vec<ReadOf>, key: Key) -> Result<(), Memory>
+    ensures looks { Looks St.seat St.marked store.old store.new }
+    ensures reads { IfOk result (λ _. spec.AddsReads (St.seat store.old) (St.seat store.new) (key ∷ []) reads.old.items reads.new.items) }
 {
-    let mut keys = Listed::with_capacity(alloc, 1)?;
-    keys.push(key)?;
-    Ok(keys)
+    let read = read(store, key)?;
+    reads.push(read)?;
+    Ok(())
 }
 
 /// Reads rows, one after another.
@@ -75,69 +82,68 @@ fn read_all<St: Store>(
     let keys = keys.into_vec();
     reads.reserve(keys.len())?;
     for key in keys {
-        let read = read(store, key)?;
-        reads.push(read)?;
+        read_one(store, reads, key)?;
     }
     Ok(())
 }
 
-/// The attempt by what was read and what was decided.
-fn attempted(ask: &Ask, reads: Vec<ReadOf>, next: Next) -> Attempted
-    ensures { result ≡ spec.attempted_by ask.now reads.items next }
+/// The attempt by what was read, which changes nothing.
+fn looked(ask: &Ask, reads: Vec<ReadOf>) -> Attempt
+    ensures { result ≡ spec.attempt_with ask.now reads.items None None }
 {
-    let attempt = Attempt {
+    Attempt {
         reads: Listed::from_vec(reads),
         moment: ask.moment,
         draw: ask.draw,
         writes: None,
         act: None,
-    };
-    match next {
-        Next::Read(_) => Attempted::Memory,
-        Next::Show => Attempted::Ready(attempt),
-        Next::Change(act, writes) => Attempted::Ready(Attempt {
-            writes: Some(writes),
-            act: Some(act),
-            ..attempt
-        }),
-        Next::Never => Attempted::Contradiction(attempt),
     }
 }
 
-fn drive<St: Store, I: Interaction>(
+fn drive<St: Store, I: Interaction + Drop>(
     alloc: Global,
     store: &mut St,
     ask: &Ask,
-    interaction: &I,
+    interaction: I,
     draft: &mut Draft,
 ) -> Result<Attempted, Memory>
-    requires begins { I.follows interaction.now ask.now 0 [] }
+    requires begins { I.follows interaction ask.now 0 [] }
     requires suits { Suits ask.now (St.seat store.old) }
     ensures looks { Looks St.seat St.marked store.old store.new }
-    ensures attempted { IfOk result (AttemptedAs (St.seat store.old) (St.seat store.new) (asking_of ask.now (I.request interaction.now)) draft.new) }
+    ensures attempted { IfOk result (AttemptedAs (St.seat store.old) (St.seat store.new) (asking_of ask.now (I.request interaction)) draft.new) }
 {
-    let mut reads = Vec::new(alloc);
+    let mut interaction = interaction;
+    let mut reads = Vec::with_capacity(alloc, READS)?;
     for round in 0..ROUNDS {
         match interaction.next(alloc, ask, round, &reads, draft)? {
+            Next::ReadOne(key) => read_one(store, &mut reads, key)?,
             Next::Read(keys) => read_all(store, &mut reads, keys)?,
-            next => return Ok(attempted(ask, reads, next)),
+            Next::Show => return Ok(Attempted::Ready(looked(ask, reads))),
+            Next::Change(act, writes) => {
+                return Ok(Attempted::Ready(Attempt {
+                    writes: Some(writes),
+                    act: Some(act),
+                    ..looked(ask, reads)
+                }));
+            }
+            Next::Never => return Ok(Attempted::Contradiction(looked(ask, reads))),
         }
     }
     unreachable!()
 }
 
 /// An attempt at an interaction, which writes its page into the draft.
-pub fn attempt_by<St: Store, I: Interaction>(
+pub fn attempt_by<St: Store, I: Interaction + Drop>(
     alloc: Global,
     store: &mut St,
     ask: &Ask,
-    interaction: &I,
+    interaction: I,
     draft: &mut Draft,
 ) -> Attempted
-    requires begins { I.follows interaction.now ask.now 0 [] }
+    requires begins { I.follows interaction ask.now 0 [] }
     requires suits { Suits ask.now (St.seat store.old) }
     ensures looks { Looks St.seat St.marked store.old store.new }
-    ensures attempted { AttemptedAs (St.seat store.old) (St.seat store.new) (asking_of ask.now (I.request interaction.now)) draft.new result }
+    ensures attempted { AttemptedAs (St.seat store.old) (St.seat store.new) (asking_of ask.now (I.request interaction)) draft.new result }
 {
     match drive(alloc, store, ask, interaction, draft) {
         Ok(attempted) => attempted,

@@ -32,7 +32,7 @@ fn heading(page: &mut Template) -> Result<(), Memory>
     Ok(())
 }
 
-#[tactic(auto, using(shop_text::proofs::Plain::escape_append), unfolding(shop_model::specs::pages::PageText::block_text, shop_model::specs::pages::Home::greeting))]
+#[tactic(auto, using(shop_text::proofs::cited::Plain::escape_append), unfolding(shop_model::specs::pages::PageText::block_text, shop_model::specs::pages::Home::greeting))]
 fn greeting(page: &mut Template, customer: &Customer) -> Result<(), Memory>
     ensures { OnOk result (Says page.old page.new (block_line (block.Para (spec.greeting customer.now)))) }
 {
@@ -110,7 +110,7 @@ fn welcome(
     ensures { IfOk result (IsWelcome ids (option_copied customer.entry) ask.now round reads.now draft.new) }
 {
     match labels_asked(alloc, ask, drawn_key(ask), round, reads)? {
-        Some(keys) => Ok(Next::Read(keys)),
+        Some(next) => Ok(next),
         None => {
             write_page(draft, PageIds::of(ids), ask.draw, customer, &reads[1..])?;
             Ok(Next::Show)
@@ -159,15 +159,15 @@ fn first_keys(alloc: Global, ask: &Ask, number: u32) -> Result<Listed<Key>, Memo
     Ok(keys)
 }
 
-impl Interaction for Home {
+impl<'a> Interaction for &'a Home {
     ghost use Rattle.shop_model.specs.declared.requests.Request.TheVariants as request_kinds;
 
-    ghost request = { λ asked. request_kinds.Home asked };
+    ghost request = { λ asked. request_kinds.Home asked.now };
 
-    ghost follows = { λ asked. FollowsHome asked.ids.c };
+    ghost follows = { λ asked. FollowsHome asked.now.ids.c };
 
     fn next(
-        &self,
+        &mut self,
         alloc: Global,
         ask: &Ask,
         round: u32,
@@ -183,7 +183,7 @@ impl Interaction for Home {
                     greet(
                         alloc,
                         ask,
-                        self,
+                        *self,
                         number,
                         round,
                         &reads[0],

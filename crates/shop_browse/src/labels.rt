@@ -9,7 +9,7 @@ ghost use Rattle.shop_browse.specs.Driver.{IsWhole, AreSeen};
 ghost use Rattle.shop_browse.specs.Labels as spec;
 
 use crate::Ask;
-use crate::driver::one_key;
+use crate::driver::Next;
 use shop_attempt::ReadOf;
 use shop_draft::{PageIds, Template};
 use shop_history::{Key, Row};
@@ -38,23 +38,23 @@ pub(crate) fn label_keys(alloc: Global, ids: &[u32]) -> Result<Listed<Key>, Memo
     Ok(keys)
 }
 
-/// The keys that are asked for next: the row's, then those of the labels of the items that it names;
-/// None where all was read.
+/// What is asked for next: the row, then the labels of the items that it names; None where all was
+/// read.
 pub(crate) fn labels_asked(
     alloc: Global,
     ask: &Ask,
     key: Key,
     round: u32,
     reads: &[ReadOf],
-) -> Result<Option<Listed<Key>>, Memory>
+) -> Result<Option<Next>, Memory>
     requires whole { IsWhole ask.now }
     requires follows { spec.FollowsLabels key round reads.now }
     requires seen { AreSeen ask.now.index.now reads.now }
     ensures { IfOk result (spec.AsksLabels key ask.now round reads.now) }
 {
     match round {
-        0 => Ok(Some(one_key(alloc, key)?)),
-        1 => Ok(Some(label_keys(alloc, ids_in(&reads[0].row))?)),
+        0 => Ok(Some(Next::ReadOne(key))),
+        1 => Ok(Some(Next::Read(label_keys(alloc, ids_in(&reads[0].row))?))),
         _ => Ok(None),
     }
 }
@@ -75,7 +75,7 @@ fn promoted(page: &mut Template, ids: PageIds, read: &ReadOf) -> Result<(), Memo
 {
     let item = id_in(&read.key);
     match &read.row {
-        Row::Label(label) => page.title_link(b"/product_detail", item, ids, label.title())?,
+        Row::Label(label) => page.title_link(item, ids, label.title())?,
         _ => page.item_link(b"/product_detail", item, ids, b"")?,
     }
     Ok(())

@@ -14,4 +14,4 @@ pub mod search_request;
 pub mod search_results;
 
 pub use attempted::{Ask, Attempted};
-pub use driver::{Interaction, Next, attempt_by, one_key};
+pub use driver::{Interaction, Next, attempt_by};

@@ -24,7 +24,6 @@ fn line(page: &mut Template, ids: PageIds, read: &ReadOf) -> Result<(), Memory>
     let item = id_in(&read.key);
     match &read.row {
         Row::Label(label) => page.author_link(
-            b"/product_detail",
             item,
             ids,
             label.title(),
@@ -70,13 +69,13 @@ pub(crate) fn finish(page: &mut Template, ids: PageIds, labels: &[ReadOf]) -> Re
 }
 
 /// A heading that ends in a subject's name; the word before it is plain.
-#[tactic(auto, using(shop_text::proofs::Plain::escape_append), unfolding(shop_model::specs::pages::PageText::block_text))]
+#[tactic(auto, using(shop_text::proofs::cited::Plain::escape_append), unfolding(shop_model::specs::pages::PageText::block_text))]
 fn subject_heading(page: &mut Template, word: &[u8], subject: Subject) -> Result<(), Memory>
     requires { escape word.now ≡ word.now }
     ensures { OnOk result (Says page.old page.new (block_line (block.Heading (word.now ++ subject_name subject)))) }
 {
     page.put(b"<h1>")?;
-    page.escaped(word, subject.name())?;
+    page.plain(word, subject.name())?;
     page.put(b"</h1>\n")?;
     Ok(())
 }

@@ -13,7 +13,7 @@ ghost use Rattle.shop_browse.specs.Attempts.{AttemptedAs, Suits, asking_of};
 ghost use Rattle.shop_browse.specs.Driver.{IsNext};
 ghost use Rattle.shop_browse.specs.ProductDetail.{FollowsProduct, named};
 
-use crate::driver::{Interaction, Next, attempt_by, one_key};
+use crate::driver::{Interaction, Next, attempt_by};
 use crate::{Ask, Attempted};
 use shop_attempt::{ReadOf, Store};
 use shop_draft::{Draft, PageIds, Template, refusal};
@@ -29,7 +29,7 @@ fn heading(page: &mut Template, item: &Item) -> Result<(), Memory>
     Ok(())
 }
 
-#[tactic(auto, using(shop_text::proofs::Plain::escape_append), unfolding(shop_model::specs::pages::PageText::block_text, shop_model::specs::pages::ProductDetail::author_line))]
+#[tactic(auto, using(shop_text::proofs::cited::Plain::escape_append), unfolding(shop_model::specs::pages::PageText::block_text, shop_model::specs::pages::ProductDetail::author_line))]
 fn author_line(page: &mut Template, author: &Label) -> Result<(), Memory>
     ensures { OnOk result (Says page.old page.new (block_line (block.Para (spec.author_line (named author.now))))) }
 {
@@ -44,7 +44,7 @@ fn subject_line(page: &mut Template, item: &Item) -> Result<(), Memory>
     ensures { OnOk result (Says page.old page.new (block_line (block.Para (spec.subject_line item.now)))) }
 {
     let details = item.details.get();
-    page.escaped(b"<p>Subject ", details.subject.name())?;
+    page.plain(b"<p>Subject ", details.subject.name())?;
     page.day(b", published ", item.published)?;
     page.text(b" by ", &details.publisher)?;
     page.put(b"</p>\n")?;
@@ -66,12 +66,12 @@ fn picture(page: &mut Template, item: &Item) -> Result<(), Memory>
     Ok(())
 }
 
-#[tactic(auto, using(shop_text::proofs::Plain::escape_append), unfolding(shop_model::specs::pages::PageText::block_text, shop_model::specs::pages::ProductDetail::pages_line))]
+#[tactic(auto, using(shop_text::proofs::cited::Plain::escape_append), unfolding(shop_model::specs::pages::PageText::block_text, shop_model::specs::pages::ProductDetail::pages_line))]
 fn pages_line(page: &mut Template, item: &Item) -> Result<(), Memory>
     ensures { OnOk result (Says page.old page.new (block_line (block.Para (spec.pages_line item.now)))) }
 {
     let details = item.details.get();
-    page.escaped(b"<p>", details.backing.name())?;
+    page.plain(b"<p>", details.backing.name())?;
     page.number(b", ", u64::from(details.pages))?;
     page.put(b" pages</p>\n")?;
     Ok(())
@@ -120,12 +120,7 @@ fn write_page(draft: &mut Draft, item: &Item, author: &Label, ids: PageIds) -> R
 }
 
 /// What is done next by what was read of the item.
-fn by_item(
-    alloc: Global,
-    asked: &ProductDetail,
-    item: &ReadOf,
-    draft: &mut Draft,
-) -> Result<Next, Memory>
+fn by_item(asked: &ProductDetail, item: &ReadOf, draft: &mut Draft) -> Result<Next, Memory>
     requires { item.now.key ≡ key_kinds.Item asked.now.item }
     ensures { IfOk result (λ next. (ask : Ask) → IsNext (FollowsProduct asked.now) (Request.ProductDetail asked.now) ask 1 (item.now ∷ []) draft.new next) }
 {
@@ -134,7 +129,7 @@ fn by_item(
             refusal(draft, Refusal::NoItem)?;
             Ok(Next::Show)
         }
-        Row::Item(_) => Ok(Next::Read(one_key(alloc, Key::Label(asked.item))?)),
+        Row::Item(_) => Ok(Next::ReadOne(Key::Label(asked.item))),
         _ => Ok(Next::Never),
     }
 }
@@ -166,29 +161,30 @@ fn by_label(
     }
 }
 
-impl Interaction for ProductDetail {
+impl<'a> Interaction for &'a ProductDetail {
     ghost use Rattle.shop_model.specs.declared.requests.Request.TheVariants as request_kinds;
 
-    ghost request = { λ asked. request_kinds.ProductDetail asked };
+    ghost request = { λ asked. request_kinds.ProductDetail asked.now };
 
-    ghost follows = { λ asked ask. FollowsProduct asked };
+    ghost follows = { λ asked ask. FollowsProduct asked.now };
 
     fn next(
-        &self,
+        &mut self,
         alloc: Global,
         ask: &Ask,
         round: u32,
         reads: &[ReadOf],
         draft: &mut Draft,
     ) -> Result<Next, Memory> {
+        let _ = alloc;
         let _ = ask;
         if round == 0 {
-            return Ok(Next::Read(one_key(alloc, Key::Item(self.item))?));
+            return Ok(Next::ReadOne(Key::Item(self.item)));
         }
         if round == 1 {
-            return by_item(alloc, self, &reads[0], draft);
+            return by_item(*self, &reads[0], draft);
         }
-        by_label(self, &reads[0], &reads[1], draft)
+        by_label(*self, &reads[0], &reads[1], draft)
     }
 }
 

@@ -44,15 +44,15 @@ fn write_page(draft: &mut Draft, ids: PageIds, labels: &[ReadOf]) -> Result<(), 
     Ok(())
 }
 
-impl Interaction for SearchRequest {
+impl<'a> Interaction for &'a SearchRequest {
     ghost use Rattle.shop_model.specs.declared.requests.Request.TheVariants as request_kinds;
 
-    ghost request = { λ asked. request_kinds.SearchRequest asked };
+    ghost request = { λ asked. request_kinds.SearchRequest asked.now };
 
     ghost follows = { λ asked ask. FollowsLabels (drawn_key ask) };
 
     fn next(
-        &self,
+        &mut self,
         alloc: Global,
         ask: &Ask,
         round: u32,
@@ -60,7 +60,7 @@ impl Interaction for SearchRequest {
         draft: &mut Draft,
     ) -> Result<Next, Memory> {
         match labels_asked(alloc, ask, drawn_key(ask), round, reads)? {
-            Some(keys) => Ok(Next::Read(keys)),
+            Some(next) => Ok(next),
             None => {
                 write_page(draft, PageIds::of(self.ids), &reads[1..])?;
                 Ok(Next::Show)

@@ -19,11 +19,11 @@ use shop_text::Memory;
 use std::alloc::Global;
 
 /// Adds the heading, and what was searched for.
-#[tactic(auto, using(shop_text::proofs::Plain::escape_append), unfolding(shop_model::specs::pages::PageText::block_text))]
+#[tactic(auto, using(shop_text::proofs::cited::Plain::escape_append), unfolding(shop_model::specs::pages::PageText::block_text))]
 fn heading(page: &mut Template, asked: &SearchResults) -> Result<(), Memory>
     ensures { OnOk result (Says page.old page.new (flat_map block_line (head_of asked.now))) }
 {
-    page.escaped(b"<h1>Search Results</h1>\n<p>", asked.kind.name())?;
+    page.plain(b"<h1>Search Results</h1>\n<p>", asked.kind.name())?;
     page.escaped(b": ", asked.text.bytes())?;
     page.put(b"</p>\n")?;
     Ok(())
@@ -41,26 +41,27 @@ fn write_page(draft: &mut Draft, asked: &SearchResults, labels: &[ReadOf]) -> Re
     Ok(())
 }
 
-impl Interaction for SearchResults {
+impl<'a> Interaction for &'a SearchResults {
     ghost use Rattle.shop_model.specs.declared.requests.Request.TheVariants as request_kinds;
 
-    ghost request = { λ asked. request_kinds.SearchResults asked };
+    ghost request = { λ asked. request_kinds.SearchResults asked.now };
 
-    ghost follows = { FollowsSearch };
+    ghost follows = { λ asked. FollowsSearch asked.now };
 
     fn next(
-        &self,
+        &mut self,
         alloc: Global,
         ask: &Ask,
         round: u32,
         reads: &[ReadOf],
         draft: &mut Draft,
     ) -> Result<Next, Memory> {
+        let asked: &SearchResults = self;
         if round == 0 {
-            let found = ask.index.search(self.kind, self.text.bytes())?;
+            let found = ask.index.search(asked.kind, asked.text.bytes())?;
             return Ok(Next::Read(label_keys(alloc, found.as_slice())?));
         }
-        write_page(draft, self, reads)?;
+        write_page(draft, asked, reads)?;
         Ok(Next::Show)
     }
 }

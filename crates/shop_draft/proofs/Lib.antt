@@ -1,4 +1,4 @@
-pub mod PageTexts
+pub mod cited
 mod Heads
 mod Splices
 mod UserTexts

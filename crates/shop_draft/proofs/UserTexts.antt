@@ -2,7 +2,7 @@
 use Rattle.std.proofs.Common.{◌≡◌, ℕ, ◌-◌, ◌*◌, List, [], ◌∷◌, length, decimal, arith, refl, length-append}
 use Rattle.shop_text.specs.Escape.{escape}
 use Rattle.shop_text.specs.Syllables.{syllable, spelled, digsyl}
-use Rattle.shop_text.proofs.Plain.{syllable_cases, plain_spelled}
+use Rattle.shop_text.proofs.cited.Plain.{syllable_cases, plain_spelled}
 
 length-spelled : (digits : List ℕ) → length (spelled digits) ≡ 2 * length digits
 length-spelled [] = refl

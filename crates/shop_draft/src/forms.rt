@@ -52,7 +52,7 @@ impl Template {
     }
 
     /// Adds the field of a line's quantity.
-    #[tactic(auto, using(shop_text::proofs::Plain::escape_append), unfolding(shop_model::specs::pages::PageText::field_text))]
+    #[tactic(auto, using(shop_text::proofs::cited::Plain::escape_append), unfolding(shop_model::specs::pages::PageText::field_text))]
     #[inline(always)]
     fn line_field(&mut self, line: (u32, u32)) -> Result<(), Memory>
         ensures { OnOk result (Says self.old self.new (field_text (line_field line))) }

@@ -7,14 +7,11 @@ ghost use Rattle.shop_draft.specs.Drawing.{hole_room};
 use crate::Out;
 use itoa::Buffer;
 use shop_history::Drawn;
-use shop_model::DAY_LIMIT;
+use shop_model::{DAY_LENGTH, DAY_LIMIT};
 use shop_text::{day_bytes, syllable};
 
 /// The most bytes that fill a hole: the user name of the largest id.
 pub(crate) const HOLE_ROOM: usize = 20;
-
-/// The milliseconds of a day.
-const DAY_LENGTH: u64 = 86_400_000;
 
 /// What a settle draws, as a page shows it.
 #[derive(Clone, Copy, Debug, PartialEq, Eq)]
@@ -40,7 +37,7 @@ fn day_after(stamp: u64, later: u32) -> u32
 }
 
 /// The length of an id's digits.
-#[tactic(auto, using(shop_text::proofs::Plain::plain_decimal))]
+#[tactic(auto, using(shop_text::proofs::cited::Plain::plain_decimal))]
 fn id_len(id: u32) -> usize
     ensures value { result ≡ length (escape (decimal id)) }
     ensures user { 2 * result ≡ length (escape (digsyl id)) }
@@ -76,7 +73,7 @@ pub(crate) fn hole_len(drawn: &Drawn, hole: Hole) -> usize
 }
 
 /// Adds an id's digits; takes no memory.
-#[tactic(auto, using(shop_text::proofs::Plain::plain_decimal))]
+#[tactic(auto, using(shop_text::proofs::cited::Plain::plain_decimal))]
 fn put_id(out: &mut Out, id: u32)
     requires { hole_room ≤ out.old.room }
     ensures bytes { out.new.bytes ≡ out.old.bytes ++ escape (decimal id) }

@@ -27,7 +27,8 @@ impl Template {
     }
 
     /// Adds the ids as the first parameters of a target.
-    #[tactic(auto, using(shop_text::proofs::Plain::escape_append), unfolding(shop_model::specs::pages::Targets::pairs, shop_model::specs::pages::Targets::id_fields))]
+    #[tactic(auto, using(shop_text::proofs::cited::Plain::escape_append), unfolding(shop_model::specs::pages::Targets::pairs, shop_model::specs::pages::Targets::id_fields))]
+    #[inline(always)]
     fn first_ids(&mut self, ids: PageIds) -> Result<(), Memory>
         ensures { OnOk result (Adds self.old self.new (λ drawn. escape (spec.pairs (codes "?") (spec.id_fields (ids_at drawn ids))))) }
     {
@@ -42,7 +43,8 @@ impl Template {
     }
 
     /// Adds the ids behind other parameters of a target.
-    #[tactic(auto, using(shop_text::proofs::Plain::escape_append), unfolding(shop_model::specs::pages::Targets::pairs, shop_model::specs::pages::Targets::id_fields))]
+    #[tactic(auto, using(shop_text::proofs::cited::Plain::escape_append), unfolding(shop_model::specs::pages::Targets::pairs, shop_model::specs::pages::Targets::id_fields))]
+    #[inline(always)]
     fn more_ids(&mut self, ids: PageIds) -> Result<(), Memory>
         ensures { OnOk result (Adds self.old self.new (λ drawn. escape (spec.pairs (codes "&") (spec.id_fields (ids_at drawn ids))))) }
     {
@@ -52,7 +54,7 @@ impl Template {
     }
 
     /// A link with no parameters but the ids; path and label are plain.
-    #[tactic(auto, using(shop_text::proofs::Plain::escape_append), unfolding(shop_model::specs::pages::PageText::block_text))]
+    #[tactic(auto, using(shop_text::proofs::cited::Plain::escape_append), unfolding(shop_model::specs::pages::PageText::block_text))]
     #[inline(always)]
     pub fn plain_link(&mut self, path: &[u8], ids: PageIds, label: &[u8]) -> Result<(), Memory>
         requires path { escape path.now ≡ path.now }
@@ -69,7 +71,7 @@ impl Template {
     }
 
     /// A link about an item up to its label; the path is plain.
-    #[tactic(auto, using(shop_text::proofs::Plain::escape_append), unfolding(shop_model::specs::pages::Targets::pairs, crate::specs::Links::link_front))]
+    #[tactic(auto, using(shop_text::proofs::cited::Plain::escape_append), unfolding(shop_model::specs::pages::Targets::pairs, crate::specs::Links::link_front))]
     #[inline(always)]
     pub fn item_front(&mut self, path: &[u8], item: u32, ids: PageIds) -> Result<(), Memory>
         requires path { escape path.now ≡ path.now }
@@ -103,40 +105,43 @@ impl Template {
         Ok(())
     }
 
-    /// A link about an item, labelled with its title; the path is plain.
-    #[tactic(auto, unfolding(shop_model::specs::pages::PageText::block_text, crate::specs::Links::link_front))]
-    pub fn title_link(
-        &mut self,
-        path: &[u8],
-        item: u32,
-        ids: PageIds,
-        title: &Caption,
-    ) -> Result<(), Memory>
-        requires path { escape path.now ≡ path.now }
-        ensures { OnOk result (Adds self.old self.new (λ drawn. block_line (spec.item_link path.now item (ids_at drawn ids) title.now))) }
+    /// A link to the page of an item up to its label.
+    #[tactic(auto, using(shop_text::proofs::cited::Plain::escape_append), unfolding(shop_model::specs::pages::Targets::pairs, crate::specs::Links::link_front))]
+    #[inline(always)]
+    fn detail_front(&mut self, item: u32, ids: PageIds) -> Result<(), Memory>
+        ensures { OnOk result (Adds self.old self.new (λ drawn. link_front (spec.item_target (codes "/product_detail") item (ids_at drawn ids)))) }
     {
-        self.item_front(path, item, ids)?;
+        self.number(b"<a href=\"/product_detail?item=", u64::from(item))?;
+        self.more_ids(ids)?;
+        self.put(b"\">")?;
+        Ok(())
+    }
+
+    /// A link to the page of an item, labelled with its title.
+    #[tactic(auto, unfolding(shop_model::specs::pages::PageText::block_text, crate::specs::Links::link_front))]
+    pub fn title_link(&mut self, item: u32, ids: PageIds, title: &Caption) -> Result<(), Memory>
+        ensures { OnOk result (Adds self.old self.new (λ drawn. block_line (spec.item_link (codes "/product_detail") item (ids_at drawn ids) title.now))) }
+    {
+        self.detail_front(item, ids)?;
         self.text(b"", title)?;
         self.put(b"</a>\n")?;
         Ok(())
     }
 
-    /// A link about an item, labelled with its title and the names of its author; the path is plain.
-    #[tactic(auto, using(shop_text::proofs::Plain::escape_append), unfolding(shop_model::specs::pages::PageText::block_text, shop_model::specs::pages::Lists::line_label, crate::specs::Links::link_front))]
+    /// A link to the page of an item, labelled with its title and the names of its author.
+    #[tactic(auto, using(shop_text::proofs::cited::Plain::escape_append), unfolding(shop_model::specs::pages::PageText::block_text, shop_model::specs::pages::Lists::line_label, crate::specs::Links::link_front))]
     pub fn author_link(
         &mut self,
-        path: &[u8],
         item: u32,
         ids: PageIds,
         title: &Caption,
         first: &Caption,
         last: &Caption,
     ) -> Result<(), Memory>
-        requires path { escape path.now ≡ path.now }
         ensures { OnOk result (Adds self.old self.new (λ drawn. block_line
-            (spec.item_link path.now item (ids_at drawn ids) (line_label title.now first.now last.now)))) }
+            (spec.item_link (codes "/product_detail") item (ids_at drawn ids) (line_label title.now first.now last.now)))) }
     {
-        self.item_front(path, item, ids)?;
+        self.detail_front(item, ids)?;
         self.text(b"", title)?;
         self.text(b" by ", first)?;
         self.text(b" ", last)?;
@@ -145,7 +150,7 @@ impl Template {
     }
 
     /// A link about a subject up to its label; the path is plain.
-    #[tactic(auto, using(shop_text::proofs::Plain::escape_append), unfolding(shop_model::specs::pages::Targets::pairs, crate::specs::Links::link_front))]
+    #[tactic(auto, using(shop_text::proofs::cited::Plain::escape_append), unfolding(shop_model::specs::pages::Targets::pairs, crate::specs::Links::link_front))]
     #[inline(always)]
     fn subject_front(&mut self, path: &[u8], subject: Subject, ids: PageIds) -> Result<(), Memory>
         requires path { escape path.now ≡ path.now }
@@ -153,14 +158,14 @@ impl Template {
     {
         self.put(b"<a href=\"")?;
         self.put(path)?;
-        self.escaped(b"?subject=", subject.name())?;
+        self.plain(b"?subject=", subject.name())?;
         self.more_ids(ids)?;
         self.put(b"\">")?;
         Ok(())
     }
 
     /// A link about a subject, whose name ends the label; path and label are plain.
-    #[tactic(auto, using(shop_text::proofs::Plain::escape_append), unfolding(shop_model::specs::pages::PageText::block_text, crate::specs::Links::link_front))]
+    #[tactic(auto, using(shop_text::proofs::cited::Plain::escape_append), unfolding(shop_model::specs::pages::PageText::block_text, crate::specs::Links::link_front))]
     pub fn subject_link(
         &mut self,
         path: &[u8],
@@ -173,7 +178,7 @@ impl Template {
         ensures { OnOk result (Adds self.old self.new (λ drawn. block_line (spec.subject_link path.now subject (ids_at drawn ids) label.now))) }
     {
         self.subject_front(path, subject, ids)?;
-        self.escaped(label, subject.name())?;
+        self.plain(label, subject.name())?;
         self.put(b"</a>\n")?;
         Ok(())
     }
@@ -183,9 +188,13 @@ impl Template {
     pub fn nav(&mut self, ids: PageIds) -> Result<(), Memory>
         ensures { OnOk result (Adds self.old self.new (λ drawn. flat_map block_line (spec.nav (ids_at drawn ids)))) }
     {
-        self.plain_link(b"/home", ids, b"Home")?;
-        self.plain_link(b"/search_request", ids, b"Search")?;
-        self.plain_link(b"/shopping_cart", ids, b"Cart")?;
+        self.put(b"<a href=\"/home")?;
+        self.first_ids(ids)?;
+        self.put(b"\">Home</a>\n<a href=\"/search_request")?;
+        self.first_ids(ids)?;
+        self.put(b"\">Search</a>\n<a href=\"/shopping_cart")?;
+        self.first_ids(ids)?;
+        self.put(b"\">Cart</a>\n")?;
         Ok(())
     }
 }

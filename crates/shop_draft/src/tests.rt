@@ -83,8 +83,8 @@ fn put_links(page: &mut Template, caption: &Caption, ids: PageIds) -> Result<(),
     page.clear();
     page.plain_link(b"/home", ids, b"Home")?;
     page.item_link(b"/item", 7, ids, b"Item")?;
-    page.title_link(b"/item", 8, ids, caption)?;
-    page.author_link(b"/item", 9, ids, caption, caption, caption)?;
+    page.title_link(8, ids, caption)?;
+    page.author_link(9, ids, caption, caption, caption)?;
     page.subject_link(b"/new", Subject::Arts, ids, b"New ")?;
     page.search_form(ids)?;
     Ok(())
@@ -92,15 +92,15 @@ fn put_links(page: &mut Template, caption: &Caption, ids: PageIds) -> Result<(),
 
 const LINKS: &str = "<a href=\"/home\">Home</a>\n\
     <a href=\"/item?item=7\">Item</a>\n\
-    <a href=\"/item?item=8\">a&lt;b</a>\n\
-    <a href=\"/item?item=9\">a&lt;b by a&lt;b a&lt;b</a>\n\
+    <a href=\"/product_detail?item=8\">a&lt;b</a>\n\
+    <a href=\"/product_detail?item=9\">a&lt;b by a&lt;b a&lt;b</a>\n\
     <a href=\"/new?subject=ARTS\">New ARTS</a>\n\
     <form action=\"/search_results\"><input name=\"kind\" value=\"title\"><input name=\"text\" value=\"\"></form>\n";
 
 const LINKS_WITH_IDS: &str = "<a href=\"/home?c=5&amp;cart=6\">Home</a>\n\
     <a href=\"/item?item=7&amp;c=5&amp;cart=6\">Item</a>\n\
-    <a href=\"/item?item=8&amp;c=5&amp;cart=6\">a&lt;b</a>\n\
-    <a href=\"/item?item=9&amp;c=5&amp;cart=6\">a&lt;b by a&lt;b a&lt;b</a>\n\
+    <a href=\"/product_detail?item=8&amp;c=5&amp;cart=6\">a&lt;b</a>\n\
+    <a href=\"/product_detail?item=9&amp;c=5&amp;cart=6\">a&lt;b by a&lt;b a&lt;b</a>\n\
     <a href=\"/new?subject=ARTS&amp;c=5&amp;cart=6\">New ARTS</a>\n\
     <form action=\"/search_results\"><input name=\"kind\" value=\"title\"><input name=\"text\" value=\"\">\
     <input name=\"c\" value=\"5\"><input name=\"cart\" value=\"6\"></form>\n";

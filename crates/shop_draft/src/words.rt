@@ -39,19 +39,23 @@ impl Template {
         Ok(())
     }
 
-    /// Adds the digits of a number.
-    #[tactic(auto, using(shop_text::proofs::Plain::plain_decimal))]
+    /// Adds the digits of a number; one alone needs no buffer.
+    #[tactic(auto, using(shop_text::proofs::cited::Plain::plain_decimal, std::proofs::lemmas::Fmt::decimal_digit))]
     #[inline(never)]
     fn put_number(&mut self, number: u64) -> Result<(), Memory>
         ensures { OnOk result (Says self.old self.new (escape (decimal number))) }
     {
-        let mut buffer = Buffer::new();
-        self.put(buffer.format(number).as_bytes())?;
+        if number < 10 {
+            self.put(&[b'0' + number as u8])?;
+        } else {
+            let mut buffer = Buffer::new();
+            self.put(buffer.format(number).as_bytes())?;
+        }
         Ok(())
     }
 
     /// Adds an amount in cents.
-    #[tactic(auto, using(shop_text::proofs::Plain::plain_cents))]
+    #[tactic(auto, using(shop_text::proofs::cited::Plain::plain_cents))]
     #[inline(never)]
     fn put_cents(&mut self, cents: u64) -> Result<(), Memory>
         ensures { OnOk result (Says self.old self.new (escape (cents_text cents))) }
@@ -80,6 +84,17 @@ impl Template {
     {
         self.put(front)?;
         self.put_escaped(bytes)?;
+        Ok(())
+    }
+
+    /// Markup as it stands, and behind it plain bytes.
+    #[inline(always)]
+    pub fn plain(&mut self, front: &[u8], bytes: &[u8]) -> Result<(), Memory>
+        requires { escape bytes.now ≡ bytes.now }
+        ensures { OnOk result (Says self.old self.new (front.now ++ escape bytes.now)) }
+    {
+        self.put(front)?;
+        self.put(bytes)?;
         Ok(())
     }
 

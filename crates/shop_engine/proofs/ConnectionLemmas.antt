@@ -9,11 +9,11 @@ use Rattle.std.proofs.lemmas.List.Elements.{All-nil, All-pop, All-push}
 use Rattle.std.proofs.lemmas.List.Folds.{concat-append}
 use Rattle.std.proofs.lemmas.List.Sums.{sum_by-cons}
 use Rattle.shop_edges.specs.Streams.{AppendsFront}
-use Rattle.shop_edges.proofs.Known.{Appends-nothing, Appends-more, Consumes-nothing, Consumes-more}
+use Rattle.shop_edges.proofs.cited.Known.{Appends-nothing, Appends-more, Consumes-nothing, Consumes-more}
 use Rattle.shop_message.specs.declared.messages.Message.{Message}
 use Rattle.shop_message.specs.Messages.{Between, Inside, Refusing}
 use Rattle.shop_message.specs.Nexts.{GivesMessage, Stops, Breaks}
-use Rattle.shop_message.proofs.BeginLemmas.{HaveCome-none, HaveCome-begin, HaveCome-message}
+use Rattle.shop_message.proofs.cited.Beginnings.{HaveCome-none, HaveCome-begin, HaveCome-message}
 use Rattle.shop_model.specs.declared.refusal.Refusal.{Refusal as Refused}
 use Rattle.shop_model.specs.declared.requests.Request.{Request}
 use Rattle.shop_attempt.specs.Seats.{Seat}
@@ -25,10 +25,10 @@ use Rattle.shop_engine.specs.declared.report.Ended.TheVariants as ended
 use Rattle.shop_engine.specs.declared.report.Point.{Point}
 use Rattle.shop_engine.specs.Connections.{Output, Turn, Adds, MessageAs, RefusalAs, Came, SoFar}
 use Rattle.shop_engine.specs.Served.{Streams, Served, Wrote, EndsAs, told_page}
-use Rattle.shop_engine.specs.Staying.{Stays}
+use Rattle.shop_engine.specs.Seats.{Stays}
 use Rattle.shop_engine.specs.Steps.{ANSWERS, Step, IsStep, IsStepFor, AreSteps, GivesUp, plain_point}
 use Rattle.shop_engine.specs.Workers.{Standing, WorkerState, standing}
-use Rattle.shop_engine.proofs.Staying.{stays_same, stays_later, stays_trans}
+use Rattle.shop_engine.proofs.Seats.{stays_same, stays_later, stays_trans}
 
 abbrev messages_of : List Step → List Message
 messages_of steps = map (λ s. s.message) steps

@@ -16,7 +16,7 @@ use Rattle.shop_history.specs.declared.keys.Key.TheVariants as keys
 use Rattle.shop_history.specs.Logs.{tables}
 use Rattle.shop_attempt.specs.Seats.{Seat, Follows}
 use Rattle.shop_browse.specs.Footprints.{IsAmong, WasOnCart, LeavesNoLine, IsCartItem, drawn_item, IsAbout, InFootprint, IsLabel}
-use Rattle.shop_browse.proofs.Items.{same_size}
+use Rattle.shop_browse.proofs.cited.Sizes.{same_size}
 
 drawn_later : (t : Tables) (log longer : List Entry) (draw : ℕ) → drawn_item (tables t log) draw ≡ drawn_item (tables t longer) draw
 drawn_later t log longer draw = ap (λ n. 1 + draw % n) (same_size t log ∙ sym (same_size t longer))

@@ -15,7 +15,7 @@ use Rattle.shop_browse.specs.Footprints.{InFootprint}
 use Rattle.shop_engine.specs.declared.report.Point.{Point}
 use Rattle.shop_engine.specs.declared.report.PointKind.{PointKind}
 use Rattle.shop_engine.specs.declared.report.PointKind.TheVariants.{Plain, At, Change, Busy, Full}
-use Rattle.shop_engine.specs.Staying.{Stays}
+use Rattle.shop_engine.specs.Seats.{Stays}
 
 -- a change: its entry is the caller's, with the request's act, and the last of the log seen, behind all that was seen
 -- before and what came between; its stamp is no less than its moment, and where the caller is the only one, the

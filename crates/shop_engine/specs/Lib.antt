@@ -1,6 +1,6 @@
 pub mod Workers
 pub mod WorkerView
-pub mod Staying
+pub mod Seats
 pub mod Decided
 pub mod Tries
 pub mod Steps

@@ -11,7 +11,7 @@ use Rattle.shop_engine.specs.declared.report.Ended.{Ended}
 use Rattle.shop_engine.specs.declared.report.Ended.TheVariants as ended
 use Rattle.shop_engine.specs.declared.report.Point.{Point}
 use Rattle.shop_engine.specs.Steps.{Step, AreSteps, GivesUp, ANSWERS, plain_point}
-use Rattle.shop_engine.specs.Staying.{Stays}
+use Rattle.shop_engine.specs.Seats.{Stays}
 use Rattle.shop_engine.specs.Workers.{Standing}
 
 -- what the source has left and the sink holds, each where it is known

@@ -19,7 +19,7 @@ use Rattle.shop_engine.specs.declared.report.Answered.TheVariants as answered
 use Rattle.shop_engine.specs.declared.report.Point.{Point}
 use Rattle.shop_engine.specs.declared.report.PointKind.TheVariants.{Plain}
 use Rattle.shop_engine.specs.Decided.{IsDecided}
-use Rattle.shop_engine.specs.Staying.{Stays}
+use Rattle.shop_engine.specs.Seats.{Stays}
 use Rattle.shop_engine.specs.Workers.{Caller, Standing}
 
 -- a message, its point, the entries that it made, and the reply

@@ -13,7 +13,7 @@ use Rattle.shop_engine.specs.declared.tries.Outcome.{Outcome}
 use Rattle.shop_engine.specs.declared.tries.Tried.{Tried}
 use Rattle.shop_engine.specs.declared.tries.Tried.TheVariants.{Settled, Again, Memory}
 use Rattle.shop_engine.specs.Decided.{IsMet, IsDecided}
-use Rattle.shop_engine.specs.Staying.{Stays}
+use Rattle.shop_engine.specs.Seats.{Stays}
 
 -- the point of what came of it, by its number among the caller's requests
 abbrev pub point_of : Asking → Outcome → ℕ → Point

@@ -1,9 +1,3 @@
-pub mod Rows
-pub mod Places
-pub mod Kept
-pub mod Drawing
-pub mod MayChange
-pub mod Raising
+pub mod cited
 pub mod Lines
 pub mod SoundCarts
-pub mod Goods

@@ -9,7 +9,7 @@ use Rattle.shop_model.specs.asked.CartAsked.{CartAsked}
 use Rattle.shop_model.specs.trade.Carts.{set_line, set_lines, wanted, or_drawn, cart_lines, is_too_many, check_line, first_of, check_lines}
 use Rattle.shop_model.specs.rows.Limits.{lines_limit, quantity_limit}
 use Rattle.shop_model.specs.rows.Sound.{Has, IsQuantity}
-use Rattle.shop_model.proofs.SetLines.{set_line_all, set_line_few}
+use Rattle.shop_model.proofs.cited.SetLines.{set_line_all, set_line_few}
 
 -- lines of distinct items
 abbrev pub Apart : ℕ × ℕ → ℕ × ℕ → Type 0

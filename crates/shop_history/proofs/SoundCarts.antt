@@ -10,7 +10,7 @@ use Rattle.shop_model.specs.rows.Lookups.{row_numbered}
 use Rattle.shop_model.specs.rows.Rows.{CartRow}
 use Rattle.shop_model.specs.rows.Sound.{Sound, IsFit, IsStocked, Runs, OrderNames}
 use Rattle.shop_history.proofs.Lines.{AreFit}
-use Rattle.shop_history.proofs.Places.{IsThere, is_there, id_numbered}
+use Rattle.shop_history.proofs.cited.Places.{IsThere, is_there, id_numbered}
 
 -- carts in a shop of so many items: their ids run, and their lines are fit
 pub record AreSound (items : ℕ) (carts : List CartRow) : Type 0 where

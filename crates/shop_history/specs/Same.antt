@@ -2,7 +2,7 @@
 use Rattle.std.specs.Prelude.{◌≡◌}
 use Rattle.shop_history.specs.declared.keys.Row.{Row}
 use Rattle.shop_history.specs.contracts.keys.Row.{the_field}
-use Rattle.shop_log.proofs.Codes.{decided_by}
+use Rattle.shop_log.proofs.cited.Codes.{decided_by}
 
 -- two rows are equal or not
 unfoldable pub same : (one other : Row) → Dec (one ≡ other)

@@ -56,13 +56,3 @@ pub behind-next : (firsts : Firsts) (left left' : List Pair) (name value text : 
 behind-next firsts left left' name value text is same =
     behind-append firsts ((text, decoded_text value) ∷ []) (map decoded left')
     ∙ ap (λ t. behind firsts ((t, decoded_text value) ∷ map decoded left')) same ∙ ap (λ pairs. behind firsts (map decoded pairs)) (sym is)
-
--- a parameter that is read once
-pub first-value : (pairs : List Pair) (parameter : Parameter) → (parameter ≡ Qty → ⊥) → first (firsts_of pairs) parameter ≡ value_of pairs parameter
-first-value pairs C once = refl
-first-value pairs Cart once = refl
-first-value pairs Item once = refl
-first-value pairs Qty once = absurd (once refl)
-first-value pairs Subject once = refl
-first-value pairs Kind once = refl
-first-value pairs Text once = refl

@@ -8,7 +8,7 @@ use Rattle.std.proofs.lemmas.Bool.Decides.{leb_tells}
 use Rattle.std.proofs.lemmas.List.Elements.{All-nil, All-cons}
 use Rattle.shop_model.specs.declared.parameter.Parameter.TheVariants.{Qty}
 use Rattle.shop_model.specs.rows.Limits.{quantity_limit, sets_limit}
-use Rattle.shop_http.specs.Numbers.{number_of}
+use Rattle.shop_text.specs.Numbers.{number_of}
 use Rattle.shop_http.specs.Forms.{Pair}
 use Rattle.shop_http.specs.Sets.{quantity_of, set_of, set_asked, all_of, few, sets_asked}
 

@@ -1,4 +1,3 @@
-pub mod Numbers
 pub mod Sets
 pub mod Forms
 pub mod Firsts

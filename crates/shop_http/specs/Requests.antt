@@ -20,7 +20,7 @@ use Rattle.shop_model.specs.declared.refusal.Refusal.TheVariants as page
 use Rattle.shop_http.specs.declared.requests.Refusal.{Refusal}
 use Rattle.shop_http.specs.declared.requests.Refusal.TheVariants as refusal
 use Rattle.shop_http.specs.Forms.{Pair, pairs, required, optional, text_of}
-use Rattle.shop_http.specs.Numbers.{number_of}
+use Rattle.shop_text.specs.Numbers.{number_of}
 use Rattle.shop_http.specs.Sets.{sets_asked}
 
 -- first this, then what follows from it; the first fault is the answer

@@ -5,7 +5,7 @@ use Rattle.std.specs.List.{filter_map}
 use Rattle.std.specs.Option.{option_map, option_and_then}
 use Rattle.std.specs.Str.{bytes_eq}
 use Rattle.shop_model.specs.rows.Limits.{quantity_limit, sets_limit}
-use Rattle.shop_http.specs.Numbers.{number_of}
+use Rattle.shop_text.specs.Numbers.{number_of}
 
 -- a quantity that is not over the limit
 abbrev pub quantity_of : List ℕ → Option ℕ

@@ -1,7 +1,6 @@
 //! What the messages of a connection ask for.
 #![tactic(auto)]
 
-mod numbers;
 mod requests;
 mod router;
 

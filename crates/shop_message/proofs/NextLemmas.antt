@@ -2,7 +2,7 @@
 use Rattle.std.proofs.Common.{◌≡◌, ℕ, ◌<◌, ⊎_elim, inl, inr, List, [], ◌++◌, length, append_assoc, append-nil, sym, ap, ◌∙◌, subst, arith}
 use Rattle.std.specs.declared.option.Option.{Option}
 use Rattle.std.specs.Io.KnownBytes.{IsAtEnd}
-use Rattle.shop_edges.proofs.Known.{Consumes-more}
+use Rattle.shop_edges.proofs.cited.Known.{Consumes-more}
 use Rattle.shop_model.specs.declared.refusal.Refusal.{Refusal}
 use Rattle.shop_message.specs.Looks.{IsUnready, LeavesPart}
 use Rattle.shop_message.specs.Messages.{IsRefused, Between, Inside, Refusing, StandsFor, after_line_ends}

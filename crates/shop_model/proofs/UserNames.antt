@@ -6,7 +6,7 @@ use Rattle.shop_model.specs.rows.Rows.{CustomerRow}
 use Rattle.shop_model.specs.declared.tables.Tables.{Tables}
 use Rattle.shop_model.specs.rows.Sound.{Sound}
 use Rattle.shop_model.proofs.Digsyls.{digsyl_injective}
-use Rattle.shop_model.proofs.Lists.{id_of_place}
+use Rattle.shop_model.proofs.cited.Lists.{id_of_place}
 
 pub names_differ : (t : Tables) → Sound t → AllPairs (λ a b. a.user ≢ b.user) t.customers
 names_differ t sound = λ i j d lt within same.

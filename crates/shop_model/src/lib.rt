@@ -39,8 +39,8 @@ pub use customer::{Customer, CustomerDetails};
 pub use drawing::{Words, drawn, word};
 pub use item::{Item, ItemDetails};
 pub use limits::{
-    DAY_LIMIT, DISCOUNT_LIMIT, LINES_LIMIT, PRICE_LIMIT, QUANTITY_LIMIT, SESSION_TIME, SETS_LIMIT,
-    STAMP_LIMIT, STOCK_LIMIT, TEXT_LIMIT,
+    DAY_LENGTH, DAY_LIMIT, DISCOUNT_LIMIT, LINES_LIMIT, PRICE_LIMIT, QUANTITY_LIMIT, SESSION_TIME,
+    SETS_LIMIT, STAMP_LIMIT, STOCK_LIMIT, TEXT_LIMIT,
 };
 pub use line::Line;
 pub use lookups::row_numbered;

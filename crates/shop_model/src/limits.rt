@@ -21,6 +21,9 @@ pub const TEXT_LIMIT: usize = 100;
 /// The most units of an item in stock.
 pub const STOCK_LIMIT: u32 = 1_000_000;
 
+/// The milliseconds of a day.
+pub const DAY_LENGTH: u64 = 86_400_000;
+
 /// The last day, counted from 1970-01-01: 9999-12-31.
 pub const DAY_LIMIT: u32 = 2_932_896;
 

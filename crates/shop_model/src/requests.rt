@@ -1,4 +1,5 @@
 ghost use Rattle.std.specs.Prelude.{◌≡◌};
+ghost use Rattle.shop_text.specs.Escape.{escape};
 ghost use Rattle.shop_model.specs.asked.Interactions.{path_of};
 ghost use Rattle.shop_model.specs.asked.Kinds.{kind_of, kind_name};
 
@@ -99,7 +100,8 @@ impl SearchKind {
 
     /// The name, in small letters.
     pub fn name(&self) -> &'static [u8]
-        ensures { result.now ≡ kind_name self.now }
+        ensures name { result.now ≡ kind_name self.now }
+        ensures plain { escape result.now ≡ result.now }
     {
         match self {
             SearchKind::Title => b"title",

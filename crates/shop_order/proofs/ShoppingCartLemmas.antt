@@ -1,5 +1,5 @@
 -- Shopping Cart: what it may read, and the change that it makes by what it has read.
-use Rattle.std.proofs.Common.{◌≡◌, ℕ, zero, suc, ◌+◌, ◌%◌, List, [], ◌∷◌, ◌++◌, length, take, drop, map, get_or, All, Option, Some, None, option_map, unwrap_or, refl, sym, ◌∙◌, ap, subst, inl, inr, arith}
+use Rattle.std.proofs.Common.{◌≡◌, ◌≢◌, ℕ, zero, suc, ◌+◌, ◌≤◌, ◌%◌, List, [], ◌∷◌, ◌++◌, length, take, drop, map, get_or, All, Option, Some, None, option_map, unwrap_or, refl, sym, ◌∙◌, ap, subst, inl, inr, arith}
 use Rattle.std.proofs.lemmas.Bool.{cond-false, ne_eqb}
 use Rattle.std.proofs.lemmas.List.{append-nil}
 use Rattle.std.proofs.lemmas.List.Elements.{All-nil, All-cons, All-map}
@@ -25,8 +25,8 @@ use Rattle.shop_history.specs.Acts.{play}
 use Rattle.shop_history.specs.Drawing.{new_id, new_ids}
 use Rattle.shop_history.specs.Keys.{row_of, shown}
 use Rattle.shop_history.specs.Logs.{history, tables}
-use Rattle.shop_history.proofs.Drawing.{id_pushed}
-use Rattle.shop_history.proofs.Places.{is_there, all_numbered}
+use Rattle.shop_history.proofs.cited.Drawing.{id_pushed}
+use Rattle.shop_history.proofs.cited.Places.{is_there, all_numbered}
 use Rattle.shop_draft.specs.declared.draft.Draft.{Draft}
 use Rattle.shop_draft.specs.Drawing.{or_zero}
 use Rattle.shop_draft.specs.Pages as pages
@@ -40,9 +40,9 @@ use Rattle.shop_browse.specs.declared.driver.Next.{Next}
 use Rattle.shop_browse.specs.Attempts.{Becomes}
 use Rattle.shop_browse.specs.Driver.{keys_of, Fits, AreSeen, IsWhole, WereRead, AsksFor, IsNext}
 use Rattle.shop_browse.specs.Footprints.{drawn_item, IsAmong, WasOnCart, LeavesNoLine, IsCartItem, InFootprint}
-use Rattle.shop_browse.proofs.LabelsLemmas.{size_of, size_after}
+use Rattle.shop_browse.proofs.cited.Sizes.{size_of, size_after}
 use Rattle.shop_order.specs.Page.{cart_at, page_at}
-use Rattle.shop_order.specs.ShoppingCart.{cart_keys, cart_reads, IsNamed, IsFitRow, IsFitRead, lines_in, begun_with, MakesOfCart, AreItems, FollowsItems, FollowsNamed, FollowsCart, put_lines, IsChangeTo}
+use Rattle.shop_order.specs.ShoppingCart.{cart_keys, cart_reads, IsNamed, IsFitRow, IsFitRead, lines_in, begun_with, MakesOfCart, AreItems, behind_cart, HasItems, FollowsCart, put_lines, IsChangeTo}
 use Rattle.shop_order.proofs.CartsLemmas.{made_on}
 
 -- the cart that was read
@@ -66,9 +66,9 @@ fit_shown t id None is sound = tt
 fit_shown t id (Some cart) is sound = all_numbered IsFit t.carts id cart is sound.carts
 
 -- sound tables show a fit cart
-pub fit_seen : (asked : CartAsked) (ask : Ask) (cart : Option ReadOf) (items : List ReadOf) → IsNamed asked.ids.cart cart → AreSeen ask.index.now (cart_reads cart ++ items) → IsFitRead cart
-fit_seen asked ask None items named seen = tt
-fit_seen asked ask (Some read) items named seen =
+pub fit_seen : (asked : CartAsked) (ask : Ask) (cart : Option ReadOf) → IsNamed asked.ids.cart cart → AreSeen ask.index.now (cart_reads cart) → IsFitRead cart
+fit_seen asked ask None named seen = tt
+fit_seen asked ask (Some read) named seen =
     let of : IsReadOfNamed asked.ids.cart read = read_of_named asked.ids.cart read named in
     let t : Tables = seen.0.0 in
     subst IsFitRow (ap (row_of t) (sym of.key_is) ∙ seen.0.1.shows.0) (fit_shown t of.id (row_numbered t.carts of.id) refl seen.0.1.sound)
@@ -120,87 +120,74 @@ lines_on opening log asked ask cart lines whole were is makes =
     (made_on Q items asked ask.draw old (λ item named. inl (inl named)) (λ item among. inl (inr among)) (λ item among. old_on opening log asked ask.draw cart item is were.are among)
     (λ empty. inr (inr (leaves_none opening log asked cart were.are makes.there empty, drawn))))
 
-true_front : (opening : Tables) (log : List Entry) (cart : Option ReadOf) (items : List ReadOf) → AreTrue opening log (cart_reads cart ++ items) → AreTrue opening log (cart_reads cart)
-true_front opening log None items are = tt
-true_front opening log (Some read) items are = (are.0, tt)
-
--- the cart is asked for
-pub asks_cart : (asked : CartAsked) (ask : Ask) (round : ℕ) (reads : List ReadOf) (keys : List Key) → round ≡ 0 → FollowsCart asked ask round reads → keys ≡ cart_keys asked.ids.cart
-    → AsksFor (FollowsCart asked ask) (CartRequest asked) ask round reads keys
-asks_cart asked ask zero reads keys is none are = record {
+-- the cart is asked for, if one is named
+pub asks_cart : (asked : CartAsked) (kept : Option (List (ℕ × ℕ))) (ask : Ask) (round : ℕ) (reads : List ReadOf) (keys : List Key) → round ≡ 0 → FollowsCart asked kept ask round reads
+    → keys ≡ cart_keys asked.ids.cart → AsksFor (FollowsCart asked kept ask) (CartRequest asked) ask round reads keys
+asks_cart asked kept ask zero reads keys is none are = record {
   few = omega arith;
-  goes_on = λ more of. subst (λ l. FollowsNamed asked ask 1 (l ++ more)) (sym none) (begins asked.ids.cart more refl (of ∙ are));
+  goes_on = λ more of. subst (λ l. keys_of (l ++ more) ≡ cart_keys asked.ids.cart) (sym none) (of ∙ are);
   may = λ opening log were. subst (All (InFootprint opening log (CartRequest asked) ask.draw)) (sym are) (about opening log asked.ids.cart refl);
 }
   where
-    begins : (named : Option ℕ) (more : List ReadOf) → asked.ids.cart ≡ named → keys_of more ≡ cart_keys named → FollowsNamed asked ask 1 more
-    begins None [] is of = record { cart = None; items = []; reads_are = refl; named = ap cart_keys (sym is); follows = refl }
-    begins None (read ∷ more) is of = absurd cc
-    begins (Some id) [] is of = absurd cc
-    begins (Some id) (read ∷ []) is of = record { cart = Some read; items = []; reads_are = refl; named = of ∙ ap cart_keys (sym is); follows = refl }
-    begins (Some id) (read ∷ other ∷ more) is of = absurd cc
-
     about : (opening : Tables) (log : List Entry) (named : Option ℕ) → asked.ids.cart ≡ named → All (InFootprint opening log (CartRequest asked) ask.draw) (cart_keys named)
     about opening log None is = All-nil (InFootprint opening log (CartRequest asked) ask.draw)
     about opening log (Some id) is =
         let P : Key → Type 0 = InFootprint opening log (CartRequest asked) ask.draw in
         All-cons P (key.Cart id) [] (inl (inl (id, is, refl))) (All-nil P)
-asks_cart asked ask (suc round) reads keys is none are = absurd (omega (arith, is))
+asks_cart asked kept ask (suc round) reads keys is none are = absurd (omega (arith, is))
 
--- the items are asked for
-pub asks_items : (asked : CartAsked) (ask : Ask) (cart : Option ReadOf) (round : ℕ) (items : List ReadOf) (lines : List (ℕ × ℕ)) (keys : List Key) → IsWhole ask → IsNamed asked.ids.cart cart → round ≡ 1
-    → FollowsItems asked ask cart round items → MakesOfCart ask.scale.now.items asked ask.draw cart lines → keys ≡ map (λ l. key.Item l.0) lines
-    → AsksFor (FollowsCart asked ask) (CartRequest asked) ask round (cart_reads cart ++ items) keys
-asks_items asked ask cart zero items lines keys whole named is follows makes are = absurd (omega (arith, is))
-asks_items asked ask cart (suc zero) items lines keys whole named is follows makes are = record {
+behind_is : (named : Option ℕ) (cart : Option ReadOf) (items : List ReadOf) → IsNamed named cart → behind_cart named (cart_reads cart ++ items) ≡ items
+behind_is None None items is = refl
+behind_is None (Some read) items is = absurd cc
+behind_is (Some id) None items is = absurd cc
+behind_is (Some id) (Some read) items is = refl
+
+-- the items of the lines that are kept are asked for
+pub asks_items : (asked : CartAsked) (kept : Option (List (ℕ × ℕ))) (ask : Ask) (cart : Option ReadOf) (lines : List (ℕ × ℕ)) (keys : List Key) → IsWhole ask → IsNamed asked.ids.cart cart → kept ≡ Some lines
+    → MakesOfCart ask.scale.now.items asked ask.draw cart lines → keys ≡ map (λ l. key.Item l.0) lines → AsksFor (FollowsCart asked kept ask) (CartRequest asked) ask 1 (cart_reads cart) keys
+asks_items asked kept ask cart lines keys whole named is makes are = record {
   few = omega arith;
-  goes_on = λ more of. record {
-    cart = cart;
-    items = more;
-    reads_are = ap (λ (l : List ReadOf). l ++ more) (ap (λ (l : List ReadOf). cart_reads cart ++ l) follows ∙ append-nil (cart_reads cart));
-    named = named;
-    follows = of ∙ are ∙ ap (map (λ (l : ℕ × ℕ). key.Item l.0)) makes.made.lines_are;
-  };
+  goes_on = λ more of.
+      let behind : more ≡ behind_cart asked.ids.cart (cart_reads cart ++ more) = sym (behind_is asked.ids.cart cart more named) in
+      record {
+        cart = cart;
+        lines = lines;
+        reads_are = ap (λ (l : List ReadOf). cart_reads cart ++ l) behind;
+        named = named;
+        kept_is = is;
+        makes = makes;
+        items_are = subst (AreItems lines) behind (of ∙ are);
+      };
   may = λ opening log were.
-      let before : WereRead ask.index.now opening log (cart_reads cart) = record { named = were.named; sound = were.sound; are = true_front opening log cart items were.are } in
-      let on = lines_on opening log asked ask cart lines whole before named makes in
+      let on = lines_on opening log asked ask cart lines whole were named makes in
       subst (All (InFootprint opening log (CartRequest asked) ask.draw)) (sym are)
       (All-map (InFootprint opening log (CartRequest asked) ask.draw) (λ (l : ℕ × ℕ). key.Item l.0) lines (λ k d within. inl (inr ((get_or lines k d).0, on k d within, refl))));
 }
-asks_items asked ask cart (suc (suc round)) items lines keys whole named is follows makes are = absurd (omega (arith, is))
 
--- the items of the lines were read, where they were asked for
-pub items_read : (asked : CartAsked) (ask : Ask) (cart : Option ReadOf) (round : ℕ) (items : List ReadOf) (lines : List (ℕ × ℕ)) → (round ≡ 1 → ⊥) → FollowsItems asked ask cart round items
-    → MakesOfCart ask.scale.now.items asked ask.draw cart lines → AreItems lines items
-items_read asked ask cart zero items lines more follows makes = absurd follows
-items_read asked ask cart (suc zero) items lines more follows makes = absurd (more refl)
-items_read asked ask cart (suc (suc round)) items lines more follows makes = follows ∙ ap (map (λ (l : ℕ × ℕ). key.Item l.0)) (sym makes.made.lines_are)
+-- reads by the rounds
 
--- reads split into the cart and the items
+pub first_read : (asked : CartAsked) (kept : Option (List (ℕ × ℕ))) (ask : Ask) (round : ℕ) (reads : List ReadOf) → round ≡ 1 → FollowsCart asked kept ask round reads → keys_of reads ≡ cart_keys asked.ids.cart
+first_read asked kept ask zero reads is follows = absurd (omega (arith, is))
+first_read asked kept ask (suc zero) reads is follows = follows
+first_read asked kept ask (suc (suc round)) reads is follows = absurd (omega (arith, is))
 
--- a cart is named: it is the first read, and the items come behind it
-pub record HasCart (asked : CartAsked) (ask : Ask) (round : ℕ) (reads : List ReadOf) (cart : ReadOf) : Type 0 where
-  pub are : reads ≡ cart ∷ drop 1 reads
-  pub named : IsNamed asked.ids.cart (Some cart)
-  pub follows : FollowsItems asked ask (Some cart) round (drop 1 reads)
+pub no_read : (reads : List ReadOf) → keys_of reads ≡ [] → reads ≡ []
+no_read [] none = refl
+no_read (read ∷ reads) none = absurd cc
 
-pub one_cart : (asked : CartAsked) (ask : Ask) (round id : ℕ) (reads : List ReadOf) (cart : ReadOf) → (round ≡ 0 → ⊥) → asked.ids.cart ≡ Some id → FollowsCart asked ask round reads → cart ≡ get_or reads 0 cart
-    → HasCart asked ask round reads cart
-one_cart asked ask zero id reads cart some is follows at = absurd (some refl)
-one_cart asked ask (suc round) id reads cart some is follows at = by reads at follows.cart follows.named follows.follows follows.reads_are
+pub has_items : (asked : CartAsked) (kept : Option (List (ℕ × ℕ))) (ask : Ask) (round : ℕ) (reads : List ReadOf) → (round ≡ 0 → ⊥) → (round ≡ 1 → ⊥) → FollowsCart asked kept ask round reads → HasItems asked kept ask reads
+has_items asked kept ask zero reads some more follows = absurd (some refl)
+has_items asked kept ask (suc zero) reads some more follows = absurd (more refl)
+has_items asked kept ask (suc (suc round)) reads some more follows = follows
+
+-- where a cart is named, one was read
+pub some_read : (named : Option ℕ) (cart : Option ReadOf) (reads items : List ReadOf) → IsNamed named cart → reads ≡ cart_reads cart ++ items → named ≢ None → 1 ≤ length reads
+some_read named None reads items is are some = let none : named ≡ None = no_keys named (sym is) in absurd (some none)
   where
-    by : (reads : List ReadOf) → cart ≡ get_or reads 0 cart → (read : Option ReadOf) → IsNamed asked.ids.cart read → FollowsItems asked ask read (suc round) follows.items → reads ≡ cart_reads read ++ follows.items
-        → HasCart asked ask (suc round) reads cart
-    by reads at None named of are = let none : [] ≡ cart_keys (Some id) = named ∙ ap cart_keys is in absurd cc
-    by [] at (Some read) named of are = absurd cc
-    by (first ∷ rest) at (Some read) named of are =
-        let same : read ≡ cart = cc in
-        let items : follows.items ≡ rest = cc in
-        record {
-          are = ap (λ (r : ReadOf). r ∷ rest) (sym at);
-          named = subst (λ (r : ReadOf). IsNamed asked.ids.cart (Some r)) same named;
-          follows = subst (λ (r : ReadOf). FollowsItems asked ask (Some r) (suc round) rest) same (subst (FollowsItems asked ask (Some read) (suc round)) items of);
-        }
+    no_keys : (named : Option ℕ) → cart_keys named ≡ [] → named ≡ None
+    no_keys None is = refl
+    no_keys (Some id) is = absurd cc
+some_read named (Some read) reads items is are some = let many = ap (length {A = ReadOf}) are in omega (arith, many)
 
 -- what tables show that fit what was read
 
@@ -208,16 +195,12 @@ shows_append : (t : Tables) (one other : List ReadOf) → Shows t (one ++ other)
 shows_append t [] other shows = (tt, shows)
 shows_append t (read ∷ one) other shows = let rest = shows_append t one other shows.1 in ((shows.0, rest.0), rest.1)
 
-pub refusal_shown : (asked : CartAsked) (ask : Ask) (cart : Option ReadOf) (items : List ReadOf) (refusal : Refusal) → IsWhole ask
+pub refusal_shown : (asked : CartAsked) (ask : Ask) (cart : Option ReadOf) (refusal : Refusal) → IsWhole ask
     → ((t : Tables) → length t.items ≡ ask.scale.now.items → Shows t (cart_reads cart) → check_cart t asked ≡ Some refusal)
-    → (t : Tables) → Fits ask.index.now t (cart_reads cart ++ items) → show t (CartRequest asked) ask.draw ≡ Some (page_of refusal)
-refusal_shown asked ask cart items refusal whole refuses t fits =
-    let same : check_cart t asked ≡ Some refusal
-    = refuses t (size_of ask.index.now t fits.named ∙ sym whole) (shows_append t (cart_reads cart) items fits.shows).0 in
+    → (t : Tables) → Fits ask.index.now t (cart_reads cart) → show t (CartRequest asked) ask.draw ≡ Some (page_of refusal)
+refusal_shown asked ask cart refusal whole refuses t fits =
+    let same : check_cart t asked ≡ Some refusal = refuses t (size_of ask.index.now t fits.named ∙ sym whole) fits.shows in
     ap (λ o. refused_or o None) same
-
-pub never_fits : (ask : Ask) (cart : Option ReadOf) (items : List ReadOf) → ((t : Tables) → Shows t (cart_reads cart) → ⊥) → (t : Tables) → Fits ask.index.now t (cart_reads cart ++ items) → ⊥
-never_fits ask cart items never t fits = never t (shows_append t (cart_reads cart) items fits.shows).0
 
 -- the request is not refused there, and leaves these lines
 record Leaves (t : Tables) (asked : CartAsked) (draw : ℕ) (lines : List (ℕ × ℕ)) : Type 0 where
@@ -278,16 +261,17 @@ becomes t stamp asked draw lines draft leaves shows front =
     subst (λ (l : List (ℕ × ℕ)). IsPage draft drawn (cart_page t (ids_with asked.ids cart) cart l)) (sym leaves.after)
     (subst (λ (n : ℕ). IsPage draft drawn (cart_page t (ids_with asked.ids n) n lines)) (cart_drawn t.carts asked.ids.cart (lines_after t asked draw) drawn refl) (shows drawn))
 
-pub changed : (asked : CartAsked) (ask : Ask) (cart : Option ReadOf) (round : ℕ) (items : List ReadOf) (lines : List (ℕ × ℕ)) (draft : Draft) (next : Next) → IsWhole ask
-    → MakesOfCart ask.scale.now.items asked ask.draw cart lines → IsChangeTo asked ask.draw lines items draft next
-    → IsNext (FollowsCart asked ask) (CartRequest asked) ask round (cart_reads cart ++ items) draft next
-changed asked ask cart round items lines draft next whole makes change =
-    let reads : List ReadOf = cart_reads cart ++ items in
+pub changed : (asked : CartAsked) (before kept : Option (List (ℕ × ℕ))) (ask : Ask) (round : ℕ) (reads : List ReadOf) (lines : List (ℕ × ℕ)) (draft : Draft) (next : Next) → IsWhole ask
+    → (has : HasItems asked before ask reads) → lines ≡ has.lines → IsChangeTo asked ask.draw lines (behind_cart asked.ids.cart reads) draft next
+    → IsNext (FollowsCart asked kept ask) (CartRequest asked) ask round reads draft next
+changed asked before kept ask round reads lines draft next whole has same change =
+    let shown : (t : Tables) → Shows t reads → Shows t (cart_reads has.cart) × Shows t (behind_cart asked.ids.cart reads)
+    = λ t shows. shows_append t (cart_reads has.cart) (behind_cart asked.ids.cart reads) (subst (Shows t) has.reads_are shows) in
     let here : (t : Tables) → Fits ask.index.now t reads → Leaves t asked ask.draw lines
-    = λ t fits. leaves t ask.scale.now.items asked ask.draw cart lines (size_of ask.index.now t fits.named ∙ sym whole) (shows_append t (cart_reads cart) items fits.shows).0 makes in
-    subst (IsNext (FollowsCart asked ask) (CartRequest asked) ask round reads draft) (sym change.is) (record {
+    = λ t fits. leaves t ask.scale.now.items asked ask.draw has.cart lines (size_of ask.index.now t fits.named ∙ sym whole) (shown t fits.shows).0
+    (subst (MakesOfCart ask.scale.now.items asked ask.draw has.cart) (sym same) has.makes) in
+    subst (IsNext (FollowsCart asked kept ask) (CartRequest asked) ask round reads draft) (sym change.is) (record {
       does = record { does = refl; drew = refl };
       makes = λ t stamp fits bound. makes_lines t stamp asked ask.draw lines (here t fits);
-      becomes = λ t stamp fits bound.
-          becomes t stamp asked ask.draw lines draft (here t fits) (change.written t (shows_append t (cart_reads cart) items fits.shows).1);
+      becomes = λ t stamp fits bound. becomes t stamp asked ask.draw lines draft (here t fits) (change.written t (shown t fits.shows).1);
     })

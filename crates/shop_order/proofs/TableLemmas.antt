@@ -14,10 +14,10 @@ use Rattle.shop_history.specs.declared.keys.Key.TheVariants as key
 use Rattle.shop_history.specs.declared.keys.Row.{Row}
 use Rattle.shop_history.specs.declared.keys.Row.TheVariants as row
 use Rattle.shop_history.specs.Keys.{row_of, shown}
-use Rattle.shop_draft.proofs.PageTexts.{both}
+use Rattle.shop_draft.proofs.cited.PageTexts.{both}
 use Rattle.shop_attempt.specs.declared.attempts.ReadOf.{ReadOf}
 use Rattle.shop_attempt.specs.Reads.{Shows}
-use Rattle.shop_attempt.proofs.Looks.{shows_at}
+use Rattle.shop_attempt.proofs.cited.Looks.{shows_at}
 use Rattle.shop_order.specs.ShoppingCart.{AreItems}
 use Rattle.shop_order.specs.Table.{title_in, cost_in, cells_in}
 

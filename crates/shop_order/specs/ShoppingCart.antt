@@ -1,5 +1,5 @@
 -- What a request for the shopping cart reads, the lines that it makes of its cart's, and the change to them.
-use Rattle.std.specs.Prelude.{◌≡◌, ℕ, zero, suc, List, [], ◌∷◌, ◌++◌, length, map, Option, Some, None, IfSome, unwrap_or}
+use Rattle.std.specs.Prelude.{◌≡◌, ℕ, zero, suc, List, [], ◌∷◌, ◌++◌, length, map, drop, Option, Some, None, IfSome, unwrap_or}
 use Rattle.shop_model.specs.declared.tables.Tables.{Tables}
 use Rattle.shop_model.specs.asked.CartAsked.{CartAsked}
 use Rattle.shop_model.specs.trade.Carts.{wanted, cart_lines, check_lines, lines_named, check_cart}
@@ -84,24 +84,26 @@ IsBegun items asked draw cart Never = (t : Tables) → Shows t (cart_reads cart)
 abbrev pub AreItems : List (ℕ × ℕ) → List ReadOf → Type 0
 AreItems lines items = keys_of items ≡ map (λ l. key.Item l.0) lines
 
--- after one round no item was read; after two, those of the lines that the request leaves
-abbrev pub FollowsItems : CartAsked → Ask → Option ReadOf → ℕ → List ReadOf → Type 0
-FollowsItems asked ask cart zero items = ⊥
-FollowsItems asked ask cart (suc zero) items = items ≡ []
-FollowsItems asked ask cart (suc (suc more)) items =
-    AreItems (cart_lines ask.scale.now.items asked ask.draw (begun_with cart)) items
+-- the reads behind that of the cart, if one is named
+abbrev pub behind_cart : Option ℕ → List ReadOf → List ReadOf
+behind_cart None reads = reads
+behind_cart (Some id) reads = drop 1 reads
 
--- the cart was read, if one is named, and items behind it
-pub record FollowsNamed (asked : CartAsked) (ask : Ask) (round : ℕ) (reads : List ReadOf) : Type 0 where
+-- the cart was read, if one is named, and behind it the items of the lines that the request makes of it, which are kept
+pub record HasItems (asked : CartAsked) (kept : Option (List (ℕ × ℕ))) (ask : Ask) (reads : List ReadOf) : Type 0 where
   pub cart : Option ReadOf
-  pub items : List ReadOf
-  pub reads_are : reads ≡ cart_reads cart ++ items
+  pub lines : List (ℕ × ℕ)
+  pub reads_are : reads ≡ cart_reads cart ++ behind_cart asked.ids.cart reads
   pub named : IsNamed asked.ids.cart cart
-  pub follows : FollowsItems asked ask cart round items
+  pub kept_is : kept ≡ Some lines
+  pub makes : MakesOfCart ask.scale.now.items asked ask.draw cart lines
+  pub items_are : AreItems lines (behind_cart asked.ids.cart reads)
 
-abbrev pub FollowsCart : CartAsked → Ask → ℕ → List ReadOf → Type 0
-FollowsCart asked ask zero reads = reads ≡ []
-FollowsCart asked ask (suc round) reads = FollowsNamed asked ask (suc round) reads
+-- after one round the cart was read, if one is named; after two the items of the lines that are kept
+abbrev pub FollowsCart : CartAsked → Option (List (ℕ × ℕ)) → Ask → ℕ → List ReadOf → Type 0
+FollowsCart asked kept ask zero reads = reads ≡ []
+FollowsCart asked kept ask (suc zero) reads = keys_of reads ≡ cart_keys asked.ids.cart
+FollowsCart asked kept ask (suc (suc more)) reads = HasItems asked kept ask reads
 
 -- the write of a cart with these lines: the one that is named, or a new one
 abbrev pub put_lines : Option ℕ → List (ℕ × ℕ) → List Write

@@ -40,7 +40,7 @@ fn page_ids(ids: IdsAsked, cart: Id) -> PageIds
     }
 }
 
-#[tactic(auto, using(shop_text::proofs::Plain::escape_append), unfolding(shop_model::specs::pages::PageText::block_text))]
+#[tactic(auto, using(shop_text::proofs::cited::Plain::escape_append), unfolding(shop_model::specs::pages::PageText::block_text))]
 fn heading(page: &mut Template, cart: Id) -> Result<(), Memory>
     ensures { OnOk result (Adds page.old page.new (λ drawn. block_line (block.Heading (codes "Cart " ++ decimal (id_at drawn cart))))) }
 {
@@ -49,7 +49,7 @@ fn heading(page: &mut Template, cart: Id) -> Result<(), Memory>
     Ok(())
 }
 
-#[tactic(auto, using(shop_text::proofs::Plain::escape_append), unfolding(shop_model::specs::pages::PageText::block_text))]
+#[tactic(auto, using(shop_text::proofs::cited::Plain::escape_append), unfolding(shop_model::specs::pages::PageText::block_text))]
 fn sum_line(page: &mut Template, sum: u64) -> Result<(), Memory>
     ensures { OnOk result (Says page.old page.new (block_line (block.Para (codes "Sum " ++ cents_text sum)))) }
 {

@@ -1,5 +1,5 @@
 //! Shopping Cart: what a request for it makes of a cart.
-ghost use Rattle.std.specs.Prelude.{◌≡◌, ◌∷◌, ◌++◌, [], ◌≢◌, IfOk, map, option_copied};
+ghost use Rattle.std.specs.Prelude.{◌≡◌, ◌∷◌, ◌≤◌, [], ◌≢◌, None, IfOk, length, map, option_copied};
 ghost use Rattle.shop_history.specs.declared.keys.Key.TheVariants as key_kinds;
 ghost use Rattle.shop_attempt.specs.Marks.{Looks};
 ghost use Rattle.shop_browse.specs.Attempts.{AttemptedAs, Suits, asking_of};
@@ -123,32 +123,19 @@ fn item_keys(alloc: Global, lines: &[(u32, u32)]) -> Result<Listed<Key>, Memory>
     Ok(keys)
 }
 
-/// The key of the cart that is named, if one is.
-fn cart_keys(alloc: Global, named: Option<u32>) -> Result<Listed<Key>, Memory>
-    ensures { IfOk result (λ keys. keys ≡ spec.cart_keys named) }
-{
-    let mut keys = Listed::new(alloc);
-    if let Some(id) = named {
-        keys.push(Key::Cart(id))?;
-    }
-    Ok(keys)
-}
-
-/// What is done next by what was read of the cart, and then of the items of the lines that are left.
+/// What is done next by what was read of the cart; the lines that are left are kept.
 fn by_cart(
     alloc: Global,
     ask: &Ask,
     asked: &CartRequest,
     cart: Option<&ReadOf>,
-    round: u32,
-    items: &[ReadOf],
+    kept: &mut Option<Listed<(u32, u32)>>,
     draft: &mut Draft,
 ) -> Result<Next, Memory>
     requires whole { IsWhole ask.now }
     requires named { spec.IsNamed asked.now.ids.cart (option_copied cart) }
     requires fit { spec.IsFitRead (option_copied cart) }
-    requires follows { spec.FollowsItems asked.now ask.now (option_copied cart) round items.now }
-    ensures { IfOk result (IsNext (spec.FollowsCart asked.now ask.now) (Request.CartRequest asked.now) ask.now round (spec.cart_reads (option_copied cart.entry) ++ items.now) draft.new) }
+    ensures { IfOk result (IsNext (spec.FollowsCart asked.now kept.new ask.now) (Request.CartRequest asked.now) ask.now 1 (spec.cart_reads (option_copied cart.entry)) draft.new) }
 {
     let begun = begin(alloc, ask, asked, cart)?;
     match begun {
@@ -158,19 +145,30 @@ fn by_cart(
         }
         Begun::Never => Ok(Next::Never),
         Begun::Lines(lines) => {
-            if round == 1 {
-                Ok(Next::Read(item_keys(alloc, lines.as_slice())?))
-            } else {
-                change(alloc, ask, asked, lines, items, draft)
-            }
+            let keys = item_keys(alloc, lines.as_slice())?;
+            *kept = Some(lines);
+            Ok(Next::Read(keys))
         }
     }
 }
 
+/// The reads behind that of the cart, if one is named.
+fn behind_cart(named: Option<u32>, reads: &[ReadOf]) -> &[ReadOf]
+    requires { named ≢ None → 1 ≤ length reads.now }
+    ensures { result.now ≡ spec.behind_cart named reads.now }
+{
+    match named {
+        None => reads,
+        Some(_) => &reads[1..],
+    }
+}
+
 /// A request for the shopping cart.
-#[derive(Clone, Copy)]
+#[derive(Drop)]
 struct ShoppingCart<'a> {
     asked: &'a CartRequest,
+    /// The lines that it leaves, once its cart was read.
+    lines: Option<Listed<(u32, u32)>>,
 }
 
 impl<'a> Interaction for ShoppingCart<'a> {
@@ -178,10 +176,10 @@ impl<'a> Interaction for ShoppingCart<'a> {
 
     ghost request = { λ cart. request_kinds.CartRequest cart.asked.now };
 
-    ghost follows = { λ cart. spec.FollowsCart cart.asked.now };
+    ghost follows = { λ cart. spec.FollowsCart cart.asked.now cart.lines };
 
     fn next(
-        &self,
+        &mut self,
         alloc: Global,
         ask: &Ask,
         round: u32,
@@ -190,19 +188,22 @@ impl<'a> Interaction for ShoppingCart<'a> {
     ) -> Result<Next, Memory> {
         let asked = self.asked;
         if round == 0 {
-            return Ok(Next::Read(cart_keys(alloc, asked.ids.cart)?));
+            return Ok(match asked.ids.cart {
+                Some(id) => Next::ReadOne(Key::Cart(id)),
+                None => Next::Read(Listed::new(alloc)),
+            });
         }
-        match asked.ids.cart {
-            None => by_cart(alloc, ask, asked, None, round, reads, draft),
-            Some(_) => by_cart(
-                alloc,
-                ask,
-                asked,
-                Some(&reads[0]),
-                round,
-                &reads[1..],
-                draft,
-            ),
+        if round == 1 {
+            let kept = &mut self.lines;
+            return match asked.ids.cart {
+                None => by_cart(alloc, ask, asked, None, kept, draft),
+                Some(_) => by_cart(alloc, ask, asked, Some(&reads[0]), kept, draft),
+            };
+        }
+        let items = behind_cart(asked.ids.cart, reads);
+        match self.lines.take() {
+            Some(lines) => change(alloc, ask, asked, lines, items, draft),
+            None => unreachable!(),
         }
     }
 }
@@ -219,5 +220,11 @@ pub fn shopping_cart<St: Store>(
     ensures looks { Looks St.seat St.marked store.old store.new }
     ensures attempted { AttemptedAs (St.seat store.old) (St.seat store.new) (asking_of ask.now (Request.CartRequest asked.now)) draft.new result }
 {
-    attempt_by(alloc, store, ask, &ShoppingCart { asked }, draft)
+    attempt_by(
+        alloc,
+        store,
+        ask,
+        ShoppingCart { asked, lines: None },
+        draft,
+    )
 }

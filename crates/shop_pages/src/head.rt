@@ -23,42 +23,44 @@ fn phrase_of(status: u16) -> &'static [u8]
     }
 }
 
-/// The methods that are served, where another one was asked for.
-fn allow_line(status: u16) -> &'static [u8]
-    ensures value { result.now ≡ spec.allow_line status }
-    ensures most { length result.now ≤ 18 }
-{
-    if status == 405 {
-        b"Allow: GET, POST\r\n"
-    } else {
-        b""
-    }
-}
-
-/// Whether the connection ends.
-fn close_line(form: Form) -> &'static [u8]
-    ensures value { result.now ≡ spec.close_line form }
-    ensures most { length result.now ≤ 19 }
-{
-    if form.close {
-        b"Connection: close\r\n"
-    } else {
-        b""
-    }
-}
-
 /// Adds the first line of a reply.
-#[tactic(auto, unfolding(crate::specs::Replies::status_line))]
+#[tactic(auto, unfolding(crate::specs::Replies::status_line, crate::specs::Replies::phrase_of))]
 fn put_status_line(out: &mut Out, status: u16)
     requires { 71 ≤ out.old.room }
     ensures bytes { out.new.bytes ≡ out.old.bytes ++ spec.status_line status }
     ensures room { out.old.room ≤ out.new.room + 71 }
 {
-    out.put(b"HTTP/1.1 ");
-    out.put_decimal(u64::from(status));
-    out.put(b" ");
-    out.put(phrase_of(status));
-    out.put(b"\r\n");
+    if status == 200 {
+        out.put(b"HTTP/1.1 200 OK\r\n");
+    } else {
+        out.put(b"HTTP/1.1 ");
+        out.put_decimal(u64::from(status));
+        out.put(b" ");
+        out.put(phrase_of(status));
+        out.put(b"\r\n");
+    }
+}
+
+/// Adds the methods that are served, where another one was asked for.
+fn put_allow_line(out: &mut Out, status: u16)
+    requires { 18 ≤ out.old.room }
+    ensures bytes { out.new.bytes ≡ out.old.bytes ++ spec.allow_line status }
+    ensures room { out.old.room ≤ out.new.room + 18 }
+{
+    if status == 405 {
+        out.put(b"Allow: GET, POST\r\n");
+    }
+}
+
+/// Adds that the connection ends, where it does.
+fn put_close_line(out: &mut Out, form: Form)
+    requires { 19 ≤ out.old.room }
+    ensures bytes { out.new.bytes ≡ out.old.bytes ++ spec.close_line form }
+    ensures room { out.old.room ≤ out.new.room + 19 }
+{
+    if form.close {
+        out.put(b"Connection: close\r\n");
+    }
 }
 
 /// Adds the head of a reply with this status, around a page of so many bytes; takes no memory.
@@ -72,7 +74,7 @@ pub(crate) fn put_head(out: &mut Out, status: u16, len: u64, form: Form)
     out.put(b"Content-Type: text/html; charset=utf-8\r\nContent-Length: ");
     out.put_decimal(len);
     out.put(b"\r\n");
-    out.put(allow_line(status));
-    out.put(close_line(form));
+    put_allow_line(out, status);
+    put_close_line(out, form);
     out.put(b"\r\n");
 }

@@ -10,8 +10,8 @@ use Rattle.shop_model.specs.rows.Rows.{CustomerRow, ItemRow, OrderRow, IsItem, I
 use Rattle.shop_model.specs.population.Scales.{ScaleRow, IsRoomy, IsScale}
 use Rattle.shop_model.specs.rows.Sound.{Has, OrderNames, NamesExist, HasLines, IsCharged, IsPaid, IsStocked, HasFive, Runs, IdsRun, InBounds, Sound, Room, sold, last_of}
 use Rattle.shop_model.specs.population.Population.{rows, populated, orders_table, order_row, order_of, item_row, stock, lasts_table, customers_table, customer_row, items_table, countries_table, addresses_table, authors_table, country_row, address_row, author_row}
-use Rattle.shop_model.proofs.Lists.{all_rows, ids_of, map_rows, none_passes}
-use Rattle.shop_model.proofs.Scales.{is_roomy}
+use Rattle.shop_model.proofs.cited.Lists.{all_rows, ids_of, map_rows, none_passes}
+use Rattle.shop_model.proofs.cited.Scales.{is_roomy}
 use Rattle.shop_populate.proofs.Followers.{followers_exist}
 use Rattle.shop_populate.proofs.LastExists.{last_exists}
 use Rattle.shop_populate.proofs.RowFacts as row

@@ -9,7 +9,7 @@ use Rattle.shop_model.specs.population.Scales.{ScaleRow, IsRoomy}
 use Rattle.shop_model.specs.rows.Sound.{Has, HasFive, HasLines, IsCharged, IsPaid, IsQuantity}
 use Rattle.shop_model.specs.population.Words.{word}
 use Rattle.shop_model.specs.population.Population.{cost, srp, address_row, customer_row, item_row, stock, order_line, line_quantity, line_item, order_lines, size, order_row, order_of, order_customer, placed, ship_day, order_word, card_of, order_address}
-use Rattle.shop_model.proofs.Lists.{all_rows, ids_of}
+use Rattle.shop_model.proofs.cited.Lists.{all_rows, ids_of}
 use Rattle.shop_populate.proofs.Followers.{five_follow, followers_differ, followers_are_others}
 
 -- a part of a whole is no more than it

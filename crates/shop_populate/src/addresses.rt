@@ -69,7 +69,7 @@ fn address_row(alloc: Global, seed: u32, scale: &Scale, id: u32) -> Result<Addre
 }
 
 /// The addresses of a shop.
-#[tactic(auto, using(shop_model::proofs::Lists::rows_push), unfolding(shop_model::specs::population::Population::addresses_table))]
+#[tactic(auto, using(shop_model::proofs::cited::Lists::rows_push), unfolding(shop_model::specs::population::Population::addresses_table))]
 pub(crate) fn addresses_table(
     alloc: Global,
     seed: u32,

@@ -23,7 +23,7 @@ fn author_row(alloc: Global, seed: u32, scale: &Scale, id: u32) -> Result<Author
 }
 
 /// The authors of a shop.
-#[tactic(auto, using(shop_model::proofs::Lists::rows_push), unfolding(shop_model::specs::population::Population::authors_table))]
+#[tactic(auto, using(shop_model::proofs::cited::Lists::rows_push), unfolding(shop_model::specs::population::Population::authors_table))]
 pub(crate) fn authors_table(
     alloc: Global,
     seed: u32,

@@ -2,7 +2,7 @@ ghost use Rattle.std.specs.Prelude.{◌≡◌, ◌≤◌, ◌++◌, IfOk, decima
 ghost use Rattle.shop_model.specs.rows.AuthIds as ids;
 ghost use Rattle.shop_model.specs.population.Population as spec;
 
-use shop_model::{Address, AuthId, CardType, CardUse, Customer};
+use shop_model::{Address, AuthId, CardType, CardUse, Customer, DAY_LENGTH};
 use shop_text::{Memory, Text};
 use std::alloc::Global;
 
@@ -49,7 +49,7 @@ pub(crate) fn placed(day: u32) -> u64
     ensures value { result ≡ spec.placed day }
     ensures bound { result ≤ 1_000_000_000_000 }
 {
-    (11_000 + (day % 60) as u64) * 86_400_000
+    (11_000 + (day % 60) as u64) * DAY_LENGTH
 }
 
 /// The card transaction of an order.

@@ -32,7 +32,7 @@ fn country_row(alloc: Global, id: u32) -> Result<Country, Memory>
 }
 
 /// All countries.
-#[tactic(auto, using(shop_model::proofs::Lists::rows_push), unfolding(shop_model::specs::population::Population::countries_table))]
+#[tactic(auto, using(shop_model::proofs::cited::Lists::rows_push), unfolding(shop_model::specs::population::Population::countries_table))]
 pub(crate) fn countries_table(alloc: Global) -> Result<Listed<Country>, Memory>
     ensures { IfOk result (λ table. table ≡ spec.countries_table) }
 {

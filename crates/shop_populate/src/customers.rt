@@ -56,7 +56,7 @@ fn customer_row(alloc: Global, seed: u32, scale: &Scale, id: u32) -> Result<Cust
 }
 
 /// The customers of a shop.
-#[tactic(auto, using(shop_model::proofs::Lists::rows_push), unfolding(shop_model::specs::population::Population::customers_table))]
+#[tactic(auto, using(shop_model::proofs::cited::Lists::rows_push), unfolding(shop_model::specs::population::Population::customers_table))]
 pub(crate) fn customers_table(
     alloc: Global,
     seed: u32,

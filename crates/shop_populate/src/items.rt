@@ -143,7 +143,7 @@ fn item_row(alloc: Global, seed: u32, scale: &Scale, id: u32) -> Result<Item, Me
 }
 
 /// The items of a shop.
-#[tactic(auto, using(shop_model::proofs::Lists::rows_push), unfolding(shop_model::specs::population::Population::items_table))]
+#[tactic(auto, using(shop_model::proofs::cited::Lists::rows_push), unfolding(shop_model::specs::population::Population::items_table))]
 pub(crate) fn items_table(alloc: Global, seed: u32, scale: &Scale) -> Result<Listed<Item>, Memory>
     ensures { IfOk result (λ table. table ≡ spec.items_table seed scale.now) }
 {

@@ -60,7 +60,7 @@ fn order_line(
 }
 
 /// So many lines of an order.
-#[tactic(auto, using(shop_model::proofs::Lists::rows_push))]
+#[tactic(auto, using(shop_model::proofs::cited::Lists::rows_push))]
 pub(crate) fn order_lines(
     alloc: Global,
     seed: u32,

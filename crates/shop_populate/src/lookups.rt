@@ -5,7 +5,7 @@ ghost use Rattle.shop_model.specs.population.Population as spec;
 use shop_model::{Address, Customer, Item, Scale};
 
 /// The customer with this id among those of the shop.
-#[tactic(auto, using(shop_model::proofs::Lists::id_within, shop_model::proofs::Lists::row_at), unfolding(shop_model::specs::population::Population::customers_table))]
+#[tactic(auto, using(shop_model::proofs::cited::Lists::id_within, shop_model::proofs::cited::Lists::row_at), unfolding(shop_model::specs::population::Population::customers_table))]
 pub(crate) fn customer_at<'a>(
     seed: u32,
     scale: &Scale,
@@ -22,7 +22,7 @@ pub(crate) fn customer_at<'a>(
 }
 
 /// The address with this id among those of the shop.
-#[tactic(auto, using(shop_model::proofs::Lists::id_within, shop_model::proofs::Lists::row_at), unfolding(shop_model::specs::population::Population::addresses_table))]
+#[tactic(auto, using(shop_model::proofs::cited::Lists::id_within, shop_model::proofs::cited::Lists::row_at), unfolding(shop_model::specs::population::Population::addresses_table))]
 pub(crate) fn address_at<'a>(
     seed: u32,
     scale: &Scale,
@@ -37,7 +37,7 @@ pub(crate) fn address_at<'a>(
 }
 
 /// The item with this id among those of the shop.
-#[tactic(auto, using(shop_model::proofs::Lists::id_within, shop_model::proofs::Lists::row_at), unfolding(shop_model::specs::population::Population::items_table))]
+#[tactic(auto, using(shop_model::proofs::cited::Lists::id_within, shop_model::proofs::cited::Lists::row_at), unfolding(shop_model::specs::population::Population::items_table))]
 pub(crate) fn item_at<'a>(seed: u32, scale: &Scale, items: &'a [Item], id: u32) -> &'a Item
     requires table { items.now ≡ spec.items_table seed scale.now }
     requires has { Has scale.now.items id }

@@ -122,7 +122,7 @@ fn order_row(
 }
 
 /// The orders of a shop, over its other tables.
-#[tactic(auto, using(shop_model::proofs::Lists::rows_push), unfolding(shop_model::specs::population::Population::orders_table))]
+#[tactic(auto, using(shop_model::proofs::cited::Lists::rows_push), unfolding(shop_model::specs::population::Population::orders_table))]
 pub(crate) fn orders_table(
     alloc: Global,
     seed: u32,

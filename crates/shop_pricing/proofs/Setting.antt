@@ -4,7 +4,7 @@ use Rattle.indexmap.specs.IndexMap.{insert_entry, shift_remove_entry}
 use Rattle.shop_model.specs.trade.Carts.{set_line, is_too_many}
 use Rattle.shop_model.specs.rows.Limits.{quantity_limit}
 use Rattle.shop_model.specs.rows.Sound.{IsQuantity}
-use Rattle.shop_model.proofs.SetLines.{set_line_all, set_line_few}
+use Rattle.shop_model.proofs.cited.SetLines.{set_line_all, set_line_few}
 use Rattle.shop_pricing.specs.Bounds.{AreLines}
 
 -- a set to 0 is a removal

@@ -43,13 +43,14 @@ impl Lines {
         }
     }
 
-    /// The lines of a cart.
+    /// The lines of a cart, with room for one more.
     pub fn of(alloc: Global, cart: &Cart) -> Result<Lines, Memory>
         requires { IsFit cart.now }
         ensures { IfOk result (λ lines. lines ≡ cart.now.lines) }
     {
-        let mut quantities = IndexMap::new(alloc);
-        for (item, quantity) in cart.lines.get().as_slice() {
+        let pairs = cart.lines.get().as_slice();
+        let mut quantities = IndexMap::with_capacity(alloc, pairs.len() + 1)?;
+        for (item, quantity) in pairs {
             quantities.insert(*item, *quantity)?;
         }
         Ok(Lines { quantities })

@@ -11,7 +11,7 @@ use Rattle.shop_model.specs.rows.Limits.{quantity_limit, counted_orders}
 use Rattle.shop_model.specs.rows.Rows.{LineRow, OrderRow}
 use Rattle.shop_model.specs.rows.Sound.{units_in, Sound, HasLines, IsQuantity, OrderNames}
 use Rattle.shop_model.specs.lists.Rankings.{latest_orders, sold_lately}
-use Rattle.shop_model.proofs.Lists.{all_head, all_tail}
+use Rattle.shop_model.proofs.cited.Lists.{all_head, all_tail}
 use Rattle.shop_ranking.specs.Counts.{Adds, HasRoom, IsSoldLately}
 
 -- units that were added, with those that are left to add

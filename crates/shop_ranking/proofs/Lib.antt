@@ -1,4 +1,4 @@
 pub mod Places
 pub mod Lists
 pub mod Adding
-pub mod Order
+pub mod cited

@@ -9,7 +9,7 @@ use Rattle.shop_model.specs.rows.Rows.{ItemRow}
 use Rattle.shop_model.specs.rows.Sound.{Sound}
 use Rattle.shop_model.specs.rows.Subjects.{subject_name}
 use Rattle.shop_model.specs.lists.Rankings.{Sale, in_order, in_subject, newer, newest, better, best, sold_lately}
-use Rattle.shop_model.proofs.Lists.{id_of_place}
+use Rattle.shop_model.proofs.cited.Lists.{id_of_place}
 use Rattle.shop_ranking.specs.Counts.{IsSoldLately, sale_in}
 
 -- the elements from a place on, one more

@@ -52,7 +52,7 @@ impl<'a> Ranked for Published<'a> {
 }
 
 /// The ids of the newest items of a subject, 50 at most.
-#[tactic(auto, using(crate::proofs::Order::newer_in_order))]
+#[tactic(auto, using(crate::proofs::cited::Order::newer_in_order))]
 pub fn newest(alloc: Global, tables: &Tables, subject: Subject) -> Result<Listed<u32>, Memory>
     ensures ids { IfOk result (λ ids. ids ≡ spec.newest tables.now subject) }
     ensures order { OnOk result (IsInOrder spec.newer (spec.in_subject subject tables.now.items)) }

@@ -9,7 +9,7 @@ use Rattle.std.proofs.lemmas.Cmp.{upto, tied_itself}
 use Rattle.std.proofs.lemmas.List.Kept.{IsSortedBy-filter}
 use Rattle.std.proofs.lemmas.List.Sorted.{ranks_by, sorted_far}
 use Rattle.shop_model.specs.lists.Rankings.{in_order, put_among}
-use Rattle.shop_ranking.proofs.Order.{is_in_order}
+use Rattle.shop_ranking.proofs.cited.Order.{is_in_order}
 
 -- none of these comes before the first
 abbrev Leads : {A : Type 0} → (A → A → Ordering) → A → List A → Type 0

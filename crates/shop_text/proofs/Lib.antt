@@ -1,4 +1,3 @@
 pub mod Dates
-pub mod Escapes
+pub mod cited
 pub mod Extends
-pub mod Plain

@@ -12,7 +12,8 @@ use Rattle.shop_words.specs.Options.{IsPlain}
 use Rattle.shop_words.proofs.Numbers.{number-digits, number-plain}
 use Rattle.shop_words.proofs.Readings.{ascii-more}
 use Rattle.shop_words.proofs.Rules.{same-text}
-use Rattle.shop_words.specs.Values.{is_x, larger_of, larger_of_both, number_of, scale_of}
+use Rattle.shop_text.specs.Numbers.{number_of}
+use Rattle.shop_words.specs.Values.{is_x, larger_of, larger_of_both, scale_of}
 
 -- one of the larger scales
 abbrev IsSize : ℕ → ℕ → Type 0

@@ -15,7 +15,8 @@ use Rattle.shop_words.specs.declared.options.Refusal.{Refusal}
 use Rattle.shop_words.specs.declared.options.Refusal.TheVariants as refusal
 use Rattle.shop_words.specs.Commands.{Chooses, IsSession, session_options}
 use Rattle.shop_words.specs.Options.{AreOptions, Given, IsChosen, IsOptionName, IsPlain, IsReading, IsWord, name_of, value_for, value_of}
-use Rattle.shop_words.specs.Values.{number_of, scale_of}
+use Rattle.shop_text.specs.Numbers.{number_of}
+use Rattle.shop_words.specs.Values.{scale_of}
 use Rattle.shop_words.proofs.Numbers.{number-plain}
 use Rattle.shop_words.proofs.Parses.{by-recursion, contained, from-recursion}
 use Rattle.shop_words.proofs.Readings.{option-words}

@@ -2,7 +2,8 @@
 use Rattle.std.specs.Prelude.{◌≡◌, ⊤, List, [], ◌∷◌, ℕ, Option, codes}
 use Rattle.shop_model.specs.population.Scales.{desk}
 use Rattle.shop_words.specs.Options.{Given, AreOptions, IsChosen, value_for}
-use Rattle.shop_words.specs.Values.{number_of, scale_of}
+use Rattle.shop_text.specs.Numbers.{number_of}
+use Rattle.shop_words.specs.Values.{scale_of}
 use Rattle.shop_words.specs.declared.command.Session.{Session}
 use Rattle.shop_words.specs.declared.command.Command.{Command}
 use Rattle.shop_words.specs.declared.command.Command.TheVariants as command

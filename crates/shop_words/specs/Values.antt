@@ -1,16 +1,9 @@
 -- The values of options, this project's own.
-use Rattle.std.specs.Prelude.{ℕ, ◌&&◌, ◌||◌, ◌==◌, nat_le, Bool, List, length, Option, Some, None, if◌then◌else◌, codes}
-use Rattle.std.specs.List.{list_all, before_first, after_first}
-use Rattle.std.specs.Char.{is_ascii_digit}
+use Rattle.std.specs.Prelude.{ℕ, ◌&&◌, ◌||◌, ◌==◌, nat_le, Bool, List, Option, Some, None, if◌then◌else◌, codes}
+use Rattle.std.specs.List.{before_first, after_first}
 use Rattle.std.specs.Str.{bytes_eq}
-use Rattle.std.specs.Str.Parse.{digits_value}
+use Rattle.shop_text.specs.Numbers.{number_of}
 use Rattle.shop_model.specs.population.Scales.{ScaleRow, desk, larger}
-
--- the number that 1 to 10 digits write, where it is below 2 ^ 32
-unfoldable pub number_of : List ℕ → Option ℕ
-number_of digits =
-    if nat_le 1 (length digits) && nat_le (length digits) 10 && list_all is_ascii_digit digits && nat_le (digits_value 10 digits) 4_294_967_295
-    then Some (digits_value 10 digits) else None
 
 -- the scale of so many items, for so many emulated browsers: 1,000 or 10,000, for 1 to 10
 unfoldable pub larger_of : ℕ → ℕ → Option ScaleRow

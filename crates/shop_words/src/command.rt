@@ -4,10 +4,10 @@ ghost use Rattle.shop_words.specs.Commands.{Chooses, IfCommand, IsCommand, IsSes
 ghost use Rattle.shop_words.specs.declared.options.Refusal.TheVariants as refusal;
 
 use crate::options::{Refusal, options_of, texts_of};
-use crate::values::{number_of, scale_of};
+use crate::values::scale_of;
 use clap::ArgMatches;
 use shop_model::Scale;
-use shop_text::Text;
+use shop_text::{Text, number_of};
 use std::alloc::Global;
 
 /// What the words ask for.
@@ -77,7 +77,7 @@ fn chosen(found: &ArgMatches) -> Option<Session>
         None => Scale::desk(),
     };
     let seed = match found.get_str("seed") {
-        Some(text) => number_of(text)?,
+        Some(text) => number_of(text.as_bytes())?,
         None => 0,
     };
     Some(Session { scale, seed })

@@ -10,10 +10,9 @@ use super::decoding::decoded;
 use super::fault::Fault;
 use super::forms::{ids_asked, optional_number};
 use super::pairs::Pairs;
-use crate::numbers::number_of;
 use form_urlencoded::raw_pairs;
 use shop_model::{CartRequest, Parameter, QUANTITY_LIMIT, Request, SETS_LIMIT};
-use shop_text::{Listed, Memory};
+use shop_text::{Listed, Memory, number_of};
 use std::alloc::Global;
 
 pub(crate) fn shopping_cart(alloc: Global, pairs: &Pairs) -> Result<Request, Fault>

@@ -6,15 +6,14 @@ ghost use Rattle.shop_model.specs.rows.Subjects.{subject_of};
 ghost use Rattle.shop_model.specs.declared.parameter.Parameter.{Parameter};
 ghost use Rattle.shop_http.specs.Answers.{Reads};
 ghost use Rattle.shop_http.specs.Forms as spec;
-ghost use Rattle.shop_http.specs.Numbers as numbers;
+ghost use Rattle.shop_text.specs.Numbers as numbers;
 ghost use Rattle.shop_http.specs.Requests as requests;
 
 use super::decoding::decoded;
 use super::fault::Fault;
 use super::pairs::Pairs;
-use crate::numbers::number_of;
 use shop_model::{IdsAsked, Parameter, SearchKind, Subject, TEXT_LIMIT};
-use shop_text::Text;
+use shop_text::{Text, number_of};
 use std::alloc::Global;
 
 /// A number that has to be there.

@@ -9,7 +9,7 @@ use Rattle.shop_history.specs.declared.keys.Key.{Key}
 use Rattle.shop_history.specs.declared.keys.Key.TheVariants as key
 use Rattle.shop_history.specs.declared.keys.Row.TheVariants as row
 use Rattle.shop_history.specs.Keys.{row_of, shown}
-use Rattle.shop_history.proofs.Places.{IsThere, is_there, id_numbered}
+use Rattle.shop_history.proofs.cited.Places.{IsThere, is_there, id_numbered}
 use Rattle.shop_attempt.specs.declared.attempts.Attempt.{Attempt}
 use Rattle.shop_attempt.specs.declared.attempts.ReadOf.{ReadOf}
 use Rattle.shop_attempt.specs.declared.attempts.Write.{Write}
@@ -18,7 +18,7 @@ use Rattle.shop_attempt.specs.Faithful.{Makes, MakesAct, Faithful}
 use Rattle.shop_attempt.specs.Reads.{Agrees, IsReadOf}
 use Rattle.shop_attempt.specs.Seats.{Seat, IsReadAt, Follows}
 use Rattle.shop_attempt.specs.Writes.{put_row, written}
-use Rattle.shop_attempt.proofs.Looks.{read_true}
+use Rattle.shop_attempt.proofs.cited.Looks.{read_true}
 use Rattle.rival_tests.proofs.Rivals.{faithful_later}
 use Rattle.rival_tests.proofs.cancelling.with_cancelling.Goals as goal
 

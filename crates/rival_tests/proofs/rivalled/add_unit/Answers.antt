@@ -1,4 +1,4 @@
-use Rattle.shop_attempt.proofs.Looks.{follows_trans}
+use Rattle.shop_attempt.proofs.cited.Looks.{follows_trans}
 use Rattle.rival_tests.proofs.rivalled.add_unit.Goals as goal
 
 pub returns-in-Ready-clause-follows : goal.returns-in-Ready-clause-follows

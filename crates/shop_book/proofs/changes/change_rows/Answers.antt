@@ -1,13 +1,13 @@
 use Rattle.std.proofs.Common.{length, sym, ◌∙◌, subst, arith, get_or}
 use Rattle.shop_model.specs.rows.Empty.{no_tables}
 use Rattle.shop_book.specs.declared.watching.Watched.{Watched}
-use Rattle.shop_book.specs.Puts.{IdsFit}
+use Rattle.shop_book.specs.Readiness.{IdsFit}
 use Rattle.shop_book.specs.RowsNow.{tables_with}
 use Rattle.shop_book.specs.Stored.{stored}
 use Rattle.shop_book.specs.Watching.{keys_of}
-use Rattle.shop_book.proofs.Few.{FewMore, few_more}
+use Rattle.shop_book.proofs.Sizes.{FewMore, few_more}
 use Rattle.shop_book.proofs.Placed.{more_place, place_shown}
-use Rattle.shop_book.proofs.Raises.{raised_from}
+use Rattle.shop_book.proofs.WatchingLemmas.{raised_from}
 use Rattle.shop_book.proofs.changes.change_rows.Goals as goal
 
 pub grow-requires : goal.grow-requires

@@ -2,13 +2,13 @@ use Rattle.std.proofs.Common.{◌≡◌, List, take, sym, subst, arith}
 use Rattle.std.proofs.lemmas.List.{take_all}
 use Rattle.shop_history.specs.declared.keys.Key.{Key}
 use Rattle.shop_history.specs.Keys.{row_of}
-use Rattle.shop_history.proofs.Raising.{RaisedFor}
+use Rattle.shop_history.proofs.cited.Versions.{RaisedFor}
 use Rattle.shop_book.specs.declared.watching.Watched.{Watched}
 use Rattle.shop_book.specs.RowsNow.{tables_with}
 use Rattle.shop_book.specs.Stored.{stored}
 use Rattle.shop_book.specs.Watching.{keys_of, CanWatch}
 use Rattle.shop_book.proofs.Placed.{more_place}
-use Rattle.shop_book.proofs.Raises.{raised_more, keys_more}
+use Rattle.shop_book.proofs.WatchingLemmas.{raised_more, keys_more}
 use Rattle.shop_book.proofs.watching.raise_changed.Goals as goal
 
 pub raise_if_changed-requires-clause-watchable : goal.raise_if_changed-requires-clause-watchable

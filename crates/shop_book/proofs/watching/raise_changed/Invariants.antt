@@ -1,7 +1,7 @@
 use Rattle.std.proofs.Common.{take}
 use Rattle.shop_model.specs.declared.tables.Tables.{Tables}
 use Rattle.shop_book.specs.Stored.{stored, MorePlaces}
-use Rattle.shop_history.proofs.Raising.{RaisedFor}
+use Rattle.shop_history.proofs.cited.Versions.{RaisedFor}
 use Rattle.shop_book.specs.RowsNow.{tables_with}
 use Rattle.shop_book.specs.Watching.{AreOf, keys_of}
 use Rattle.shop_book.proofs.watching.raise_changed.Given as goal

@@ -1,47 +1,83 @@
-use Rattle.std.proofs.Common.{◌≡◌, List, suc, ◌+◌, sym, subst, arith}
+use Rattle.std.proofs.Common.{◌+◌, List, [], ◌∷◌, Some, sym, ◌∙◌, subst}
+use Rattle.shop_attempt.specs.declared.attempts.Attempt.{Attempt}
 use Rattle.shop_attempt.specs.declared.attempts.ReadOf.{ReadOf}
-use Rattle.shop_attempt.proofs.Marks.{looks_then}
-use Rattle.shop_browse.specs.Attempts.{AttemptedAs, asking_of}
-use Rattle.shop_browse.specs.Driver.{IsNext, AsksFor}
-use Rattle.shop_browse.proofs.DriverLemmas.{has_more, decided}
+use Rattle.shop_attempt.proofs.cited.Marks.{looks_then}
+use Rattle.shop_browse.specs.declared.driver.Next.TheVariants.{ReadOne, Read, Show, Change, Never}
+use Rattle.shop_browse.specs.Attempts.{IsReady, IsContradiction, asking_of}
+use Rattle.shop_browse.proofs.DriverLemmas.{HasGone, one_round, next_is, showed, changed, never_shown}
 use Rattle.shop_browse.proofs.driver.drive.Goals as goal
+use Rattle.shop_browse.proofs.driver.drive.Goals.{in-ReadOne+in_ok-read_one-in-ReadOne, in-Read+in_ok-read_all-in-Read}
+
+pub returns-in_err-read_one-in-ReadOne-clause-looks : goal.returns-in_err-read_one-in-ReadOne-clause-looks
+returns-in_err-read_one-in-ReadOne-clause-looks g c = looks_then c.loop-round.invariant.gone.looks c.read_one.ensures.looks
 
 pub returns-in_err-read_all-in-Read-clause-looks : goal.returns-in_err-read_all-in-Read-clause-looks
-returns-in_err-read_all-in-Read-clause-looks g c = looks_then c.loop-round.invariant.looks c.read_all.ensures.looks
+returns-in_err-read_all-in-Read-clause-looks g c = looks_then c.loop-round.invariant.gone.looks c.read_all.ensures.looks
 
-pub returns-in_default : goal.returns-in_default
-returns-in_default g c =
-    let i = g.I.Interaction in
-    let self = c.args.interaction.now in
+pub returns-in-Show-clause-attempted : goal.returns-in-Show-clause-attempted
+returns-in-Show-clause-attempted g c =
     let ask = c.args.ask.now in
+    let follows = g.I.Interaction.follows c.next.new.self ask in
+    let request = g.I.Interaction.request c.args.interaction in
     let start = g.St.Store.seat c.args.store.now in
     let now = g.St.Store.seat c.loop-round.store in
+    let reads = c.loop-round.reads.items in
     let draft = c.next.new.draft in
-    let next = subst (λ (l : List ReadOf). IsNext (i.follows self ask) (i.request self) ask c.loop-round.round l draft c.in_ok-next.next) c.deref.ensures.value c.in_ok-next.ensures.next in
-    record {
-      looks = c.loop-round.invariant.looks;
-      attempted = subst (AttemptedAs start now (asking_of ask (i.request self)) draft) (sym c.attempted.ensures)
-          (decided start now (i.follows self ask) (i.request self) ask c.loop-round.round c.loop-round.reads.items draft c.in_ok-next.next c.loop-round.invariant.has next);
-    }
+    let next = next_is follows _ request ask c.loop-round.round reads _ draft _ Show (c.next.ensures.same ∙ c.loop-round.invariant.same) c.deref.ensures.value c.in-Show.is c.in_ok-key.ensures.next in
+    subst (IsReady start now (asking_of ask request) draft) (sym c.looked.ensures) (showed start now follows request ask c.loop-round.round reads draft c.loop-round.invariant.gone.has next)
+
+pub returns-in-Change-clause-attempted : goal.returns-in-Change-clause-attempted
+returns-in-Change-clause-attempted g c =
+    let ask = c.args.ask.now in
+    let follows = g.I.Interaction.follows c.next.new.self ask in
+    let request = g.I.Interaction.request c.args.interaction in
+    let start = g.St.Store.seat c.args.store.now in
+    let now = g.St.Store.seat c.loop-round.store in
+    let reads = c.loop-round.reads.items in
+    let draft = c.next.new.draft in
+    let act = c.in-Change.act in
+    let writes = c.in-Change.writes in
+    let next = next_is follows _ request ask c.loop-round.round reads _ draft _ (Change act writes) (c.next.ensures.same ∙ c.loop-round.invariant.same) c.deref.ensures.value c.in-Change.is c.in_ok-key.ensures.next in
+    subst (λ (a : Attempt). IsReady start now (asking_of ask request) draft (record a { writes = Some writes; act = Some act })) (sym c.looked-in-Change.ensures)
+    (changed start now follows request ask c.loop-round.round reads draft act writes c.loop-round.invariant.gone.has next)
+
+pub returns-in-Never-clause-attempted : goal.returns-in-Never-clause-attempted
+returns-in-Never-clause-attempted g c =
+    let ask = c.args.ask.now in
+    let follows = g.I.Interaction.follows c.next.new.self ask in
+    let request = g.I.Interaction.request c.args.interaction in
+    let start = g.St.Store.seat c.args.store.now in
+    let now = g.St.Store.seat c.loop-round.store in
+    let reads = c.loop-round.reads.items in
+    let draft = c.next.new.draft in
+    let next = next_is follows _ request ask c.loop-round.round reads _ draft _ Never (c.next.ensures.same ∙ c.loop-round.invariant.same) c.deref.ensures.value c.in-Never.is c.in_ok-key.ensures.next in
+    subst (IsContradiction start now (asking_of ask request)) (sym c.looked-in-Never.ensures) (never_shown start now follows request ask c.loop-round.round reads draft c.loop-round.invariant.gone.has next)
 
 pub loop-round-preserved : goal.loop-round-preserved
 loop-round-preserved g c =
-    let i = g.I.Interaction in
-    let self = c.args.interaction.now in
+    let seat = g.St.Store.seat in
+    let marked = g.St.Store.marked in
     let ask = c.args.ask.now in
+    let follows = g.I.Interaction.follows c.next.new.self ask in
+    let request = g.I.Interaction.request c.args.interaction in
+    let first = c.args.store.now in
+    let old = c.loop-round.store in
     let round = c.loop-round.round in
     let reads = c.loop-round.reads.items in
-    let so_far = c.loop-round.invariant in
-    let asks : AsksFor (i.follows self ask) (i.request self) ask round reads c.in-Read.keys
-    = subst (IsNext (i.follows self ask) (i.request self) ask round reads c.next.new.draft) c.in-Read.is
-    (subst (λ (l : List ReadOf). IsNext (i.follows self ask) (i.request self) ask round l c.next.new.draft c.in_ok-next.next) c.deref.ensures.value c.in_ok-next.ensures.next) in
-    let more = has_more _ _ _ (i.follows self ask) (i.request self) ask round reads c.read_all.new.reads.items c.in-Read.keys
-    so_far.looks.looked c.read_all.ensures.looks.looked so_far.has asks c.in_ok-read_all-in-Read.ensures.reads in
-    let few = asks.few in
-    let next : suc round ≡ round + 1 = omega arith in
+    let draft = c.next.new.draft in
+    let same = c.next.ensures.same ∙ c.loop-round.invariant.same in
     record {
-      looks = looks_then so_far.looks c.read_all.ensures.looks;
-      has = more.0;
-      few = omega (arith, few);
-      follows = subst (λ n. i.follows self ask n c.read_all.new.reads.items) next more.1;
+      gone = elim c.match-branch-3.branch as (λ _. HasGone seat marked first c.match-branch-3.store follows request ask (round + 1) c.match-branch-3.reads.items) [
+        | in-ReadOne+in_ok-read_one-in-ReadOne w ↦
+            let next = next_is follows _ request ask round reads _ draft _ (ReadOne w.in-ReadOne.key) same c.deref.ensures.value w.in-ReadOne.is c.in_ok-key.ensures.next in
+            rw (w.store-is, w.reads-is)
+            (one_round seat marked first old w.read_one.new.store _ follows request ask round reads w.read_one.new.reads.items (w.in-ReadOne.key ∷ []) c.loop-round.invariant.gone next
+            w.read_one.ensures.looks w.in_ok-read_one-in-ReadOne.ensures.reads)
+        | in-Read+in_ok-read_all-in-Read w ↦
+            let next = next_is follows _ request ask round reads _ draft _ (Read w.in-Read.keys) same c.deref.ensures.value w.in-Read.is c.in_ok-key.ensures.next in
+            rw (w.store-is, w.reads-is)
+            (one_round seat marked first old w.read_all.new.store _ follows request ask round reads w.read_all.new.reads.items w.in-Read.keys c.loop-round.invariant.gone next
+            w.read_all.ensures.looks w.in_ok-read_all-in-Read.ensures.reads)
+      ];
+      same = same;
     }

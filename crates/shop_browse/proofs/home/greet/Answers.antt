@@ -2,7 +2,7 @@ use Rattle.std.proofs.lemmas.Result.{IfOk-weaker}
 use Rattle.shop_model.specs.declared.refusal.Refusal.TheVariants.{NoCustomer}
 use Rattle.shop_model.specs.declared.requests.Request.TheVariants.{Home}
 use Rattle.shop_model.specs.asked.Refusals.{page_of}
-use Rattle.shop_browse.proofs.DriverLemmas.{shows_page}
+use Rattle.shop_browse.proofs.cited.Reads.{shows_page}
 use Rattle.shop_browse.proofs.HomeLemmas.{known_next, none_known}
 use Rattle.shop_browse.proofs.home.greet.Goals as goal
 

@@ -4,7 +4,7 @@ use Rattle.shop_model.specs.pages.PageText.{block_line}
 use Rattle.shop_model.specs.pages.Home.{greetings}
 use Rattle.shop_model.specs.pages.Targets.{nav}
 use Rattle.shop_draft.specs.Drawing.{ids_at}
-use Rattle.shop_draft.proofs.PageTexts.{two, written}
+use Rattle.shop_draft.proofs.cited.PageTexts.{two, written}
 use Rattle.shop_browse.specs.Home.{home_in}
 use Rattle.shop_browse.specs.Labels.{promoted_in}
 use Rattle.shop_browse.proofs.HomeLemmas.{four_parts}

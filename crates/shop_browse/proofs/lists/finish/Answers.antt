@@ -1,4 +1,4 @@
-use Rattle.shop_draft.proofs.PageTexts.{three}
+use Rattle.shop_draft.proofs.cited.PageTexts.{three}
 use Rattle.shop_browse.proofs.lists.finish.Goals as goal
 
 pub returns : goal.returns

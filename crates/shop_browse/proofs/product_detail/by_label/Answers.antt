@@ -3,7 +3,8 @@ use Rattle.shop_model.specs.declared.requests.Request.TheVariants.{ProductDetail
 use Rattle.shop_model.specs.pages.ProductDetail.{product_page}
 use Rattle.shop_model.specs.asked.Refusals.{page_of}
 use Rattle.shop_browse.specs.ProductDetail.{named}
-use Rattle.shop_browse.proofs.DriverLemmas.{shows_page, with_ids}
+use Rattle.shop_browse.proofs.cited.Reads.{shows_page}
+use Rattle.shop_browse.proofs.DriverLemmas.{with_ids}
 use Rattle.shop_browse.proofs.ProductDetailLemmas.{none_shown, product_shown}
 use Rattle.shop_browse.proofs.product_detail.by_label.Goals as goal
 

@@ -2,7 +2,7 @@ use Rattle.std.proofs.Common.{refl, codes, decimal}
 use Rattle.shop_text.specs.Texts.{cents_text}
 use Rattle.shop_model.specs.pages.PageText.{block_text}
 use Rattle.shop_model.specs.pages.ProductDetail.{price_line}
-use Rattle.shop_draft.proofs.PageTexts.{three_values}
+use Rattle.shop_draft.proofs.cited.PageTexts.{three_values}
 use Rattle.shop_browse.proofs.product_detail.price_line.Goals as goal
 
 pub returns : goal.returns

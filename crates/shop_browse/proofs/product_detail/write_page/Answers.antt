@@ -3,7 +3,7 @@ use Rattle.shop_model.specs.pages.PageText.{block_line}
 use Rattle.shop_model.specs.pages.ProductDetail.{product_page, details}
 use Rattle.shop_model.specs.pages.Targets.{nav}
 use Rattle.shop_draft.specs.Drawing.{ids_at}
-use Rattle.shop_draft.proofs.PageTexts.{five, both, written}
+use Rattle.shop_draft.proofs.cited.PageTexts.{five, both, written}
 use Rattle.shop_browse.specs.ProductDetail.{named}
 use Rattle.shop_browse.proofs.product_detail.write_page.Goals as goal
 

@@ -3,7 +3,7 @@ use Rattle.shop_model.specs.pages.PageText.{block_line}
 use Rattle.shop_model.specs.pages.SearchRequest.{search_form}
 use Rattle.shop_model.specs.pages.Targets.{nav}
 use Rattle.shop_draft.specs.Drawing.{ids_at}
-use Rattle.shop_draft.proofs.PageTexts.{two, both, written}
+use Rattle.shop_draft.proofs.cited.PageTexts.{two, both, written}
 use Rattle.shop_browse.specs.Labels.{promoted_in}
 use Rattle.shop_browse.specs.SearchRequest.{search_in}
 use Rattle.shop_browse.proofs.search_request.write_page.Goals as goal

@@ -1,6 +1,6 @@
 use Rattle.std.proofs.Common.{◌≡◌, refl, arith, [], ◌+◌, ◌==◌, length, ap, ◌∙◌}
-use Rattle.shop_attempt.proofs.Marks.{keeps_self, keeps_then}
-use Rattle.shop_edges.proofs.Known.{Consumes-nothing}
+use Rattle.shop_attempt.proofs.cited.Marks.{keeps_self, keeps_then}
+use Rattle.shop_edges.proofs.cited.Known.{Consumes-nothing}
 use Rattle.shop_engine.proofs.ConnectionLemmas.{nothing_met, nothing_begun, still_standing, one_point, SoFar-message, Served-closed, Served-inside, Served-broken, Served-memory, Served-spent, Served-message, Served-refusal}
 use Rattle.shop_engine.specs.Steps.{ANSWERS}
 use Rattle.shop_engine.proofs.serve.serve_all.Goals as goal

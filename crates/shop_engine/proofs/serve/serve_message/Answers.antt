@@ -1,7 +1,7 @@
 use Rattle.std.proofs.Common.{subst}
 use Rattle.shop_history.specs.Lawful.{IsLawful}
 use Rattle.shop_engine.specs.Workers.{WorkerState}
-use Rattle.shop_engine.proofs.Answering.{lawful}
+use Rattle.shop_engine.proofs.Steps.{lawful}
 use Rattle.shop_engine.proofs.serve.serve_message.Goals as goal
 
 pub returns-clause-lawful : goal.returns-clause-lawful

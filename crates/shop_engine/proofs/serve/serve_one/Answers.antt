@@ -1,6 +1,6 @@
 use Rattle.std.proofs.Common.{List, [], ◌∷◌, ◌++◌, ◌∙◌, ap}
 use Rattle.shop_engine.specs.declared.report.Point.{Point}
-use Rattle.shop_engine.proofs.Answering.{adds_point}
+use Rattle.shop_engine.proofs.Steps.{adds_point}
 use Rattle.shop_engine.proofs.serve.serve_one.Goals as goal
 
 pub returns-then-message-clause-message : goal.returns-then-message-clause-message

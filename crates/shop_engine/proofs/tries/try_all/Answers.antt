@@ -1,5 +1,5 @@
 use Rattle.std.proofs.Common.{rules, arith}
-use Rattle.shop_engine.proofs.Retrying.{met_more, answer_from, again_within, tried_within, busy_is}
+use Rattle.shop_engine.proofs.Conflicts.{met_more, answer_from, again_within, tried_within, busy_is}
 use Rattle.shop_engine.proofs.tries.try_all.Goals as goal
 
 pub loop-tried-preserved : goal.loop-tried-preserved

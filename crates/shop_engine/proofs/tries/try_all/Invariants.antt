@@ -1,5 +1,5 @@
 use Rattle.shop_attempt.specs.Marks.{KeepsMarks}
-use Rattle.shop_engine.proofs.Retrying.{MetSoFar}
+use Rattle.shop_engine.proofs.Conflicts.{MetSoFar}
 use Rattle.shop_engine.proofs.tries.try_all.Given as goal
 
 -- so far each try met a conflict

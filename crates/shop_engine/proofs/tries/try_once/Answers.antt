@@ -1,4 +1,4 @@
-use Rattle.shop_engine.proofs.Trying.{shown_is, changed_is, full_is, again_is, not_taken, no_room, never_else}
+use Rattle.shop_engine.proofs.TriesLemmas.{shown_is, changed_is, full_is, again_is, not_taken, no_room, never_else}
 use Rattle.std.proofs.Common.{sym, ◌∙◌, subst}
 use Rattle.shop_draft.specs.Pages.{IsPage}
 use Rattle.shop_engine.proofs.tries.try_once.Goals as goal

@@ -1,7 +1,7 @@
 use Rattle.std.proofs.Common.{refl}
 use Rattle.shop_model.specs.pages.ShoppingCart.{cart_page}
 use Rattle.shop_draft.specs.Drawing.{id_at, ids_at}
-use Rattle.shop_draft.proofs.PageTexts.{six, written}
+use Rattle.shop_draft.proofs.cited.PageTexts.{six, written}
 use Rattle.shop_order.proofs.page.write_cart.Goals as goal
 
 pub returns : goal.returns

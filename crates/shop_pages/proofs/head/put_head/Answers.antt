@@ -6,11 +6,9 @@ pub returns-clause-bytes : goal.returns-clause-bytes
 unfolding reply_head
 returns-clause-bytes c =
     rw (
-      c.put-5.ensures.bytes,
-      c.put-4.ensures.bytes,
-      c.close_line.ensures.value,
       c.put-3.ensures.bytes,
-      c.allow_line.ensures.value,
+      c.put_close_line.ensures.bytes,
+      c.put_allow_line.ensures.bytes,
       c.put-2.ensures.bytes,
       c.put_decimal.ensures.bytes,
       c.put.ensures.bytes,

@@ -1,5 +1,5 @@
 use Rattle.std.proofs.Common.{◌∙◌, arith, rules}
-use Rattle.shop_model.proofs.LastOrders.{lasts_more, place_within, none_yet}
+use Rattle.shop_model.proofs.cited.LastOrders.{lasts_more, place_within, none_yet}
 use Rattle.shop_populate.proofs.last_orders.last_orders_table.Goals as goal
 
 pub index_mut-requires : goal.index_mut-requires

@@ -1,6 +1,6 @@
 use Rattle.shop_model.specs.population.Population as spec
-use Rattle.shop_model.proofs.Lists.{row_at}
-use Rattle.shop_model.proofs.Scales.{is_roomy}
+use Rattle.shop_model.proofs.cited.Lists.{row_at}
+use Rattle.shop_model.proofs.cited.Scales.{is_roomy}
 use Rattle.shop_populate.proofs.RowFacts.{address_exists}
 use Rattle.shop_populate.proofs.lookups.customer_at.Goals as goal
 

@@ -1,7 +1,7 @@
 use Rattle.std.proofs.Common.{◌≡◌, ◌-◌, sym, arith, rules, ap, ◌∙◌, map, length, true, false}
 use Rattle.shop_model.specs.rows.Limits.{list_limit}
 use Rattle.shop_model.specs.lists.Rankings.{better, best, sales}
-use Rattle.shop_ranking.proofs.Order.{better_in_order}
+use Rattle.shop_ranking.proofs.cited.Order.{better_in_order}
 use Rattle.shop_ranking.proofs.Places.{top_none, top_more}
 use Rattle.shop_ranking.proofs.Lists.{no_sales, sale_of, sales_more, sales_same, best_is, id_known, sale_known, is_sold}
 use Rattle.shop_ranking.proofs.best_sellers.best.Goals as goal

@@ -1,4 +1,4 @@
-use Rattle.shop_text.proofs.Plain.{plain_more}
+use Rattle.shop_text.proofs.cited.Plain.{plain_more}
 use Rattle.shop_text.proofs.caption.is_plain.Goals as goal
 
 pub loop-byte-preserved : goal.loop-byte-preserved

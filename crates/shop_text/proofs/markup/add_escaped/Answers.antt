@@ -1,5 +1,5 @@
 use Rattle.std.proofs.Common.{arith, ◌++◌, List, ℕ, ap, ◌∙◌}
-use Rattle.shop_text.proofs.Escapes.{plain_step, entity_step}
+use Rattle.shop_text.proofs.cited.Escapes.{plain_step, entity_step}
 use Rattle.shop_text.proofs.Extends.{Extends-append}
 use Rattle.shop_text.proofs.markup.add_escaped.Goals as goal
 use Rattle.shop_text.proofs.markup.add_escaped.Goals.{in-Some+in_ok-push+in_ok-push-2, in_default}

@@ -3,7 +3,7 @@ use Rattle.shop_model.specs.declared.tables.Tables.{Tables}
 use Rattle.shop_attempt.specs.Writes.{written}
 use Rattle.shop_history.specs.declared.acts.Entry.{Entry}
 use Rattle.shop_history.specs.Drawing.{new_ids}
-use Rattle.shop_history.proofs.Raising.{RaisedFor}
+use Rattle.shop_history.proofs.cited.Versions.{RaisedFor}
 use Rattle.shop_book.specs.declared.watching.Watched.{Watched}
 use Rattle.shop_book.specs.Books.{tables_of}
 use Rattle.shop_book.specs.BookView.{book_of}
@@ -12,7 +12,7 @@ use Rattle.shop_book.specs.RowsNow.{tables_with, HasRoom}
 use Rattle.shop_book.specs.Stored as versioned
 use Rattle.shop_book.specs.Stored.{stored}
 use Rattle.shop_book.specs.Watching.{AreOf, IsWatchable, keys_of}
-use Rattle.shop_book.proofs.Changing.{next, cart_fits, kept_roomy, ready, kept_after}
+use Rattle.shop_book.proofs.ChangesLemmas.{next, cart_fits, kept_roomy, ready, kept_after}
 use Rattle.shop_book.proofs.book.Book.change.Goals as goal
 
 pub watch-requires : goal.watch-requires

@@ -1,5 +1,5 @@
 use Rattle.shop_book.specs.BookView.{book_of}
-use Rattle.shop_book.proofs.Kept.{auth_is}
+use Rattle.shop_book.proofs.Keeping.{auth_is}
 use Rattle.shop_book.proofs.book.Book.has_auth.Goals as goal
 
 pub returns-clause-value : goal.returns-clause-value

@@ -2,7 +2,7 @@ use Rattle.std.proofs.Common.{List, sym, subst}
 use Rattle.shop_history.specs.declared.acts.Entry.{Entry}
 use Rattle.shop_book.specs.declared.opening.Opening.{Opening}
 use Rattle.shop_book.specs.Keeping.{IsKept}
-use Rattle.shop_book.proofs.Kept.{first_kept}
+use Rattle.shop_book.proofs.Keeping.{first_kept}
 use Rattle.shop_book.proofs.book.Book.open.Goals as goal
 
 pub invariant_of-result : goal.invariant_of-result

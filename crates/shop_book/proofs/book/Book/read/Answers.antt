@@ -3,7 +3,7 @@ use Rattle.shop_model.specs.declared.tables.Tables.{Tables}
 use Rattle.shop_history.specs.Keys.{row_of}
 use Rattle.shop_book.specs.BookView.{book_of}
 use Rattle.shop_book.specs.Laws.{IsGoodThroughout}
-use Rattle.shop_book.proofs.Kept.{sound_now, lists_now}
+use Rattle.shop_book.proofs.Keeping.{sound_now, lists_now}
 use Rattle.shop_book.proofs.Laws.{version_shortest, good_throughout}
 use Rattle.shop_book.proofs.book.Book.read.Goals as goal
 

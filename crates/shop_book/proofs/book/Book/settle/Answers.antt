@@ -1,7 +1,7 @@
 use Rattle.std.proofs.Common.{◌≡◌, ◌<◌, ◌≤◌, ◌∙◌, length, Some, None, is_some, ap, sym, refl, arith}
 use Rattle.shop_model.specs.rows.Limits.{stamp_limit}
 use Rattle.shop_attempt.specs.Reads.{first_stale}
-use Rattle.shop_attempt.proofs.Hinge.{overtaken, makes_now}
+use Rattle.shop_attempt.proofs.cited.Settles.{overtaken, makes_now}
 use Rattle.shop_book.proofs.book.Book.settle.Goals as goal
 
 pub returns-in-Some-clause-settled : goal.returns-in-Some-clause-settled

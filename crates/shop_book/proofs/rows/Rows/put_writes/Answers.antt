@@ -2,8 +2,8 @@ use Rattle.std.proofs.Common.{◌≡◌, ◌∷◌, length, ap, ◌∙◌, subst
 use Rattle.std.specs.Vec.Iter.{into_iter_items}
 use Rattle.shop_attempt.specs.Writes.{written}
 use Rattle.shop_book.specs.RowsNow.{tables_with}
-use Rattle.shop_book.specs.Puts.{IdsFit}
-use Rattle.shop_book.proofs.Puts.{first_fits, room_one}
+use Rattle.shop_book.specs.Readiness.{IdsFit}
+use Rattle.shop_book.proofs.Readiness.{first_fits, room_one}
 use Rattle.shop_book.proofs.rows.Rows.put_writes.Goals as goal
 
 pub put_write-requires : goal.put_write-requires

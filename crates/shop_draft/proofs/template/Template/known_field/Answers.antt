@@ -1,6 +1,6 @@
 use Rattle.std.proofs.Common.{codes}
 use Rattle.shop_model.specs.pages.PageText.{field_text}
-use Rattle.shop_draft.proofs.PageTexts.{named_field}
+use Rattle.shop_draft.proofs.cited.PageTexts.{named_field}
 use Rattle.shop_draft.proofs.template.Template.known_field.Goals as goal
 
 pub returns : goal.returns

@@ -1,6 +1,6 @@
 use Rattle.std.proofs.Common.{codes, decimal, refl}
 use Rattle.shop_model.specs.pages.PageText.{field_text}
-use Rattle.shop_draft.proofs.PageTexts.{counted_field}
+use Rattle.shop_draft.proofs.cited.PageTexts.{counted_field}
 use Rattle.shop_draft.proofs.template.Template.line_field.Goals as goal
 
 pub returns : goal.returns

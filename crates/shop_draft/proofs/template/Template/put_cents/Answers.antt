@@ -1,5 +1,5 @@
 use Rattle.std.proofs.Common.{◌≡◌, ◌/◌, decimal, rules, arith, append_assoc}
-use Rattle.shop_text.proofs.Plain.{plain_cents}
+use Rattle.shop_text.proofs.cited.Plain.{plain_cents}
 use Rattle.shop_draft.proofs.template.Template.put_cents.Goals as goal
 
 pub returns : goal.returns

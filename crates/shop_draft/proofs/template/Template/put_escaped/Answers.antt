@@ -1,5 +1,5 @@
 use Rattle.std.proofs.Common.{◌∙◌, ◌++◌, List, ℕ, ap, arith}
-use Rattle.shop_text.proofs.Escapes.{plain_step, entity_step}
+use Rattle.shop_text.proofs.cited.Escapes.{plain_step, entity_step}
 use Rattle.shop_draft.proofs.template.Template.put_escaped.Goals as goal
 use Rattle.shop_draft.proofs.template.Template.put_escaped.Goals.{in-Some+in_ok-put+in_ok-put-2, in_default}
 

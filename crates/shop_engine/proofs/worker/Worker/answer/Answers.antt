@@ -1,5 +1,5 @@
 use Rattle.std.proofs.lemmas.Option.{IfSome_then}
-use Rattle.shop_engine.proofs.Answering.{answers_message}
+use Rattle.shop_engine.proofs.Steps.{answers_message}
 use Rattle.shop_engine.proofs.ConnectionLemmas.{nothing_begun, left_alone, still_standing}
 use Rattle.shop_engine.proofs.worker.Worker.answer.Goals as goal
 

@@ -1,5 +1,5 @@
 use Rattle.std.proofs.Common.{refl, ◌∙◌}
-use Rattle.shop_engine.proofs.Answering.{answers_is, still_posted}
+use Rattle.shop_engine.proofs.Steps.{answers_is, still_posted}
 use Rattle.shop_engine.proofs.worker.Worker.answer_request.Goals as goal
 
 pub invariant_of-self-2 : goal.invariant_of-self-2

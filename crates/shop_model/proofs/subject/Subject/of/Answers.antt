@@ -6,6 +6,6 @@ use Rattle.shop_model.proofs.subject.Subject.of.Goals as goal
 
 pub loop-rest-preserved : goal.loop-rest-preserved
 loop-rest-preserved c =
-    let fails = rw c.name.ensures at (sym c.eq.ensures ∙ c.if-eq.false) in
+    let fails = rw c.name.ensures.name at (sym c.eq.ensures ∙ c.if-eq.false) in
     c.loop-rest.invariant
     ∙ find_behind (λ s. bytes_eq (subject_name s) c.args.name.now) _ c.loop-rest.rest.now c.in-len1-up.len_at_least fails

@@ -1,0 +1,4 @@
+pub mod Settles
+pub mod Looks
+pub mod Marks
+pub mod Writes

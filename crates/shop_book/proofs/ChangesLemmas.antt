@@ -1,0 +1,133 @@
+-- What a change makes of a book.
+use Rattle.std.proofs.Common.{◌≡◌, ℕ, suc, ◌+◌, ◌-◌, ◌^◌, ◌<◌, ◌≤◌, List, [], ◌∷◌, ◌++◌, length, Contains, ◌⊎◌, ⊎_elim, sym, ◌∙◌, ap, subst, arith, length-append}
+use Rattle.std.proofs.lemmas.Bool.{cases_eq, eq-eqb, ne_eqb, cond-true, cond-false}
+use Rattle.std.proofs.lemmas.List.Elements.{All-weaker, All-push}
+use Rattle.shop_log.specs.Histories.Legal.{push}
+use Rattle.shop_model.specs.declared.tables.Tables.{Tables}
+use Rattle.shop_history.specs.declared.acts.Entry.{Entry}
+use Rattle.shop_history.specs.declared.keys.Key.{Key}
+use Rattle.shop_history.specs.Acts.{play, IsInForm}
+use Rattle.shop_history.specs.Keys.{row_of}
+use Rattle.shop_history.specs.Logs.{entries_of, MayFollow, IsGood}
+use Rattle.shop_history.specs.MayChange.{may_change}
+use Rattle.shop_history.proofs.cited.GoodTables.{good_log, good_after}
+use Rattle.shop_history.proofs.cited.MayChange.{frame}
+use Rattle.shop_history.proofs.cited.Versions.{RaisedFor, versions_after}
+use Rattle.shop_history.proofs.cited.Rows.{tables_push}
+use Rattle.shop_attempt.specs.declared.attempts.Write.{Write}
+use Rattle.shop_attempt.specs.Writes.{written}
+use Rattle.shop_book.specs.declared.counts.Counts.{Counts}
+use Rattle.shop_book.specs.declared.rows.Rows.{Rows}
+use Rattle.shop_book.specs.declared.versions.Versions.{Versions}
+use Rattle.shop_book.specs.Books.{BookValue, IsBook, tables_of}
+use Rattle.shop_book.specs.Counted.{count_in, with_count}
+use Rattle.shop_book.specs.Keeping.{IsKept}
+use Rattle.shop_book.specs.Readiness.{IdsFit, AreReady}
+use Rattle.shop_book.specs.RowsNow.{tables_with, HasRoom}
+use Rattle.shop_book.specs.Settles.{IsNext}
+use Rattle.shop_book.specs.Stored.{stored, HasPlaces, MorePlaces}
+use Rattle.shop_book.proofs.Callers.{entries_mine, entries_theirs}
+use Rattle.shop_book.proofs.Readiness.{are_ready}
+
+-- the book after an entry
+abbrev pub with_entry : BookValue → Entry → BookValue
+with_entry b entry = record { opening = b.opening; log = b.log ++ entry ∷ []; latest = entry.stamp }
+
+module _ (b now : BookValue) (is_book : IsBook b) (entry : Entry) (writes : List Write) (same_now : b ≡ now) (comes : IsNext now entry writes) where
+  pub next : IsNext b entry writes
+  next = subst (λ (v : BookValue). IsNext v entry writes) (sym same_now) comes
+
+  good_now : IsGood (tables_of b) (suc (b.opening.limit - length b.log))
+  good_now = subst (IsGood (tables_of b)) (omega (arith, next.left)) (good_log b.opening.tables (b.opening.limit + 1) is_book.opens.good b.log is_book.legal (omega (arith, next.left)))
+
+  -- one more cart fits
+  pub cart_fits : length (tables_of b).carts + 1 < 2 ^ 32
+  cart_fits = omega (arith, good_now.room_for.carts)
+
+  module _ (form : IsInForm entry.act) where
+    -- the ids of the rows after the writes fit
+    pub ids_fit : IdsFit (written (tables_of b) entry.stamp writes)
+    ids_fit =
+        let good : IsGood (play (tables_of b) entry.stamp entry.act).tables (b.opening.limit - length b.log) = good_after (tables_of b) entry (b.opening.limit - length b.log) next.bound form next.makes.passes good_now in
+        subst IdsFit (sym next.makes.tables_are) (grind (arith, good.room_for))
+
+    follows : MayFollow b.opening.tables b.log entry
+    follows = record {
+      stamps = All-weaker (λ (e : Entry). e.stamp ≤ b.latest) (λ (e : Entry). e.stamp ≤ entry.stamp) (λ e before. omega (arith, before, next.late)) b.log is_book.stamps;
+      bound = next.bound;
+      number = next.number;
+      form = form;
+      passes = next.makes.passes;
+    }
+
+    book_after : IsBook (with_entry b entry)
+    book_after = record {
+      opens = is_book.opens;
+      legal = push entry is_book.legal follows;
+      short = omega (arith, length-append b.log (entry ∷ []), next.left);
+      stamps = All-push (λ (e : Entry). e.stamp ≤ entry.stamp) b.log entry follows.stamps (omega arith);
+      bound = next.bound;
+    }
+
+    -- the tables after the entry are those that the writes make
+    pub tables_after : written (tables_of b) entry.stamp writes ≡ tables_of (with_entry b entry)
+    tables_after = next.makes.tables_are ∙ sym (tables_push b.opening.tables b.log entry)
+
+    -- a key that the act can't change shows what it showed
+    stays : (key : Key) → Contains (may_change (tables_of b) entry.act) key ⊎ (row_of (tables_of (with_entry b entry)) key ≡ row_of (tables_of b) key)
+    stays key = subst (λ (t : Tables). Contains (may_change (tables_of b) entry.act) key ⊎ (row_of t key ≡ row_of (tables_of b) key)) (sym (tables_push b.opening.tables b.log entry))
+        (frame (tables_of b) entry.stamp entry.act good_now.sound next.makes.passes key)
+
+    counts_after : (counts : ℕ → ℕ) → ((caller : ℕ) → counts caller ≡ length (entries_of caller b.log)) → (caller : ℕ)
+        → with_count counts entry.caller entry.number caller ≡ length (entries_of caller (b.log ++ entry ∷ []))
+    counts_after counts were caller = ⊎_elim
+        (λ (mine : entry.caller ≡ caller).
+        cond-true _ _ _ (eq-eqb entry.caller caller mine) ∙ next.number ∙ ap (λ n. length (entries_of n b.log) + 1) mine
+        ∙ sym (length-append (entries_of caller b.log) (entry ∷ [])) ∙ sym (ap length (entries_mine caller b.log entry (eq-eqb entry.caller caller mine))))
+        (λ (theirs : entry.caller ≡ caller → ⊥).
+        cond-false _ _ _ (ne_eqb entry.caller caller theirs) ∙ were caller ∙ sym (ap length (entries_theirs caller b.log entry (ne_eqb entry.caller caller theirs))))
+        (cases_eq entry.caller caller)
+
+    module _ (rows : Rows) (versions : Versions) (counts : Counts) (kept : IsKept b rows versions counts) where
+      fits_kept : IdsFit (written (tables_with b.opening.tables rows) entry.stamp writes)
+      fits_kept = subst (λ (t : Tables). IdsFit (written t entry.stamp writes)) (sym kept.rows_are) ids_fit
+
+      -- rows with room are the same rows
+      module _ (roomy : Rows) (same : tables_with b.opening.tables roomy ≡ tables_with b.opening.tables rows) where
+        pub ready : HasRoom roomy (length writes) → AreReady roomy entry.stamp writes
+        ready room = are_ready b.opening.tables roomy entry.stamp writes room (subst (λ (t : Tables). IdsFit (written t entry.stamp writes)) (sym same) fits_kept) next.bound
+
+        -- and what a change makes of them, and of the versions and counts with room
+        module _ (later : Rows) (wide raised : Versions) (counted : Counts)
+            (made : tables_with b.opening.tables later ≡ written (tables_with b.opening.tables roomy) entry.stamp writes) where
+          later_are : tables_with b.opening.tables later ≡ tables_of (with_entry b entry)
+          later_are = made ∙ ap (λ (t : Tables). written t entry.stamp writes) (same ∙ kept.rows_are) ∙ tables_after
+
+          pub kept_after : (keys : List Key) → keys ≡ may_change (tables_with b.opening.tables rows) entry.act → HasPlaces raised later → ((key : Key) → stored wide key ≡ stored versions key)
+              → RaisedFor (tables_with b.opening.tables roomy) (tables_with b.opening.tables later) (length b.log + 1) keys (stored wide) (stored raised)
+              → ((caller : ℕ) → count_in counted caller ≡ with_count (count_in counts) entry.caller entry.number caller)
+              → IsKept (with_entry b entry) later raised counted
+          kept_after keys are places same_versions rises counts_are = record {
+            is_book = book_after;
+            rows_are = later_are;
+            places = places;
+            versions_are =
+                versions_after b.opening.tables b.log entry (may_change (tables_of b) entry.act) (stored wide) (stored raised) (λ key. same_versions key ∙ kept.versions_are key)
+                (subst (λ (t : Tables). RaisedFor (tables_of b) t (length b.log + 1) (may_change (tables_of b) entry.act) (stored wide) (stored raised)) later_are
+                (subst (λ (t : Tables). RaisedFor t (tables_with b.opening.tables later) (length b.log + 1) (may_change (tables_of b) entry.act) (stored wide) (stored raised)) (same ∙ kept.rows_are)
+                (subst (λ (ks : List Key). RaisedFor (tables_with b.opening.tables roomy) (tables_with b.opening.tables later) (length b.log + 1) ks (stored wide) (stored raised)) (are ∙ ap (λ (t : Tables). may_change t entry.act) kept.rows_are) rises)))
+                stays;
+            counts_are = λ caller. counts_are caller ∙ counts_after (count_in counts) kept.counts_are caller;
+          }
+
+-- rows, versions and counts with more room are kept too
+pub kept_roomy : (b : BookValue) (rows roomy : Rows) (versions wide : Versions) (counts counted : Counts) → IsKept b rows versions counts → ((t : Tables) → tables_with t roomy ≡ tables_with t rows)
+    → ((key : Key) → stored wide key ≡ stored versions key) → MorePlaces versions wide → ((caller : ℕ) → count_in counted caller ≡ count_in counts caller) → IsKept b roomy wide counted
+kept_roomy b rows roomy versions wide counts counted kept same same_versions more same_counts =
+    record {
+      is_book = kept.is_book;
+      rows_are = same b.opening.tables ∙ kept.rows_are;
+      places = grind (arith, same b.opening.tables, kept.places, more);
+      versions_are = λ key. same_versions key ∙ kept.versions_are key;
+      counts_are = λ caller. same_counts caller ∙ kept.counts_are caller;
+    }

@@ -1,0 +1,54 @@
+-- What is kept of a log with no entries yet, and what the rows kept say of the tables now.
+use Rattle.std.proofs.Common.{◌≡◌, ℕ, ◌+◌, ◌-◌, ◌≤◌, Bool, List, [], length, sym, ◌∙◌, ap, subst, arith}
+use Rattle.std.specs.List.{list_any}
+use Rattle.std.specs.Str.{bytes_eq}
+use Rattle.std.proofs.lemmas.List.Elements.{All-nil}
+use Rattle.shop_log.specs.Histories.Legal.{nothing}
+use Rattle.shop_model.specs.declared.tables.Tables.{Tables}
+use Rattle.shop_model.specs.rows.Rows.{OrderRow}
+use Rattle.shop_model.specs.rows.Sound.{Sound}
+use Rattle.shop_history.specs.declared.acts.Entry.{Entry}
+use Rattle.shop_history.specs.declared.keys.Key.{Key}
+use Rattle.shop_history.specs.Logs.{IsGood}
+use Rattle.shop_history.proofs.cited.GoodTables.{good_log}
+use Rattle.shop_history.proofs.cited.KeptTables.{kept}
+use Rattle.shop_history.proofs.cited.Rows.{tables_nil, version_nil}
+use Rattle.shop_book.specs.declared.counts.Counts.{Counts}
+use Rattle.shop_book.specs.declared.opening.Opening.{Opening}
+use Rattle.shop_book.specs.declared.rows.Rows.{Rows}
+use Rattle.shop_book.specs.declared.versions.Versions.{Versions}
+use Rattle.shop_book.specs.Books.{BookValue, IsBook, tables_of}
+use Rattle.shop_book.specs.Counted.{count_in}
+use Rattle.shop_book.specs.Keeping.{IsKept}
+use Rattle.shop_book.specs.Openings.{IsOpening}
+use Rattle.shop_book.specs.RowsNow.{tables_with, SameLists}
+use Rattle.shop_book.specs.Stored.{stored, HasPlaces}
+use Rattle.shop_book.specs.Summaries.{has_auth}
+
+pub first_kept : (opening : Opening) (rows : Rows) (versions : Versions) (counts : Counts) → IsOpening opening → tables_with opening.tables rows ≡ opening.tables → HasPlaces versions rows
+    → ((key : Key) → stored versions key ≡ 0) → ((caller : ℕ) → count_in counts caller ≡ 0) → IsKept (record { opening = opening; log = []; latest = 0 }) rows versions counts
+first_kept opening rows versions counts opens copies places unchanged none = record {
+  is_book = record { opens = opens; legal = nothing; short = omega arith; stamps = All-nil (λ (e : Entry). e.stamp ≤ 0); bound = omega arith };
+  rows_are = copies ∙ sym (tables_nil opening.tables);
+  places = places;
+  versions_are = λ key. unchanged key ∙ sym (version_nil opening.tables key);
+  counts_are = none;
+}
+
+module _ (b : BookValue) (rows : Rows) (is_book : IsBook b) (rows_are : tables_with b.opening.tables rows ≡ tables_of b) where
+  pub good_now : IsGood (tables_of b) (b.opening.limit + 1 - length b.log)
+  good_now = good_log b.opening.tables (b.opening.limit + 1) is_book.opens.good b.log is_book.legal (omega (arith, is_book.short))
+
+  pub sound_now : Sound (tables_with b.opening.tables rows)
+  sound_now = subst Sound (sym rows_are) good_now.sound
+
+  -- no act changes items or orders yet
+  pub lists_now : SameLists b.opening.tables rows
+  lists_now = record {
+    items = ap (λ (t : Tables). t.items) rows_are ∙ (kept b.opening.tables b.log).items;
+    orders = ap (λ (t : Tables). t.orders) rows_are ∙ (kept b.opening.tables b.log).orders;
+  }
+
+  pub auth_is : (auth : List ℕ) (orders : List OrderRow) (found : Bool) → orders ≡ rows.orders.items → found ≡ list_any (λ o. bytes_eq o.card.auth auth) orders → found ≡ has_auth (tables_of b) auth
+  unfolding has_auth
+  auth_is auth orders found all is = is ∙ ap (list_any (λ (o : OrderRow). bytes_eq o.card.auth auth)) (all ∙ ap (λ (t : Tables). t.orders) rows_are)

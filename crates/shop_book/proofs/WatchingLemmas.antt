@@ -1,0 +1,62 @@
+-- What raising the version of a watched key does to the versions of all keys.
+use Rattle.std.proofs.Common.{◌≡◌, ◌≢◌, ℕ, ◌+◌, ◌<◌, List, [], ◌∷◌, ◌++◌, length, map, take, get_or, Contains, ◌⊎◌, inl, inr, ⊎_elim, sym, ◌∙◌, ap, subst}
+use Rattle.std.proofs.lemmas.List.{take_more, map-append}
+use Rattle.std.proofs.lemmas.List.Elements.{Contains-push_cases}
+use Rattle.shop_model.specs.declared.tables.Tables.{Tables}
+use Rattle.shop_history.specs.declared.keys.Key.{Key}
+use Rattle.shop_history.specs.contracts.keys.Key.{the_field}
+use Rattle.shop_history.specs.Keys.{row_of}
+use Rattle.shop_book.specs.declared.watching.Watched.{Watched}
+use Rattle.shop_history.proofs.cited.Versions.{RaisedFor}
+use Rattle.shop_history.specs.Same.{same}
+use Rattle.shop_book.specs.declared.rows.Rows.{Rows}
+use Rattle.shop_book.specs.declared.versions.Versions.{Versions}
+use Rattle.shop_book.specs.RowsNow.{tables_with}
+use Rattle.shop_book.specs.Stored.{stored}
+use Rattle.shop_book.specs.Watching.{keys_of, RaisesOne}
+use Rattle.shop_log.proofs.cited.Codes.{decided_by}
+
+key_cases : (one other : Key) → (one ≡ other) ⊎ (one ≢ other)
+key_cases one other =
+    elim (decided_by the_field.row.coded the_field.into the_field.into_one one other) as (λ _. (one ≡ other) ⊎ (one ≢ other)) [ yes is ↦ inl is | no apart ↦ inr apart ]
+
+-- versions that began as others
+pub raised_from : (before now : Tables) (number : ℕ) (keys : List Key) (old began new : Key → ℕ) → ((key : Key) → began key ≡ old key) → RaisedFor before now number keys began new → RaisedFor before now number keys old new
+raised_from before now number keys old began new same raised = record {
+  each = λ key. ⊎_elim (λ (stays : new key ≡ began key). inl (stays ∙ same key)) (λ differs. inr differs) (raised.each key);
+  all = raised.all;
+}
+
+-- one watched key more
+module _ (before t : Tables) (rows : Rows) (number : ℕ) (keys : List Key) (old : Key → ℕ) (mid next : Versions) (kept : Watched) (was : kept.row ≡ row_of before kept.key)
+    (one : RaisesOne rows number kept mid next) (raised : RaisedFor before (tables_with t rows) number keys old (stored mid)) where
+  abbrev Differs : Key → Type 0
+  Differs key = row_of (tables_with t rows) key ≢ row_of before key
+
+  -- a key whose version stayed
+  carried : (key : Key) → stored next key ≡ stored mid key → (stored next key ≡ old key) ⊎ (Differs key × (stored next key ≡ number))
+  carried key stays =
+      ⊎_elim (λ (same : stored mid key ≡ old key). inl (stays ∙ same)) (λ (rose : Differs key × (stored mid key ≡ number)). inr (rose.0, stays ∙ rose.1)) (raised.each key)
+
+  -- the key itself
+  itself : (key : Key) → key ≡ kept.key → (stored next key ≡ old key) ⊎ (Differs key × (stored next key ≡ number))
+  itself key is =
+      elim (same (row_of (tables_with t rows) kept.key) kept.row) as (λ _. (stored next key ≡ old key) ⊎ (Differs key × (stored next key ≡ number))) [
+        | yes shows ↦ carried key (ap (stored next) is ∙ one.same t shows ∙ sym (ap (stored mid) is))
+        | no differs ↦ inr (subst Differs (sym is) (λ equal. differs (equal ∙ sym was)), ap (stored next) is ∙ one.changed t differs)
+      ]
+
+  pub raised_more : RaisedFor before (tables_with t rows) number (keys ++ kept.key ∷ []) old (stored next)
+  raised_more = record {
+    each = λ key. ⊎_elim (itself key) (λ (apart : key ≢ kept.key). carried key (one.others key apart)) (key_cases key kept.key);
+    all = λ key has differs.
+        ⊎_elim (λ (is : key ≡ kept.key). ap (stored next) is ∙ one.changed t (λ shows. differs (ap (row_of (tables_with t rows)) is ∙ shows ∙ was ∙ sym (ap (row_of before) is))))
+        (λ (apart : key ≢ kept.key).
+        ⊎_elim (λ (seen : Contains keys key). one.others key apart ∙ raised.all key seen differs) (λ (is : kept.key ≡ key). absurd (apart (sym is))) (Contains-push_cases keys kept.key key has))
+        (key_cases key kept.key);
+  }
+
+-- the keys of one more
+pub keys_more : (watched : List Watched) (i : ℕ) (kept : Watched) → i < length watched → kept ≡ get_or watched i kept → keys_of (take (i + 1) watched) ≡ keys_of (take i watched) ++ kept.key ∷ []
+keys_more watched i kept within is =
+    ap (map (λ (w : Watched). w.key)) (take_more watched i kept within ∙ ap (λ (w : Watched). take i watched ++ w ∷ []) (sym is)) ∙ map-append (λ (w : Watched). w.key) (take i watched) (kept ∷ [])

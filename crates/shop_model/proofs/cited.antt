@@ -1,0 +1,4 @@
+pub mod Scales
+pub mod Lists
+pub mod SetLines
+pub mod LastOrders
