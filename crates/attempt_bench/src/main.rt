@@ -1,15 +1,14 @@
-//! Makes attempts at a request over a shop that one caller has, one after another, and prints how
-//! many were done.
+//! Makes attempts at requests over a shop that one caller has, one after another, and prints how many
+//! were done, and how many rows they read.
 //!
 //! The words are NAME COUNT, and then ITEMS EBS for a larger scale than the desk's. NAME is the path
-//! of an interaction without its slash.
+//! of an interaction without its slash, or `all` for each in turn.
 #![tactic(auto)]
 
 mod runs;
-#[cfg(test)]
-mod tests;
 
-use runs::{Shop, run};
+use anyhow::{Context, Result};
+use runs::{Shop, Told, run};
 use shop_model::{
     BestSellers, CartRequest, Home, IdsAsked, NewProducts, ProductDetail, Request, Scale,
     SearchKind, SearchRequest, SearchResults, Subject,
@@ -18,12 +17,22 @@ use shop_text::{Listed, Memory, Text};
 use std::alloc::Global;
 use std::env::{self, Env};
 use std::io;
-use std::process::ExitCode;
 
-/// What is to be run.
+/// The paths of the interactions, without their slashes.
+const NAMES: [&str; 7] = [
+    "home",
+    "new_products",
+    "best_sellers",
+    "product_detail",
+    "search_request",
+    "search_results",
+    "shopping_cart",
+];
+
+/// What is to be run: so many attempts at each interaction whose name this is, at this scale.
 #[derive(Drop)]
 struct Asked {
-    request: Request,
+    name: String,
     count: u32,
     scale: Scale,
 }
@@ -71,6 +80,11 @@ fn scale_of(numbers: &[u32]) -> Option<Scale> {
     }
 }
 
+/// Whether it is the name of an interaction, or of all.
+fn is_known(name: &str) -> bool {
+    name == "all" || NAMES.iter().any(|known| *known == name)
+}
+
 /// What the words ask for, or none where they ask for nothing.
 fn words_asked(rt: &(impl Env + AllocGlobal)) -> io::Result<Option<Asked>> {
     let alloc = rt.alloc();
@@ -78,6 +92,9 @@ fn words_asked(rt: &(impl Env + AllocGlobal)) -> io::Result<Option<Asked>> {
     let Some(name) = words.next() else {
         return Ok(None);
     };
+    if !is_known(name.as_str()) {
+        return Ok(None);
+    }
     let mut numbers = Vec::new(alloc);
     for word in words {
         let Ok(number) = word.as_str().parse() else {
@@ -92,26 +109,36 @@ fn words_asked(rt: &(impl Env + AllocGlobal)) -> io::Result<Option<Asked>> {
     let Some(scale) = scale_of(scale) else {
         return Ok(None);
     };
-    match request_named(alloc, name.as_str().as_bytes()) {
-        Ok(Some(request)) => Ok(Some(Asked {
-            request,
-            count,
-            scale,
-        })),
-        _ => Ok(None),
-    }
+    Ok(Some(Asked { name, count, scale }))
 }
 
-fn main(rt: HostRuntime) -> ExitCode {
-    let Ok(Some(asked)) = words_asked(&rt) else {
-        return ExitCode::from(2);
+/// Makes attempts at an interaction over a new shop; none where there is no interaction of this name.
+fn told(alloc: Global, name: &str, asked: &Asked) -> Result<Option<Told>, Memory> {
+    let Some(request) = request_named(alloc, name.as_bytes())? else {
+        return Ok(None);
     };
-    let Ok(mut shop) = Shop::open(rt.alloc(), asked.scale) else {
-        return ExitCode::from(1);
-    };
-    let done = run(rt.alloc(), &mut shop, &asked.request, asked.count);
-    match println!(&rt; "{done} of {}", asked.count) {
-        Ok(()) => ExitCode::from(0),
-        Err(_) => ExitCode::from(1),
+    let mut shop = Shop::open(alloc, asked.scale)?;
+    Ok(Some(run(alloc, &mut shop, &request, asked.count)))
+}
+
+/// Prints what comes of attempts at each interaction that is asked for.
+fn print_all(rt: &HostRuntime, asked: &Asked) -> Result<()> {
+    for name in NAMES {
+        if asked.name.as_str() == "all" || asked.name.as_str() == name {
+            let told = told(rt.alloc(), name, asked)
+                .ok()
+                .flatten()
+                .context("no memory")?;
+            println!(rt;
+                "{name}: {} of {} done, {} rows read",
+                told.done, asked.count, told.reads
+            )?;
+        }
     }
+    Ok(())
+}
+
+fn main(rt: HostRuntime) -> Result<()> {
+    let asked = words_asked(&rt)?.context("no such words")?;
+    print_all(&rt, &asked)
 }

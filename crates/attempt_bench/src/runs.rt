@@ -55,25 +55,44 @@ impl Shop {
     }
 }
 
-/// Makes an attempt, and says whether its settle was done.
-fn is_done(alloc: Global, store: &mut Solo, ask: &Ask, request: &Request, draft: &mut Draft) -> bool
+/// Makes an attempt, and says how many rows it read, where its settle was done.
+fn reads_done(
+    alloc: Global,
+    store: &mut Solo,
+    ask: &Ask,
+    request: &Request,
+    draft: &mut Draft,
+) -> Option<usize>
     requires index { ask.now.index.now ≡ catalogue (seat_of store.old).opening }
     requires scale { ask.now.scale.now.items ≡ length (seat_of store.old).opening.items }
     requires moment { ask.now.moment ≤ stamp_limit }
     ensures { Follows (seat_of store.old) (seat_of store.new) }
 {
     match attempt(alloc, store, ask, request, draft) {
-        Attempted::Ready(attempt) => matches!(store.settle(attempt), Settle::Done(_)),
-        _ => false,
+        Attempted::Ready(attempt) => {
+            let reads = attempt.reads.as_slice().len();
+            match store.settle(attempt) {
+                Settle::Done(_) => Some(reads),
+                _ => None,
+            }
+        }
+        _ => None,
     }
 }
 
-/// Makes so many attempts, each with another drawn word, and counts those that were done.
-pub fn run(alloc: Global, shop: &mut Shop, request: &Request, count: u32) -> u32
+/// How many attempts were done, and how many rows they read.
+#[derive(Clone, Copy, Debug)]
+pub struct Told {
+    pub done: u32,
+    pub reads: usize,
+}
+
+/// Makes so many attempts, each with another drawn word.
+pub fn run(alloc: Global, shop: &mut Shop, request: &Request, count: u32) -> Told
     requires index { shop.old.index ≡ catalogue (seat_of shop.old.store).opening }
     requires scale { shop.old.scale.items ≡ length (seat_of shop.old.store).opening.items }
 {
-    let mut done = 0;
+    let mut told = Told { done: 0, reads: 0 };
     for draw in 0..count {
         let ask = Ask {
             scale: &shop.scale,
@@ -81,9 +100,10 @@ pub fn run(alloc: Global, shop: &mut Shop, request: &Request, count: u32) -> u32
             moment: u64::from(draw),
             draw,
         };
-        if is_done(alloc, &mut shop.store, &ask, request, &mut shop.draft) {
-            done += 1;
+        if let Some(reads) = reads_done(alloc, &mut shop.store, &ask, request, &mut shop.draft) {
+            told.done = told.done.saturating_add(1);
+            told.reads = told.reads.saturating_add(reads);
         }
     }
-    done
+    told
 }

@@ -1,13 +1,12 @@
 -- What the driver has read, round by round, and the attempt that it makes of a decision.
-use Rattle.std.proofs.Common.{◌≡◌, ℕ, suc, List, [], ◌∷◌, ◌++◌, ◌+◌, ◌-◌, ◌≤◌, length, take, drop, get_or, All, Some, None, refl, sym, ◌∙◌, ap, subst, arith}
-use Rattle.std.proofs.lemmas.List.{append_assoc, append-nil, map-append, take_all}
+use Rattle.std.proofs.Common.{◌≡◌, ℕ, suc, List, [], ◌∷◌, ◌++◌, ◌+◌, ◌≤◌, get_or, All, Some, None, refl, sym, ◌∙◌, ap, subst, arith}
+use Rattle.std.proofs.lemmas.List.{append_assoc, append-nil, map-append}
 use Rattle.std.proofs.lemmas.List.Elements.{All-nil, All-append, All-head, All-tail}
 use Rattle.shop_model.specs.declared.page.Page.{Page}
 use Rattle.shop_model.specs.declared.requests.IdsAsked.{IdsAsked}
 use Rattle.shop_model.specs.declared.requests.Request.{Request}
 use Rattle.shop_model.specs.declared.tables.Tables.{Tables}
 use Rattle.shop_model.specs.lists.Catalogues.{Catalogue, catalogue}
-use Rattle.shop_model.specs.pages.Show.{show}
 use Rattle.shop_history.specs.declared.acts.Drawn.{Drawn}
 use Rattle.shop_history.specs.declared.acts.Entry.{Entry}
 use Rattle.shop_history.specs.declared.keys.Key.{Key}
@@ -23,14 +22,14 @@ use Rattle.shop_attempt.specs.Marks.{Looks}
 use Rattle.shop_attempt.specs.Reads.{Agrees, AreTrue, IsReadOf, IsReadSince, AreReadSince}
 use Rattle.shop_attempt.specs.Seats.{Seat, IsSeat, Looked, IsReadAt}
 use Rattle.shop_attempt.proofs.cited.Marks.{looks_then}
-use Rattle.shop_attempt.proofs.cited.Looks.{looked_trans, since_now, since_push, all_since_later, all_since_earlier, are_true}
+use Rattle.shop_attempt.proofs.cited.Looks.{since_now, all_since_later, all_since_earlier, are_true}
 use Rattle.shop_browse.specs.declared.attempted.Ask.{Ask}
 use Rattle.shop_browse.specs.declared.driver.Next.{Next}
 use Rattle.shop_browse.specs.declared.driver.Next.TheVariants.{Show, Change, Never}
 use Rattle.shop_browse.specs.declared.attempted.Attempted.TheVariants.{Ready, Contradiction}
 use Rattle.shop_history.specs.declared.acts.Act.{Act}
 use Rattle.shop_attempt.specs.declared.attempts.Write.{Write}
-use Rattle.shop_browse.specs.Attempts.{AreReadFor, IsAttempt, IsShownBy, AttemptedAs, Suits, asking_of}
+use Rattle.shop_browse.specs.Attempts.{AreReadFor, IsAttempt, AttemptedAs, Suits, asking_of}
 use Rattle.shop_browse.specs.Driver.{keys_of, Fits, AreSeen, WereRead, MayRead, AsksFor, IsNext, AddsReads, attempt_with}
 use Rattle.shop_browse.specs.Footprints.{InFootprint}
 use Rattle.shop_browse.proofs.Items.{seat_sound}

@@ -5,7 +5,6 @@ use Rattle.shop_model.specs.declared.tables.Tables.{Tables}
 use Rattle.shop_model.specs.rows.Lookups.{row_numbered}
 use Rattle.shop_model.specs.rows.Rows.{ItemRow}
 use Rattle.shop_model.specs.rows.Sound.{Sound, Has}
-use Rattle.shop_history.specs.declared.acts.Entry.{Entry}
 use Rattle.shop_history.specs.declared.keys.Key.TheVariants as key
 use Rattle.shop_history.specs.Labels.{LabelRow}
 use Rattle.shop_history.specs.declared.keys.Row.{Row}
@@ -13,7 +12,6 @@ use Rattle.shop_history.specs.declared.keys.Row.TheVariants as row
 use Rattle.shop_history.specs.Keys.{row_of, shown, label_of, is_item}
 use Rattle.shop_history.specs.Logs.{tables}
 use Rattle.shop_history.proofs.cited.GoodTables.{good_log}
-use Rattle.shop_history.proofs.cited.KeptTables.{kept, same_items}
 use Rattle.shop_history.proofs.cited.Places.{IsThere, is_there}
 use Rattle.shop_attempt.specs.Seats.{Seat, IsSeat}
 

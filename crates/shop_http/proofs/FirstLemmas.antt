@@ -4,11 +4,10 @@ use Rattle.std.specs.List.{find}
 use Rattle.std.specs.Option.{option_map, option_or}
 use Rattle.std.specs.Str.{bytes_eq}
 use Rattle.std.proofs.lemmas.List.Folds.{find-append}
-use Rattle.shop_model.specs.declared.parameter.Parameter.{Parameter}
-use Rattle.shop_model.specs.declared.parameter.Parameter.TheVariants.{C, Cart, Item, Qty, Subject, Kind, Text}
+use Rattle.shop_model.specs.declared.parameter.Parameter.TheVariants.{C, Cart, Item, Subject, Kind, Text}
 use Rattle.shop_model.specs.asked.Parameters.{parameter_name}
-use Rattle.shop_http.specs.Firsts.{Firsts, firsts_of, behind, first}
-use Rattle.shop_http.specs.Forms.{Pair, decoded_text, decoded, value_named, value_of}
+use Rattle.shop_http.specs.Firsts.{Firsts, behind}
+use Rattle.shop_http.specs.Forms.{Pair, decoded_text, decoded, value_named}
 
 none_behind : (value : Option (List ℕ)) → option_or value None ≡ value
 none_behind None = refl

@@ -1,5 +1,5 @@
 -- What acts keep of the tables, and that tables only grow.
-use Rattle.std.proofs.Common.{◌≡◌, ℕ, ◌-◌, ◌≤◌, List, length, refl, sym, ◌∙◌, ap, subst, arith}
+use Rattle.std.proofs.Common.{◌≡◌, ℕ, ◌≤◌, List, length, refl, sym, ◌∙◌, ap, subst, arith}
 use Rattle.std.proofs.lemmas.List.{length-map}
 use Rattle.shop_log.proofs.cited.ListEnds.{by_end}
 use Rattle.shop_model.specs.declared.tables.Tables.{Tables}

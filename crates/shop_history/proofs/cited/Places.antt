@@ -1,5 +1,5 @@
 -- Rows by their numbers, in lists that are written and that grow.
-use Rattle.std.proofs.Common.{◌≡◌, ℕ, zero, suc, ◌+◌, ◌-◌, ◌<◌, cond, true, false, List, [], ◌∷◌, ◌++◌, length, map, get_or, All, Some, None, slice_get, slice_set, eqb, refl, sym, ◌∙◌, ap, subst, ◌⊎◌, ⊎_elim, arith}
+use Rattle.std.proofs.Common.{◌≡◌, ℕ, zero, suc, ◌+◌, ◌-◌, ◌<◌, cond, true, false, List, [], ◌∷◌, ◌++◌, length, map, get_or, All, Some, None, slice_get, slice_set, eqb, refl, sym, ◌∙◌, ap, subst, ⊎_elim, arith}
 use Rattle.std.proofs.lemmas.Bool.{eqb-false, cond-true, cond-false, eq-eqb, ne_eqb, cases_eq}
 use Rattle.std.proofs.lemmas.Option.{slice_get_within, slice_get-get_or, get_or_from_slice_get}
 use Rattle.shop_model.specs.rows.Lookups.{row_numbered}

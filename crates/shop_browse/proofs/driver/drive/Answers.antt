@@ -1,6 +1,5 @@
-use Rattle.std.proofs.Common.{◌+◌, List, [], ◌∷◌, Some, sym, ◌∙◌, subst}
+use Rattle.std.proofs.Common.{◌+◌, [], ◌∷◌, Some, sym, ◌∙◌, subst}
 use Rattle.shop_attempt.specs.declared.attempts.Attempt.{Attempt}
-use Rattle.shop_attempt.specs.declared.attempts.ReadOf.{ReadOf}
 use Rattle.shop_attempt.proofs.cited.Marks.{looks_then}
 use Rattle.shop_browse.specs.declared.driver.Next.TheVariants.{ReadOne, Read, Show, Change, Never}
 use Rattle.shop_browse.specs.Attempts.{IsReady, IsContradiction, asking_of}

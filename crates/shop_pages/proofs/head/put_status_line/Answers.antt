@@ -1,4 +1,4 @@
-use Rattle.std.proofs.Common.{◌≡◌, ◌++◌, codes, decimal, refl, sym, ◌∙◌, ap, arith}
+use Rattle.std.proofs.Common.{◌≡◌, ◌++◌, codes, refl, sym, ◌∙◌, ap, arith}
 use Rattle.std.proofs.lemmas.Fmt.{decimal-digits_of}
 use Rattle.shop_pages.specs.Replies.{phrase_of, status_line}
 use Rattle.shop_pages.proofs.head.put_status_line.Goals as goal

@@ -1,6 +1,5 @@
 use Rattle.std.proofs.Common.{◌≡◌, ℕ, ◌+◌, ◌==◌, if◌then◌else◌, List, [], ◌∷◌, ◌++◌, length, All, refl, sym, ◌∙◌, ap, subst, arith, length-append}
 use Rattle.shop_model.specs.declared.tables.Tables.{Tables}
-use Rattle.shop_attempt.specs.Writes.{written}
 use Rattle.shop_history.specs.declared.acts.Entry.{Entry}
 use Rattle.shop_history.specs.Drawing.{new_ids}
 use Rattle.shop_history.proofs.cited.Versions.{RaisedFor}

@@ -1,4 +1,4 @@
-use Rattle.std.proofs.Common.{arith, ◌∙◌}
+use Rattle.std.proofs.Common.{arith}
 use Rattle.shop_draft.specs.Templates.{head_room}
 use Rattle.shop_draft.proofs.Heads.{both_are}
 use Rattle.shop_draft.proofs.template.Template.into_text.Goals as goal
