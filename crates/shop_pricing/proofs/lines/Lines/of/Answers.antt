@@ -19,6 +19,6 @@ next items lines entries now n d same distinct within before made =
 
 pub loop-item-preserved : goal.loop-item-preserved
 loop-item-preserved c =
-    next c.as_slice-item-items.result.now c.args.cart.now.lines c.loop-item.quantities.entries _ c.loop-item.item-index (0, 0)
-    (c.as_slice-item-items.ensures ∙ c.get.ensures ∙ ap (λ (cart : CartRow). cart.lines) c.cart.view_is) c.requires.distinct
+    next c.as_slice-pairs.result.now c.args.cart.now.lines c.loop-item.quantities.entries _ c.loop-item.item-index (0, 0)
+    (c.as_slice-pairs.ensures ∙ c.get.ensures ∙ ap (λ (cart : CartRow). cart.lines) c.cart.view_is) c.requires.distinct
     c.loop-item-test.true c.loop-item.invariant c.in_ok-insert.ensures.entries
