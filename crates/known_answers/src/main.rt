@@ -1,23 +1,43 @@
 //! Asks the libraries what was worked out by hand or by other programs, and prints what they answer.
 //!
-//! The file `stdout` has the answers that are wanted, and `stdin` the words of commands, a line each.
+//! The file `stdout` has the answers that are wanted. Each line of `stdin` has the words of a command or,
+//! behind `> `, a message.
 #![tactic(auto)]
 
 mod answers;
 mod catalogue;
+mod drafts;
 mod edges;
 mod listing;
 mod model;
 mod pages;
 mod populate;
 mod pricing;
-mod ranking;
 mod replies;
+mod requests;
 mod search;
 mod stop;
 mod words;
 
+use answers::heading;
+use shop_http::Routes;
 use stop::Stop;
+
+/// Prints what each line of the input says or asks for.
+fn print_lines(rt: &(impl Print + Input + AllocGlobal), routes: &Routes) -> Result<(), Stop> {
+    heading(
+        rt,
+        "words give a command or are bad, and messages ask for a page or are refused",
+    )?;
+    for line in rt.lines(rt.alloc()) {
+        let line = line?;
+        match line.as_str().strip_prefix("> ") {
+            Some(message) => requests::print_line(rt, routes, message)?,
+            None => words::print_line(rt, line.as_str())?,
+        }
+    }
+    Ok(())
+}
 
 fn main(rt: HostRuntime) -> Result<(), Stop> {
     model::print(&rt)?;
@@ -25,9 +45,12 @@ fn main(rt: HostRuntime) -> Result<(), Stop> {
     edges::print_standard(rt)?;
     pricing::print(&rt)?;
     populate::print(&rt)?;
-    ranking::print(&rt)?;
     search::print(&rt)?;
+    drafts::print(&rt)?;
     pages::print(&rt)?;
     replies::print(&rt)?;
-    words::print(&rt)
+    let routes = Routes::new(rt.alloc())?;
+    print_lines(&rt, &routes)?;
+    requests::print_no_text(&rt, &routes)?;
+    words::print_no_words(&rt)
 }

@@ -1,17 +1,9 @@
-//! The words of commands, which stand in the input, a line each.
+//! The words of commands.
 use crate::answers::{answer, heading};
 use crate::stop::Stop;
 use shop_text::{Memory, Text};
 use shop_words::command_of;
 use std::alloc::Global;
-
-pub fn print(rt: &(impl Print + Input + AllocGlobal)) -> Result<(), Stop> {
-    heading(rt, "words give a command or are bad")?;
-    for line in rt.lines(rt.alloc()) {
-        print_line(rt, line?.as_str())?;
-    }
-    print_no_words(rt)
-}
 
 /// The words on one line. Two apostrophes are an empty word.
 fn words_of(alloc: Global, line: &str) -> Result<Vec<Text>, Memory> {
@@ -23,7 +15,8 @@ fn words_of(alloc: Global, line: &str) -> Result<Vec<Text>, Memory> {
     Ok(words)
 }
 
-fn print_line(rt: &(impl Print + AllocGlobal), line: &str) -> Result<(), Stop> {
+/// Prints what the words on a line say.
+pub fn print_line(rt: &(impl Print + AllocGlobal), line: &str) -> Result<(), Stop> {
     let words = words_of(rt.alloc(), line)?;
     answer(rt, &line, &command_of(rt.alloc(), &words))
 }
@@ -35,7 +28,8 @@ fn two_words(alloc: Global, second: &[u8]) -> Result<Vec<Text>, Memory> {
     Ok(words)
 }
 
-fn print_no_words(rt: &(impl Print + AllocGlobal)) -> Result<(), Stop> {
+/// Prints what no words say, and words that are no text.
+pub fn print_no_words(rt: &(impl Print + AllocGlobal)) -> Result<(), Stop> {
     answer(rt, &"no words", &command_of(rt.alloc(), &[]))?;
     heading(rt, "words that are not text are bad")?;
     for second in [&b"--seed=\xff"[..], &b"\xc3"[..], &b"-\xc3"[..]] {

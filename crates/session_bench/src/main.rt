@@ -51,16 +51,25 @@ fn serve<K: Sink, C: Clock>(
     Ok(answers)
 }
 
+/// Serves the input over the shop of the desk, and counts the answers.
+fn answers_to<K: Sink, C: Clock>(
+    alloc: Global,
+    input: &[u8],
+    sink: &mut K,
+    clock: &mut C,
+) -> Result<usize, Memory> {
+    let (scale, seed) = (Scale::desk(), 0);
+    let mut worker = first_worker(alloc, Session { scale, seed })?;
+    serve(alloc, &mut worker, input, sink, clock)
+}
+
 fn main(rt: HostRuntime) -> Result<()> {
     let alloc = rt.alloc();
     let mut input = Vec::new(alloc);
     rt.stdin().read_to_end(&mut input)?;
     let mut sink = WriterSink::new(StandardOutput::Output(rt.stdout()));
-    let (scale, seed) = (Scale::desk(), 0);
-    let worker = first_worker(alloc, Session { scale, seed });
-    let mut worker = worker.ok().context("no memory")?;
     let mut clock = SystemClock::new(rt);
-    let answers = serve(alloc, &mut worker, &input, &mut sink, &mut clock);
+    let answers = answers_to(alloc, &input, &mut sink, &mut clock);
     let answers = answers.ok().context("no memory")?;
     eprintln!(rt; "{answers} answers")?;
     Ok(())

@@ -96,13 +96,13 @@ pub fn differs(
     streams: &Streams,
     pieces: Pieces,
 ) -> Result<Option<Difference>> {
+    let words = case.words(alloc)?;
+    let clock = ListClock::new(alloc, case.readings(alloc)?).ok();
+    let mut clock = clock.context("no memory for a clock")?;
     let input = Text::from_vec(streams.input.as_slice().to_vec(alloc)?);
     let mut source = BytesIn::new(input, pieces.read.max(1), Listed::new(alloc));
     let mut sink = BytesOut::new(alloc, pieces.write, Listed::new(alloc));
     let mut faults = BytesOut::new(alloc, pieces.write, Listed::new(alloc));
-    let clock = ListClock::new(alloc, case.readings(alloc)?).ok();
-    let mut clock = clock.context("no memory for a clock")?;
-    let words = case.words(alloc)?;
     let status = run_alone(
         alloc,
         &words,
@@ -111,12 +111,23 @@ pub fn differs(
         &mut faults,
         &mut clock,
     );
-    if let Some(place) = first_place(sink.bytes(), &streams.output) {
-        return Ok(Some(Difference::Written(place)));
+    Ok(difference(case, streams, sink.bytes(), faults.bytes(), status.code()))
+}
+
+/// How what was written and told, and the status, differ from what a case wants.
+fn difference(
+    case: &Case,
+    streams: &Streams,
+    written: &[u8],
+    told: &[u8],
+    got: u8,
+) -> Option<Difference> {
+    if let Some(place) = first_place(written, &streams.output) {
+        return Some(Difference::Written(place));
     }
-    if let Some(place) = first_place(faults.bytes(), &streams.told) {
-        return Ok(Some(Difference::Told(place)));
+    if let Some(place) = first_place(told, &streams.told) {
+        return Some(Difference::Told(place));
     }
-    let (got, wanted) = (status.code(), case.status);
-    Ok((got != wanted).then_some(Difference::Status { got, wanted }))
+    let wanted = case.status;
+    (got != wanted).then_some(Difference::Status { got, wanted })
 }

@@ -104,10 +104,10 @@ fn clock(alloc: Global, readings: [u64; 4]) -> Result<ListClock, Memory> {
 
 /// What comes of the connection, and the book behind it.
 fn served(alloc: Global, case: Case) -> Result<(Report, Book), Memory> {
-    let mut worker = worker(alloc, u64::from(case.limit))?;
     let mut source = BytesIn::new(Text::copy(alloc, case.input)?, 7, Listed::new(alloc));
     let mut sink = BytesOut::new(alloc, 1_000, Listed::new(alloc));
     let mut clock = clock(alloc, case.readings)?;
+    let mut worker = worker(alloc, u64::from(case.limit))?;
     let report = serve_connection(alloc, &mut worker, &mut source, &mut sink, &mut clock);
     Ok((report, worker.into_store().into_book()))
 }
@@ -124,8 +124,9 @@ fn print_point(rt: &impl Print, point: &Point) -> Result<()> {
     answer(rt, &point.kind, &numbers)
 }
 
-/// Prints the points, what the log has come to, and the versions of three rows.
-fn print_served(rt: &impl Print, report: &Report, book: &Book) -> Result<()> {
+/// Prints the end, the points, what the log has come to, and the versions of three rows.
+fn print_served(rt: &impl Print, name: &str, report: &Report, book: &Book) -> Result<()> {
+    answer(rt, &name, &report.end)?;
     for point in report.points.as_slice() {
         print_point(rt, point)?;
     }
@@ -137,18 +138,20 @@ fn print_served(rt: &impl Print, report: &Report, book: &Book) -> Result<()> {
     Ok(())
 }
 
+fn print_case(rt: &(impl Print + AllocGlobal), case: Case) -> Result<()> {
+    let (report, book) = done(served(rt.alloc(), case))?;
+    print_served(rt, case.name, &report, &book)
+}
+
 pub fn print(rt: &(impl Print + AllocGlobal)) -> Result<()> {
     for case in CASES {
-        let (report, book) = done(served(rt.alloc(), case))?;
-        answer(rt, &case.name, &report.end)?;
-        print_served(rt, &report, &book)?;
+        print_case(rt, case)?;
     }
     Ok(())
 }
 
 /// The answer to one message, without a connection.
 fn answered(alloc: Global, target: &str, last: bool) -> Result<Answered, Memory> {
-    let mut worker = worker(alloc, 10)?;
     let mut clock = clock(alloc, [1_000; 4])?;
     let message = Message {
         method: Method::GET,
@@ -156,6 +159,7 @@ fn answered(alloc: Global, target: &str, last: bool) -> Result<Answered, Memory>
         body: Text::new(alloc),
         close: false,
     };
+    let mut worker = worker(alloc, 10)?;
     Ok(serve_message(alloc, &mut worker, &message, last, &mut clock))
 }
 

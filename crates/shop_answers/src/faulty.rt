@@ -1,8 +1,9 @@
 //! Connections over bytes in memory, whose calls fail where they are told to.
 use anyhow::{Context, Result};
 use shop_app::first_worker;
+use shop_book::Solo;
 use shop_edges::{BytesIn, BytesOut, ListClock};
-use shop_engine::{Ended, serve_connection};
+use shop_engine::{Ended, Worker, serve_connection};
 use shop_model::Scale;
 use shop_text::{Listed, Memory, Text};
 use shop_words::Session;
@@ -39,6 +40,11 @@ pub fn serve(alloc: Global, input: &[u8], reads: Calls, writes: Calls) -> Result
         .context("no memory")
 }
 
+/// How many entries the log of a worker's book has.
+fn entries_of(worker: Worker<Solo>) -> u64 {
+    worker.into_store().into_book().size()
+}
+
 fn served(alloc: Global, input: &[u8], reads: Calls, writes: Calls) -> Result<Outcome, Memory> {
     let bytes = Text::copy(alloc, input)?;
     let mut source = BytesIn::new(bytes, reads.piece.max(1), reads.faults(alloc)?);
@@ -52,6 +58,6 @@ fn served(alloc: Global, input: &[u8], reads: Calls, writes: Calls) -> Result<Ou
     Ok(Outcome {
         end: report.end,
         sink,
-        entries: worker.into_store().into_book().size(),
+        entries: entries_of(worker),
     })
 }

@@ -17,6 +17,7 @@ use Rattle.shop_history.proofs.cited.Rows.{tables_push}
 use Rattle.shop_attempt.specs.declared.attempts.Write.{Write}
 use Rattle.shop_attempt.specs.Writes.{written}
 use Rattle.shop_book.specs.declared.counts.Counts.{Counts}
+use Rattle.shop_book.specs.declared.lists.Lists.{Lists}
 use Rattle.shop_book.specs.declared.rows.Rows.{Rows}
 use Rattle.shop_book.specs.declared.versions.Versions.{Versions}
 use Rattle.shop_book.specs.Books.{BookValue, IsBook, tables_of}
@@ -26,6 +27,7 @@ use Rattle.shop_book.specs.Readiness.{IdsFit, AreReady}
 use Rattle.shop_book.specs.RowsNow.{tables_with, HasRoom}
 use Rattle.shop_book.specs.Settles.{IsNext}
 use Rattle.shop_book.specs.Stored.{stored, HasPlaces, MorePlaces}
+use Rattle.shop_book.proofs.KeptLists.{lists_later}
 use Rattle.shop_book.proofs.Callers.{entries_mine, entries_theirs}
 use Rattle.shop_book.proofs.Readiness.{are_ready}
 
@@ -88,7 +90,7 @@ module _ (b now : BookValue) (is_book : IsBook b) (entry : Entry) (writes : List
         cond-false _ _ _ (ne_eqb entry.caller caller theirs) ∙ were caller ∙ sym (ap length (entries_theirs caller b.log entry (ne_eqb entry.caller caller theirs))))
         (cases_eq entry.caller caller)
 
-    module _ (rows : Rows) (versions : Versions) (counts : Counts) (kept : IsKept b rows versions counts) where
+    module _ (rows : Rows) (versions : Versions) (counts : Counts) (lists : Lists) (kept : IsKept b rows versions counts lists) where
       fits_kept : IdsFit (written (tables_with b.opening.tables rows) entry.stamp writes)
       fits_kept = subst (λ (t : Tables). IdsFit (written t entry.stamp writes)) (sym kept.rows_are) ids_fit
 
@@ -106,7 +108,7 @@ module _ (b now : BookValue) (is_book : IsBook b) (entry : Entry) (writes : List
           pub kept_after : (keys : List Key) → keys ≡ may_change (tables_with b.opening.tables rows) entry.act → HasPlaces raised later → ((key : Key) → stored wide key ≡ stored versions key)
               → RaisedFor (tables_with b.opening.tables roomy) (tables_with b.opening.tables later) (length b.log + 1) keys (stored wide) (stored raised)
               → ((caller : ℕ) → count_in counted caller ≡ with_count (count_in counts) entry.caller entry.number caller)
-              → IsKept (with_entry b entry) later raised counted
+              → IsKept (with_entry b entry) later raised counted lists
           kept_after keys are places same_versions rises counts_are = record {
             is_book = book_after;
             rows_are = later_are;
@@ -118,16 +120,18 @@ module _ (b now : BookValue) (is_book : IsBook b) (entry : Entry) (writes : List
                 (subst (λ (ks : List Key). RaisedFor (tables_with b.opening.tables roomy) (tables_with b.opening.tables later) (length b.log + 1) ks (stored wide) (stored raised)) (are ∙ ap (λ (t : Tables). may_change t entry.act) kept.rows_are) rises)))
                 stays;
             counts_are = λ caller. counts_are caller ∙ counts_after (count_in counts) kept.counts_are caller;
+            lists_are = lists_later b entry lists kept.lists_are;
           }
 
 -- rows, versions and counts with more room are kept too
-pub kept_roomy : (b : BookValue) (rows roomy : Rows) (versions wide : Versions) (counts counted : Counts) → IsKept b rows versions counts → ((t : Tables) → tables_with t roomy ≡ tables_with t rows)
-    → ((key : Key) → stored wide key ≡ stored versions key) → MorePlaces versions wide → ((caller : ℕ) → count_in counted caller ≡ count_in counts caller) → IsKept b roomy wide counted
-kept_roomy b rows roomy versions wide counts counted kept same same_versions more same_counts =
+pub kept_roomy : (b : BookValue) (rows roomy : Rows) (versions wide : Versions) (counts counted : Counts) (lists : Lists) → IsKept b rows versions counts lists → ((t : Tables) → tables_with t roomy ≡ tables_with t rows)
+    → ((key : Key) → stored wide key ≡ stored versions key) → MorePlaces versions wide → ((caller : ℕ) → count_in counted caller ≡ count_in counts caller) → IsKept b roomy wide counted lists
+kept_roomy b rows roomy versions wide counts counted lists kept same same_versions more same_counts =
     record {
       is_book = kept.is_book;
       rows_are = same b.opening.tables ∙ kept.rows_are;
       places = grind (arith, same b.opening.tables, kept.places, more);
       versions_are = λ key. same_versions key ∙ kept.versions_are key;
       counts_are = λ caller. same_counts caller ∙ kept.counts_are caller;
+      lists_are = kept.lists_are;
     }

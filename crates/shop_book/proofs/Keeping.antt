@@ -11,28 +11,30 @@ use Rattle.shop_history.specs.declared.acts.Entry.{Entry}
 use Rattle.shop_history.specs.declared.keys.Key.{Key}
 use Rattle.shop_history.specs.Logs.{IsGood}
 use Rattle.shop_history.proofs.cited.GoodTables.{good_log}
-use Rattle.shop_history.proofs.cited.KeptTables.{kept}
 use Rattle.shop_history.proofs.cited.Rows.{tables_nil, version_nil}
 use Rattle.shop_book.specs.declared.counts.Counts.{Counts}
+use Rattle.shop_book.specs.declared.lists.Lists.{Lists}
 use Rattle.shop_book.specs.declared.opening.Opening.{Opening}
 use Rattle.shop_book.specs.declared.rows.Rows.{Rows}
 use Rattle.shop_book.specs.declared.versions.Versions.{Versions}
 use Rattle.shop_book.specs.Books.{BookValue, IsBook, tables_of}
 use Rattle.shop_book.specs.Counted.{count_in}
+use Rattle.shop_book.specs.KeptLists.{AreLists}
 use Rattle.shop_book.specs.Keeping.{IsKept}
 use Rattle.shop_book.specs.Openings.{IsOpening}
-use Rattle.shop_book.specs.RowsNow.{tables_with, SameLists}
+use Rattle.shop_book.specs.RowsNow.{tables_with}
 use Rattle.shop_book.specs.Stored.{stored, HasPlaces}
 use Rattle.shop_book.specs.Summaries.{has_auth}
 
-pub first_kept : (opening : Opening) (rows : Rows) (versions : Versions) (counts : Counts) → IsOpening opening → tables_with opening.tables rows ≡ opening.tables → HasPlaces versions rows
-    → ((key : Key) → stored versions key ≡ 0) → ((caller : ℕ) → count_in counts caller ≡ 0) → IsKept (record { opening = opening; log = []; latest = 0 }) rows versions counts
-first_kept opening rows versions counts opens copies places unchanged none = record {
+pub first_kept : (opening : Opening) (rows : Rows) (versions : Versions) (counts : Counts) (lists : Lists) → AreLists opening.tables lists → IsOpening opening → tables_with opening.tables rows ≡ opening.tables → HasPlaces versions rows
+    → ((key : Key) → stored versions key ≡ 0) → ((caller : ℕ) → count_in counts caller ≡ 0) → IsKept (record { opening = opening; log = []; latest = 0 }) rows versions counts lists
+first_kept opening rows versions counts lists are opens copies places unchanged none = record {
   is_book = record { opens = opens; legal = nothing; short = omega arith; stamps = All-nil (λ (e : Entry). e.stamp ≤ 0); bound = omega arith };
   rows_are = copies ∙ sym (tables_nil opening.tables);
   places = places;
   versions_are = λ key. unchanged key ∙ sym (version_nil opening.tables key);
   counts_are = none;
+  lists_are = subst (λ t. AreLists t lists) (sym (tables_nil opening.tables)) are;
 }
 
 module _ (b : BookValue) (rows : Rows) (is_book : IsBook b) (rows_are : tables_with b.opening.tables rows ≡ tables_of b) where
@@ -41,13 +43,6 @@ module _ (b : BookValue) (rows : Rows) (is_book : IsBook b) (rows_are : tables_w
 
   pub sound_now : Sound (tables_with b.opening.tables rows)
   sound_now = subst Sound (sym rows_are) good_now.sound
-
-  -- no act changes items or orders yet
-  pub lists_now : SameLists b.opening.tables rows
-  lists_now = record {
-    items = ap (λ (t : Tables). t.items) rows_are ∙ (kept b.opening.tables b.log).items;
-    orders = ap (λ (t : Tables). t.orders) rows_are ∙ (kept b.opening.tables b.log).orders;
-  }
 
   pub auth_is : (auth : List ℕ) (orders : List OrderRow) (found : Bool) → orders ≡ rows.orders.items → found ≡ list_any (λ o. bytes_eq o.card.auth auth) orders → found ≡ has_auth (tables_of b) auth
   unfolding has_auth

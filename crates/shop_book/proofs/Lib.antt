@@ -3,6 +3,7 @@ pub mod Readiness
 pub mod WatchingLemmas
 pub mod Placed
 pub mod Sizes
+pub mod KeptLists
 pub mod Keeping
 pub mod Laws
 pub mod OldOrders

@@ -8,6 +8,7 @@ pub mod Sizes
 pub mod Stored
 pub mod Counted
 pub mod Watching
+pub mod KeptLists
 pub mod Keeping
 pub mod Settles
 pub mod Summaries

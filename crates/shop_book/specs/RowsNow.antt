@@ -31,8 +31,3 @@ pub record KeepsRoom {Row Memory : Type 0} (old new : Vec Row Memory) : Type 0 w
 -- where there was room for one row more in each table, the rest of it is left
 abbrev pub TakesOne : Rows → Rows → Type 0
 TakesOne old new = (more : ℕ) → HasRoom old (more + 1) → HasRoom new more
-
--- the items and the orders are those of these tables
-pub record SameLists (t : Tables) (rows : Rows) : Type 0 where
-  pub items : rows.items.items ≡ t.items
-  pub orders : rows.orders.items ≡ t.orders

@@ -19,6 +19,8 @@ stored v (key.TheVariants.Customer id) = at v.customers.items id
 stored v (key.TheVariants.Cart id) = at v.carts.items id
 stored v (key.TheVariants.NewIn subject) = 0
 stored v (key.TheVariants.BestIn subject) = 0
+stored v (key.TheVariants.Buyers item) = 0
+stored v (key.TheVariants.Bought customer) = 0
 
 -- a version can be stored for a key
 abbrev pub HasPlace : Versions → Key → Type 0
@@ -28,6 +30,8 @@ HasPlace v (key.TheVariants.Customer id) = Has (length v.customers.items) id
 HasPlace v (key.TheVariants.Cart id) = Has (length v.carts.items) id
 HasPlace v (key.TheVariants.NewIn subject) = ⊥
 HasPlace v (key.TheVariants.BestIn subject) = ⊥
+HasPlace v (key.TheVariants.Buyers item) = ⊥
+HasPlace v (key.TheVariants.Bought customer) = ⊥
 
 -- each row has a place
 pub record HasPlaces (v : Versions) (rows : Rows) : Type 0 where

@@ -1,5 +1,8 @@
-ghost use Rattle.std.specs.Prelude.{◌≡◌, ◌+◌, ◌≤◌, [], length, IfOk, IsSome};
-ghost use Rattle.shop_model.specs.rows.Limits.{stamp_limit};
+ghost use Rattle.std.specs.Prelude.{◌≡◌, ◌+◌, ◌≤◌, [], length, map, IfOk, IsSome};
+ghost use Rattle.shop_model.specs.lists.Related.{sold_of, last, recent};
+ghost use Rattle.shop_model.specs.rows.Limits.{stamp_limit, counted_orders};
+ghost use Rattle.shop_ranking.specs.StandingBest.{AreSoldLately};
+ghost use Rattle.shop_ranking.specs.StandingNewest.{AreAsPublished};
 ghost use Rattle.shop_history.specs.Keys as keys;
 ghost use Rattle.shop_history.specs.Logs.{version_of, entries_of};
 ghost use Rattle.shop_attempt.specs.Faithful.{Faithful};
@@ -12,6 +15,7 @@ ghost use Rattle.shop_book.specs.Summaries as spec;
 
 use crate::changes::{change_rows, make_room};
 use crate::counts::Counts;
+use crate::lists::Lists;
 use crate::orders::some_auth;
 use crate::rows::Rows;
 use crate::shown::shown;
@@ -21,18 +25,21 @@ use crate::{Opening, Summary};
 use shop_attempt::{Attempt, Conflict, ReadOf, Settle, Write};
 use shop_history::{Drawn, Entry, Ids, Key, Row};
 use shop_model::{AuthId, Tables};
+use shop_ranking::{Best, Newest};
 use shop_text::{Listed, Memory};
+use shop_window::OrderWindow;
 use std::alloc::Global;
 use std::marker::Model;
 
 /// A shop as a log of changes over its opening tables, with the rows as they are now, their versions,
 /// and how many entries each caller has.
-#[derive(Debug, Drop)]
+#[derive(Drop)]
 pub struct Book {
     opening: Opening,
     rows: Rows,
     versions: Versions,
     counts: Counts,
+    lists: Lists,
     log: Vec<Entry>,
     latest: u64,
 }
@@ -47,7 +54,7 @@ impl Model for Book {
 
     ghost view = { book_of };
 
-    ghost invariant = { λ i. IsKept (book_of i) i.rows i.versions i.counts };
+    ghost invariant = { λ i. IsKept (book_of i) i.rows i.versions i.counts i.lists };
 }
 
 impl Book {
@@ -59,11 +66,13 @@ impl Book {
     {
         let rows = Rows::copy_of(alloc, &tables)?;
         let versions = Versions::new(alloc, &rows)?;
+        let lists = Lists::of(alloc, &tables)?;
         Ok(Book {
             opening: Opening { tables, limit },
             rows,
             versions,
             counts: Counts::new(alloc),
+            lists,
             log: Vec::new(alloc),
             latest: 0,
         })
@@ -77,8 +86,7 @@ impl Book {
         ensures kept { IsBook self.now }
         ensures sound { IsGoodThroughout self.now }
     {
-        let alloc = *self.log.allocator();
-        let row = shown(alloc, &self.opening.tables, &self.rows, key)?;
+        let row = shown(&self.opening.tables, &self.rows, &self.lists, key)?;
         Ok((row, self.versions.of(key)))
     }
 
@@ -143,6 +151,38 @@ impl Book {
         ensures kept { IsBook self.now }
     {
         some_auth(&self.rows.orders, auth)
+    }
+
+    /// The latest 3,333 orders, which best sold items are counted over.
+    pub fn sold(&self) -> &OrderWindow<3_333>
+        ensures orders { result.now.kept ≡ map sold_of (last counted_orders (tables_of self.now).orders) }
+        ensures kept { IsBook self.now }
+    {
+        &self.lists.sold
+    }
+
+    /// The latest 10,000 orders, which related items are counted over.
+    pub fn recent(&self) -> &OrderWindow<10_000>
+        ensures orders { result.now.kept ≡ recent (tables_of self.now) }
+        ensures kept { IsBook self.now }
+    {
+        &self.lists.recent
+    }
+
+    /// The units that were sold lately of each item, and the best sold ones.
+    pub fn best(&self) -> &Best
+        ensures units { AreSoldLately (tables_of self.now) result.now }
+        ensures kept { IsBook self.now }
+    {
+        &self.lists.best
+    }
+
+    /// The days on which the items were published, and the newest ones.
+    pub fn newest(&self) -> &Newest
+        ensures days { AreAsPublished (tables_of self.now) result.now }
+        ensures kept { IsBook self.now }
+    {
+        &self.lists.newest
     }
 
     /// Settles an attempt of a caller, whose next change, if it is one, has this number: refuses it

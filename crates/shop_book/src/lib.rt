@@ -7,6 +7,7 @@ mod changes;
 mod copies;
 mod counts;
 mod ids;
+mod lists;
 mod opening;
 mod orders;
 mod rows;

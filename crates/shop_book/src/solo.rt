@@ -10,7 +10,7 @@ use shop_text::Memory;
 use std::marker::Model;
 
 /// The seat of a caller who has a book alone for now.
-#[derive(Debug, Drop)]
+#[derive(Drop)]
 pub struct Solo {
     book: Book,
     visitor: Visitor,

@@ -80,6 +80,8 @@ impl Versions {
             Key::Cart(id) => at(&self.carts, *id),
             Key::NewIn(_) => 0,
             Key::BestIn(_) => 0,
+            Key::Buyers(_) => 0,
+            Key::Bought(_) => 0,
         }
     }
 
@@ -120,6 +122,8 @@ impl Versions {
             Key::Cart(id) => set_at(&mut self.carts, *id, version),
             Key::NewIn(_) => unreachable!(),
             Key::BestIn(_) => unreachable!(),
+            Key::Buyers(_) => unreachable!(),
+            Key::Bought(_) => unreachable!(),
         }
     }
 }

@@ -112,6 +112,8 @@ module _ (t : Tables) (sound : Sound t) where
   named_within (key.Cart id) = none_named row.Cart (λ x. refl) (row_numbered t.carts id)
   named_within (key.NewIn subject) = newest_within subject
   named_within (key.BestIn subject) = best_within subject
+  named_within (key.Buyers item) = All-nil (Has (length t.items))
+  named_within (key.Bought customer) = All-nil (Has (length t.items))
 
 -- the labels of items that there are may be read by any request
 pub labels_may : (c : Catalogue) (opening : Tables) (log : List Entry) (request : Request) (draw : ℕ) (ids : List ℕ) → c ≡ catalogue opening → All (Has (length c.items)) ids

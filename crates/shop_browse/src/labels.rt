@@ -21,7 +21,7 @@ fn ids_in(row: &Row) -> &[u32]
     ensures { result.now ≡ spec.ids_in row.now }
 {
     match row {
-        Row::Items(ids) => ids.as_slice(),
+        Row::Items(ids) => ids.get().as_slice(),
         Row::Item(item) => &item.details.get().related,
         _ => &[],
     }

@@ -21,6 +21,3 @@ pub use holes::Hole;
 pub use ids::{Id, PageIds};
 pub use out::Out;
 pub use template::{Gap, HEAD_ROOM, Template};
-
-#[cfg(test)]
-mod tests;

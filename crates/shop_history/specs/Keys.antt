@@ -3,6 +3,7 @@ use Rattle.std.specs.Prelude.{Bool, true, false, Option, Some, None}
 use Rattle.shop_model.specs.declared.tables.Tables.{Tables}
 use Rattle.shop_model.specs.rows.Lookups.{row_numbered, author_of}
 use Rattle.shop_model.specs.lists.Rankings.{newest, best}
+use Rattle.shop_model.specs.lists.Related.{buyers, bought}
 use Rattle.shop_model.specs.rows.Rows.{ItemRow}
 use Rattle.shop_history.specs.declared.keys.Key as key
 use Rattle.shop_history.specs.declared.keys.Key.{Key}
@@ -28,6 +29,8 @@ row_of t (key.TheVariants.Customer id) = shown row.TheVariants.Customer (row_num
 row_of t (key.TheVariants.Cart id) = shown row.TheVariants.Cart (row_numbered t.carts id)
 row_of t (key.TheVariants.NewIn subject) = row.TheVariants.Items (newest t subject)
 row_of t (key.TheVariants.BestIn subject) = row.TheVariants.Items (best t subject)
+row_of t (key.TheVariants.Buyers item) = row.TheVariants.Customers (buyers t item)
+row_of t (key.TheVariants.Bought customer) = row.TheVariants.Totals (bought t customer)
 
 -- whether a row is an item
 abbrev pub is_item : Row → Bool

@@ -19,6 +19,10 @@ pub enum Key {
     NewIn(Subject),
     /// The best sold items of a subject.
     BestIn(Subject),
+    /// The customers who bought an item lately, by its id.
+    Buyers(u32),
+    /// What a customer bought lately, by its id.
+    Bought(u32),
 }
 
 /// How an item is named in lists: its title, and its author's names.
@@ -66,5 +70,9 @@ pub enum Row {
     Customer(Customer),
     Cart(Cart),
     /// The ids of items in the order in which they are listed, 50 at most.
-    Items(Listed<u32>),
+    Items(Shared<Listed<u32>>),
+    /// The ids of customers, rising.
+    Customers(Listed<u32>),
+    /// Items and how many units of each, by rising ids.
+    Totals(Listed<(u32, u64)>),
 }

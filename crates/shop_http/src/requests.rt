@@ -23,8 +23,6 @@ mod decoding;
 mod fault;
 mod forms;
 mod pairs;
-#[cfg(test)]
-mod tests;
 mod values;
 
 /// Why a message is not answered by an interaction.

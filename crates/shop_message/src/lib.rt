@@ -12,6 +12,3 @@ mod messages;
 pub use buffer::Buffer;
 pub use laws::{beginnings_are_one, messages_are_one};
 pub use messages::{Message, Next, next_message};
-
-#[cfg(test)]
-mod tests;

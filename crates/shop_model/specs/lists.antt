@@ -1,2 +1,3 @@
 pub mod Rankings
 pub mod Catalogues
+pub mod Related

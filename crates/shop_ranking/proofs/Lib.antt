@@ -1,4 +1,9 @@
-pub mod Places
-pub mod Lists
-pub mod Adding
+pub mod Putting
+pub mod SubjectNumbers
+pub mod Listed
+pub mod Sales
+pub mod Kept
+pub mod NewLists
+pub mod Books
+pub mod Filling
 pub mod cited

@@ -1,2 +1,4 @@
-pub mod Counts
 pub mod Order
+pub mod Standing
+pub mod StandingBest
+pub mod StandingNewest

@@ -1,11 +1,11 @@
 //! The lists of new and of best sold items.
 #![tactic(auto)]
 
-mod best_sellers;
-mod counting;
-mod new_products;
+mod best;
+mod newest;
+mod ranked;
+mod ranking;
 mod subjects;
-mod top;
 
-pub use best_sellers::best;
-pub use new_products::newest;
+pub use best::Best;
+pub use newest::Newest;

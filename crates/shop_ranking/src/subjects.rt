@@ -1,12 +1,39 @@
-ghost use Rattle.std.specs.Prelude.{◌≡◌};
-ghost use Rattle.std.specs.Str.{bytes_eq};
-ghost use Rattle.shop_model.specs.rows.Subjects.{subject_name};
+ghost use Rattle.std.specs.Prelude.{◌≡◌, IfOk, filter, length, map};
+ghost use Rattle.shop_ranking.specs.Standing.{is_under, AreNew};
 
 use shop_model::{Item, Subject};
+use shop_text::Memory;
+use std::alloc::Global;
 
-/// Whether the item is of the subject.
-pub(crate) fn is_of(item: &Item, subject: Subject) -> bool
-    ensures { result ≡ bytes_eq (subject_name item.now.subject) (subject_name subject) }
+/// The subjects of the items.
+pub(crate) fn subjects_of(alloc: Global, items: &[Item]) -> Result<Vec<Subject>, Memory>
+    ensures { IfOk result (λ subjects. subjects.items ≡ map (λ i. i.subject) items.now) }
 {
-    item.details.get().subject.name() == subject.name()
+    let mut subjects = Vec::with_capacity(alloc, items.len())?;
+    for item in items {
+        subjects.push(item.details.get().subject)?;
+    }
+    Ok(subjects)
+}
+
+/// How many items have this subject.
+fn count_under(subject: Subject, subjects: &[Subject]) -> usize
+    ensures { result ≡ length (filter (is_under subject) subjects.now) }
+{
+    subjects
+        .iter()
+        .filter(|own| own.name() == subject.name())
+        .count()
+}
+
+/// An empty list for each subject, with room for all of its items.
+pub(crate) fn new_lists<T: Drop>(alloc: Global, subjects: &[Subject]) -> Result<Vec<Vec<T>>, Memory>
+    ensures { IfOk result (λ lists. AreNew subjects.now lists.items) }
+{
+    let all = Subject::all();
+    let mut lists = Vec::with_capacity(alloc, all.len())?;
+    for subject in &all {
+        lists.push(Vec::with_capacity(alloc, count_under(*subject, subjects))?)?;
+    }
+    Ok(lists)
 }

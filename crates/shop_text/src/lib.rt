@@ -27,6 +27,3 @@ pub use numbers::number_of;
 pub use shared::Shared;
 pub use syllables::{digsyl, digsyl_lower, syllable};
 pub use text::Text;
-
-#[cfg(test)]
-mod tests;

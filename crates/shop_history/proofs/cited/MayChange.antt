@@ -43,3 +43,5 @@ frame t stamp (Cart asked draw) sound passes (key.TheVariants.Cart id) = ⊎_eli
     (cases_eq id (cart_meant t.carts asked.ids.cart))
 frame t stamp (Cart asked draw) sound passes (key.TheVariants.NewIn subject) = inr refl
 frame t stamp (Cart asked draw) sound passes (key.TheVariants.BestIn subject) = inr refl
+frame t stamp (Cart asked draw) sound passes (key.TheVariants.Buyers item) = inr refl
+frame t stamp (Cart asked draw) sound passes (key.TheVariants.Bought customer) = inr refl

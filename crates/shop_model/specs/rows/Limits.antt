@@ -25,6 +25,10 @@ list_limit = 50
 abbrev pub counted_orders : ℕ
 counted_orders = 3_333
 
+-- the latest orders that related items are counted over
+abbrev pub recent_orders : ℕ
+recent_orders = 10_000
+
 -- the quantities that one request for the cart sets
 abbrev pub sets_limit : ℕ
 sets_limit = 100

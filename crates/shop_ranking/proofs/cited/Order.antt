@@ -1,15 +1,16 @@
 -- By a total order, elements in order are sorted, and are the same elements.
-use Rattle.std.proofs.Common.{◌≡◌, ℕ, zero, suc, ◌+◌, ◌<◌, Bool, true, false, List, [], ◌∷◌, length, get_or, cond, refl, arith}
+use Rattle.std.proofs.Common.{◌≡◌, ℕ, zero, suc, ◌+◌, ◌<◌, Bool, true, false, List, [], ◌∷◌, length, get_or, cond, refl, sym, arith}
 use Rattle.std.specs.Cmp.{IsTotalOrder}
+use Rattle.std.specs.Cmp.Lexicographic.{slice_cmp}
 use Rattle.std.specs.List.Sorted.{IsSorted, IsPermutation}
-use Rattle.std.specs.Ordering.{is_lt, is_gt, ordering_reverse}
+use Rattle.std.specs.Ordering.{is_lt, is_gt, ordering_reverse, ordering_then, nat_cmp}
 use Rattle.std.specs.declared.cmp.Ordering.{Ordering}
 use Rattle.std.specs.declared.cmp.Ordering.TheVariants.{Less, Equal, Greater}
 use Rattle.std.proofs.lemmas.List.Sorted.{IsPermutation-refl, IsPermutation-trans, IsPermutation-cons, IsPermutation-middle}
-use Rattle.std.proofs.lemmas.Cmp.{nat_cmp_total, nat_list_cmp_total, on_total, then_total, back_total}
-use Rattle.shop_model.specs.rows.Rows.{ItemRow}
-use Rattle.shop_model.specs.lists.Rankings.{Sale, put_among, in_order, newer, better}
-use Rattle.shop_ranking.specs.Order.{IsInOrder}
+use Rattle.std.proofs.lemmas.Cmp.{nat_cmp_total, nat_list_cmp_total, on_total, then_total, back_total, ranked, by_ranked}
+use Rattle.shop_model.specs.lists.Rankings.{Sale, put_among, in_order, better}
+use Rattle.shop_ranking.specs.StandingNewest.{Book, later}
+use Rattle.shop_ranking.specs.Order.{IsInOrder, IsStrict}
 
 permutes_either : {A : Type 0} (b : Bool) (all left right : List A)
     → IsPermutation all left → IsPermutation all right → IsPermutation all (cond b left right)
@@ -105,17 +106,64 @@ order_sorted order total (x ∷ xs) = put_sorted order total x (in_order order x
 pub is_in_order : {A : Type 0} (order : A → A → Ordering) → IsTotalOrder order → (xs : List A) → IsInOrder order xs
 is_in_order order total xs = record { sorted = order_sorted order total xs; same = order_permutes order xs }
 
-newer_total : IsTotalOrder newer
-newer_total =
-    then_total (back_total (on_total (λ (i : ItemRow). i.published) nat_cmp_total))
-    (then_total (on_total (λ (i : ItemRow). i.title) nat_list_cmp_total) (on_total (λ (i : ItemRow). i.id) nat_cmp_total))
-
 better_total : IsTotalOrder better
 better_total =
     then_total (back_total (on_total (λ (s : Sale). s.units) nat_cmp_total)) (on_total (λ (s : Sale). s.id) nat_cmp_total)
 
-pub newer_in_order : (items : List ItemRow) → IsInOrder newer items
-newer_in_order items = is_in_order newer newer_total items
+ordering_parts : (o p : Ordering) → ordering_then o p ≡ Equal → (o ≡ Equal) × (p ≡ Equal)
+ordering_parts Less p tied = cc
+ordering_parts Equal p tied = (refl, tied)
+ordering_parts Greater p tied = cc
+
+abbrev the_sale : ℕ → ℕ → Sale
+the_sale i n = record { id = i; units = n }
+
+same_number : (m n : ℕ) → nat_cmp m n ≡ Equal → m ≡ n
+same_number m n tied = by_ranked (m < n) (m ≡ n) (n < m) (nat_cmp m n) (ranked m n (nat_cmp m n) refl)
+    (λ less _. cc) (λ _ same. same) (λ more _. cc)
+
+same_title : (s t : List ℕ) → slice_cmp nat_cmp s t ≡ Equal → s ≡ t
+same_title [] [] tied = refl
+same_title [] (y ∷ ys) tied = cc
+same_title (x ∷ xs) [] tied = cc
+same_title (x ∷ xs) (y ∷ ys) tied =
+    let parts = ordering_parts (nat_cmp x y) (slice_cmp nat_cmp xs ys) tied in
+    rw (same_number x y parts.0, same_title xs ys parts.1) refl
+
+same_sale : (i j u v : ℕ) → i ≡ j → u ≡ v → the_sale i u ≡ the_sale j v
+same_sale i j u v ids units = rw (ids, units) refl
+
+pub better_strict : IsStrict better
+better_strict = record {
+  total = better_total;
+  apart = λ x y tied.
+      let parts = ordering_parts (nat_cmp y.units x.units) (nat_cmp x.id y.id) tied in
+      same_sale x.id y.id x.units y.units (same_number x.id y.id parts.1) (sym (same_number y.units x.units parts.0));
+}
+
+later_total : IsTotalOrder later
+later_total =
+    then_total (back_total (on_total (λ (b : Book). b.published) nat_cmp_total))
+    (then_total (on_total (λ (b : Book). b.title) nat_list_cmp_total) (on_total (λ (b : Book). b.id) nat_cmp_total))
+
+abbrev the_book : ℕ → List ℕ → ℕ → Book
+the_book i t p = record { id = i; title = t; published = p }
+
+same_book : (i j : ℕ) (s t : List ℕ) (p q : ℕ) → i ≡ j → s ≡ t → p ≡ q → the_book i s p ≡ the_book j t q
+same_book i j s t p q ids titles days = rw (ids, titles, days) refl
+
+pub later_strict : IsStrict later
+later_strict = record {
+  total = later_total;
+  apart = λ x y tied.
+      let parts = ordering_parts (nat_cmp y.published x.published) _ tied in
+      let more = ordering_parts (slice_cmp nat_cmp x.title y.title) (nat_cmp x.id y.id) parts.1 in
+      same_book x.id y.id x.title y.title x.published y.published
+      (same_number x.id y.id more.1) (same_title x.title y.title more.0) (sym (same_number y.published x.published parts.0));
+}
+
+pub later_in_order : (books : List Book) → IsInOrder later books
+later_in_order books = is_in_order later later_total books
 
 pub better_in_order : (sales : List Sale) → IsInOrder better sales
 better_in_order sales = is_in_order better better_total sales

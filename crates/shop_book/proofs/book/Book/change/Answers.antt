@@ -20,8 +20,8 @@ watch-requires c =
 
 pub invariant_of-self : goal.invariant_of-self
 invariant_of-self c =
-    subst (λ (log : List Entry). IsKept (record { opening = c.self.inside.opening; log = log; latest = c.self.inside.latest }) c.make_room.new.rows c.make_room.new.versions c.make_room.new.counts) (sym c.make_room.ensures.log)
-    (kept_roomy (book_of c.self.inside) c.self.inside.rows c.make_room.new.rows c.self.inside.versions c.make_room.new.versions c.self.inside.counts c.make_room.new.counts
+    subst (λ (log : List Entry). IsKept (record { opening = c.self.inside.opening; log = log; latest = c.self.inside.latest }) c.make_room.new.rows c.make_room.new.versions c.make_room.new.counts c.self.inside.lists) (sym c.make_room.ensures.log)
+    (kept_roomy (book_of c.self.inside) c.self.inside.rows c.make_room.new.rows c.self.inside.versions c.make_room.new.versions c.self.inside.counts c.make_room.new.counts c.self.inside.lists
     c.self.invariant c.make_room.ensures.rows c.make_room.ensures.versions c.make_room.ensures.places c.make_room.ensures.counts)
 
 pub change_rows-ids-requires : goal.change_rows-ids-requires
@@ -29,11 +29,11 @@ change_rows-ids-requires c =
     let many : c.len-more.result ≡ length c.args.writes.items = omega (arith, c.len-more.ensures, c.args.writes.ok.0) in
     record {
       ready =
-          ready _ _ c.self.invariant.is_book _ _ c.self.view_is c.requires c.in-Ok.ensures.form c.self.inside.rows c.self.inside.versions c.self.inside.counts c.self.invariant
+          ready _ _ c.self.invariant.is_book _ _ c.self.view_is c.requires c.in-Ok.ensures.form c.self.inside.rows c.self.inside.versions c.self.inside.counts c.self.inside.lists c.self.invariant
           c.make_room.new.rows (c.make_room.ensures.rows c.self.inside.opening.tables)
           (subst (HasRoom c.make_room.new.rows) many c.if-not-make_room.ensures.rows_room);
       places =
-          (kept_roomy (book_of c.self.inside) c.self.inside.rows c.make_room.new.rows c.self.inside.versions c.make_room.new.versions c.self.inside.counts c.make_room.new.counts
+          (kept_roomy (book_of c.self.inside) c.self.inside.rows c.make_room.new.rows c.self.inside.versions c.make_room.new.versions c.self.inside.counts c.make_room.new.counts c.self.inside.lists
           c.self.invariant c.make_room.ensures.rows c.make_room.ensures.versions c.make_room.ensures.places c.make_room.ensures.counts).places;
       room = subst (versioned.HasRoom c.make_room.new.versions) many c.if-not-make_room.ensures.versions_room;
       rows = λ t.
@@ -51,8 +51,8 @@ invariant_of-self-2 c =
     let rises : RaisedFor (tables_with t c.make_room.new.rows) later (length c.self.inside.log.items + 1) (keys_of c.in-Ok.watched.items) (stored c.make_room.new.versions) (stored c.change_rows-ids.new.versions)
     = subst (λ n. RaisedFor (tables_with t c.make_room.new.rows) later n (keys_of c.in-Ok.watched.items) (stored c.make_room.new.versions) (stored c.change_rows-ids.new.versions)) size
     (subst (λ (watched : List Watched). RaisedFor (tables_with t c.make_room.new.rows) later (c.len.result + 1) (keys_of watched) (stored c.make_room.new.versions) (stored c.change_rows-ids.new.versions)) c.deref.ensures.value (c.change_rows-ids.ensures.raised t)) in
-    subst (λ (l : List Entry). IsKept (record { opening = c.self.inside.opening; log = l; latest = c.args.entry.stamp }) c.change_rows-ids.new.rows c.change_rows-ids.new.versions c.set.new.self) (sym log)
-    (kept_after _ _ c.self.invariant.is_book _ _ c.self.view_is c.requires c.in-Ok.ensures.form c.self.inside.rows c.self.inside.versions c.self.inside.counts c.self.invariant
+    subst (λ (l : List Entry). IsKept (record { opening = c.self.inside.opening; log = l; latest = c.args.entry.stamp }) c.change_rows-ids.new.rows c.change_rows-ids.new.versions c.set.new.self c.self.inside.lists) (sym log)
+    (kept_after _ _ c.self.invariant.is_book _ _ c.self.view_is c.requires c.in-Ok.ensures.form c.self.inside.rows c.self.inside.versions c.self.inside.counts c.self.inside.lists c.self.invariant
     c.make_room.new.rows (c.make_room.ensures.rows t) c.change_rows-ids.new.rows c.make_room.new.versions c.change_rows-ids.new.versions c.set.new.self (c.change_rows-ids.ensures.made t)
     (keys_of c.in-Ok.watched.items) (c.in-Ok.ensures.keys t) c.change_rows-ids.ensures.places c.make_room.ensures.versions rises
     (λ caller. c.set.ensures caller ∙ ap (λ (count : ℕ). if c.args.entry.caller == caller then c.args.entry.number else count) (c.make_room.ensures.counts caller)))

@@ -1,9 +1,10 @@
-use Rattle.std.proofs.Common.{◌∙◌, ap, subst}
+use Rattle.std.proofs.Common.{sym, ◌∙◌, ap, subst}
 use Rattle.shop_model.specs.declared.tables.Tables.{Tables}
 use Rattle.shop_history.specs.Keys.{row_of}
 use Rattle.shop_book.specs.BookView.{book_of}
 use Rattle.shop_book.specs.Laws.{IsGoodThroughout}
-use Rattle.shop_book.proofs.Keeping.{sound_now, lists_now}
+use Rattle.shop_book.specs.KeptLists.{AreLists}
+use Rattle.shop_book.proofs.Keeping.{sound_now}
 use Rattle.shop_book.proofs.Laws.{version_shortest, good_throughout}
 use Rattle.shop_book.proofs.book.Book.read.Goals as goal
 
@@ -11,7 +12,7 @@ pub shown-requires-clause-sound : goal.shown-requires-clause-sound
 shown-requires-clause-sound c = sound_now (book_of c.self.inside) c.self.inside.rows c.self.invariant.is_book c.self.invariant.rows_are
 
 pub shown-requires-clause-lists : goal.shown-requires-clause-lists
-shown-requires-clause-lists c = lists_now (book_of c.self.inside) c.self.inside.rows c.self.invariant.is_book c.self.invariant.rows_are
+shown-requires-clause-lists c = subst (λ t. AreLists t c.self.inside.lists) (sym c.self.invariant.rows_are) c.self.invariant.lists_are
 
 pub returns-in_err-row-clause-sound : goal.returns-in_err-row-clause-sound
 returns-in_err-row-clause-sound c = subst IsGoodThroughout c.self.view_is (good_throughout (book_of c.self.inside) c.self.invariant.is_book)

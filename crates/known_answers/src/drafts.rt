@@ -1,0 +1,182 @@
+//! Pages as they are written in place, and as a settle fills their gaps.
+use crate::answers::{answer, heading, text_of};
+use crate::stop::Stop;
+use shop_draft::{Draft, Hole, Id, Out, PageIds, Template, refusal};
+use shop_history::{Drawn, Ids};
+use shop_model::{Refusal, Subject};
+use shop_text::{Caption, Memory};
+use std::alloc::Global;
+
+const NONE: Ids = Ids {
+    cart: None,
+    customer: None,
+    address: None,
+    order: None,
+};
+
+const NO_IDS: PageIds = PageIds {
+    c: None,
+    cart: None,
+};
+
+/// What a settle drew at 2000-02-29.
+fn drawn(ids: Ids) -> Drawn {
+    Drawn {
+        front: 1,
+        stamp: 951_782_400_001,
+        ids,
+    }
+}
+
+/// The page, filled, and how long it was told to be.
+fn filled(alloc: Global, page: &Template, drawn: &Drawn) -> Result<(Out, usize), Memory> {
+    let mut out = Out::with_capacity(alloc, 0)?;
+    let Some(room) = page.room() else {
+        return Err(Memory);
+    };
+    out.reserve(room)?;
+    page.fill(&mut out, drawn);
+    Ok((out, page.len(drawn)))
+}
+
+/// Prints a page, and whether no gap of it is to be filled.
+fn print_page(rt: &impl Print, what: &str, page: &Template) -> Result<(), Stop> {
+    answer(rt, &what, &page.is_whole())?;
+    heading(rt, text_of(page.bytes()))
+}
+
+/// Prints a page that a settle filled, and whether it is as long as was told.
+fn print_filled(
+    rt: &(impl Print + AllocGlobal),
+    what: &str,
+    page: &Template,
+    ids: Ids,
+) -> Result<(), Stop> {
+    let (out, len) = filled(rt.alloc(), page, &drawn(ids))?;
+    answer(rt, &what, &(page.is_whole(), out.bytes().len() == len))?;
+    heading(rt, text_of(out.bytes()))
+}
+
+fn put_item(page: &mut Template, title: &Caption, first: &Caption) -> Result<(), Memory> {
+    page.begin(b"Item")?;
+    page.heading(title)?;
+    page.text(b"<p>By ", first)?;
+    page.put(b"</p>\n")?;
+    page.para(title)?;
+    page.picture(title, first)?;
+    page.day(b"<p>Published ", 11_016)?;
+    page.money(b", our price ", 1_205)?;
+    page.escaped(b" by ", b"\"A&B\"")?;
+    page.put(b"</p>\n")?;
+    page.end()?;
+    Ok(())
+}
+
+fn print_item(rt: &(impl Print + AllocGlobal), page: &mut Template) -> Result<(), Stop> {
+    let title = Caption::copy(rt.alloc(), b"fish & <chips>")?;
+    let first = Caption::copy(rt.alloc(), b"ANN")?;
+    put_item(page, &title, &first)?;
+    page.put_before(b"long head\n");
+    page.put_before(b"head\n");
+    print_page(rt, "texts and blocks behind a head", page)?;
+    put_item(page, &first, &first)?;
+    print_page(rt, "the next page", page)
+}
+
+fn put_links(page: &mut Template, caption: &Caption, ids: PageIds) -> Result<(), Memory> {
+    page.clear();
+    page.plain_link(b"/home", ids, b"Home")?;
+    page.item_link(b"/item", 7, ids, b"Item")?;
+    page.title_link(8, ids, caption)?;
+    page.author_link(9, ids, caption, caption, caption)?;
+    page.subject_link(b"/new", Subject::Arts, ids, b"New ")?;
+    page.search_form(ids)?;
+    Ok(())
+}
+
+fn print_links(rt: &(impl Print + AllocGlobal), page: &mut Template) -> Result<(), Stop> {
+    let caption = Caption::copy(rt.alloc(), b"a<b")?;
+    put_links(page, &caption, NO_IDS)?;
+    print_page(rt, "links", page)?;
+    let ids = PageIds {
+        c: Some(Id::Known(5)),
+        cart: Some(Id::Known(6)),
+    };
+    put_links(page, &caption, ids)?;
+    print_page(rt, "links that hand on ids", page)
+}
+
+fn put_cart(page: &mut Template, title: &Caption, ids: PageIds) -> Result<(), Memory> {
+    page.begin(b"Cart")?;
+    page.id(b"<h1>Cart ", Id::NewCart)?;
+    page.put(b"</h1>\n<table>")?;
+    page.line_row(3, title, 12, 250, 3_000)?;
+    page.put(b"<tr>")?;
+    page.text_cell(title)?;
+    page.number_cell(1)?;
+    page.money_cell(5)?;
+    page.put(b"</tr></table>\n")?;
+    page.cart_form(&[(3, 12), (4, 1)], ids)?;
+    page.nav(ids)?;
+    page.end()?;
+    Ok(())
+}
+
+fn print_cart(rt: &(impl Print + AllocGlobal), page: &mut Template) -> Result<(), Stop> {
+    let title = Caption::copy(rt.alloc(), b"A&B")?;
+    let waiting = PageIds {
+        c: None,
+        cart: Some(Id::NewCart),
+    };
+    put_cart(page, &title, waiting)?;
+    let ids = Ids {
+        cart: Some(u32::MAX),
+        ..NONE
+    };
+    print_filled(rt, "a page that waits for the id of a cart", page, ids)
+}
+
+fn put_each_hole(page: &mut Template) -> Result<(), Memory> {
+    page.clear();
+    page.hole(b"", Hole::CartId)?;
+    page.hole(b" ", Hole::CustomerId)?;
+    page.hole(b" ", Hole::OrderId)?;
+    page.hole(b" ", Hole::User)?;
+    page.hole(b" ", Hole::Day(1))?;
+    page.hole(b" ", Hole::Day(u32::MAX))?;
+    page.id(b" ", Id::NewCustomer)?;
+    page.id(b" ", Id::NewOrder)?;
+    page.put(b".")?;
+    Ok(())
+}
+
+fn print_holes(rt: &(impl Print + AllocGlobal), page: &mut Template) -> Result<(), Stop> {
+    put_each_hole(page)?;
+    let ids = Ids {
+        cart: Some(7),
+        customer: Some(10),
+        address: Some(1),
+        order: Some(9),
+    };
+    print_filled(rt, "each gap", page, ids)?;
+    print_filled(rt, "each gap where nothing is drawn", page, NONE)
+}
+
+fn print_refusal(rt: &(impl Print + AllocGlobal)) -> Result<(), Stop> {
+    let mut draft = Draft {
+        status: 200,
+        page: Template::with_room(rt.alloc(), 0)?,
+    };
+    refusal(&mut draft, Refusal::NoCart)?;
+    answer(rt, &"a refusal", &draft.status)?;
+    heading(rt, text_of(draft.page.bytes()))
+}
+
+pub fn print(rt: &(impl Print + AllocGlobal)) -> Result<(), Stop> {
+    let mut page = Template::with_room(rt.alloc(), 0)?;
+    print_item(rt, &mut page)?;
+    print_links(rt, &mut page)?;
+    print_cart(rt, &mut page)?;
+    print_holes(rt, &mut page)?;
+    print_refusal(rt)
+}

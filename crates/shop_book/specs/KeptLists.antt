@@ -1,0 +1,32 @@
+-- What is kept of the latest orders and of the items.
+use Rattle.std.specs.Prelude.{◌≡◌, ℕ, ◌≤◌, List, length, map, All}
+use Rattle.shop_model.specs.declared.tables.Tables.{Tables}
+use Rattle.shop_model.specs.lists.Rankings.{best, newest}
+use Rattle.shop_model.specs.lists.Related.{sold_of, last, recent}
+use Rattle.shop_model.specs.rows.Limits.{lines_limit, counted_orders}
+use Rattle.shop_model.specs.rows.Rows.{ItemRow, OrderRow}
+use Rattle.shop_model.specs.rows.Sound.{Has}
+use Rattle.shop_model.specs.rows.Subjects.{subjects}
+use Rattle.shop_ranking.specs.StandingBest.{Units, AreSoldLately}
+use Rattle.shop_ranking.specs.StandingNewest.{AreAsPublished}
+use Rattle.shop_book.specs.declared.lists.Lists.{Lists}
+
+-- a window over so many items takes the order in
+pub record IsAdmitted (size : ℕ) (o : OrderRow) : Type 0 where
+  pub few : length o.lines ≤ lines_limit
+  pub items : All (λ l. Has size l.item) o.lines
+
+-- so many units stand of each of these items
+pub record UnitsAre (items : List ItemRow) (sold : ℕ → ℕ) (best : Units) : Type 0 where
+  pub subjects : best.subjects ≡ map (λ i. i.subject) items
+  pub units : best.units ≡ map (λ i. sold i.id) items
+
+-- the windows hold the latest orders of these tables, the units that stand of each item are those that were sold and the days those
+-- of its publication, and the lists are shown
+pub record AreLists (t : Tables) (lists : Lists) : Type 0 where
+  pub sold : lists.sold.kept ≡ map sold_of (last counted_orders t.orders)
+  pub recent : lists.recent.kept ≡ recent t
+  pub units : AreSoldLately t lists.best
+  pub days : AreAsPublished t lists.newest
+  pub best_rows : lists.best_rows.items ≡ map (best t) subjects
+  pub newest_rows : lists.newest_rows.items ≡ map (newest t) subjects

@@ -1,0 +1,125 @@
+//! What is kept of the latest orders and of the items, so that a list is looked up.
+ghost use Rattle.std.specs.Prelude.{◌≡◌, ◌≤◌, IfOk, All, length, map};
+ghost use Rattle.shop_model.specs.declared.tables.Tables.{Tables};
+ghost use Rattle.shop_model.specs.lists.Rankings as spec;
+ghost use Rattle.shop_model.specs.lists.Related.{sold_of, last, units_in_orders};
+ghost use Rattle.shop_model.specs.rows.Limits.{recent_orders};
+ghost use Rattle.shop_model.specs.rows.Sound.{Sound, Runs};
+ghost use Rattle.shop_model.specs.rows.Subjects.{subjects};
+ghost use Rattle.shop_ranking.specs.StandingBest.{standing_best};
+ghost use Rattle.shop_ranking.specs.StandingNewest.{standing_newest};
+ghost use Rattle.shop_book.specs.KeptLists.{AreLists, IsAdmitted, UnitsAre};
+
+use shop_history::Row;
+use shop_model::{Item, Order, Subject, Tables};
+use shop_ranking::{Best, Newest};
+use shop_text::{Listed, Memory, Shared};
+use shop_window::OrderWindow;
+use std::alloc::Global;
+
+/// The latest orders, the units that were sold of each item, and the lists that are made of them.
+#[derive(Drop)]
+pub(crate) struct Lists {
+    /// The orders that best sold items are counted over.
+    pub(crate) sold: OrderWindow<3_333>,
+    /// The orders that related items are counted over.
+    pub(crate) recent: OrderWindow<10_000>,
+    pub(crate) best: Best,
+    pub(crate) newest: Newest,
+    /// The best sold items of each subject, by its number, as they are shown.
+    best_rows: Vec<Shared<Listed<u32>>>,
+    /// The newest ones.
+    newest_rows: Vec<Shared<Listed<u32>>>,
+}
+
+/// The latest of these orders.
+fn window_of<const N: usize>(
+    alloc: Global,
+    orders: &[Order],
+    items: u32,
+) -> Result<OrderWindow<N>, Memory>
+    requires some { 1 ≤ N }
+    requires few { N ≤ recent_orders }
+    requires orders { All (IsAdmitted items) orders.now }
+    ensures { IfOk result (λ window. window.kept ≡ map sold_of (last N orders.now)) }
+{
+    let mut window = OrderWindow::new(alloc, items)?;
+    for order in orders {
+        window.admit(order)?;
+    }
+    Ok(window)
+}
+
+/// The units of each item in the orders of a window.
+fn best_of(alloc: Global, items: &[Item], sold: &OrderWindow<3_333>) -> Result<Best, Memory>
+    requires { Runs (map (λ i. i.id) items.now) }
+    ensures { IfOk result (UnitsAre items.now (λ item. units_in_orders item sold.now.kept)) }
+{
+    let mut best = Best::new(alloc, items)?;
+    for item in items {
+        best.bump(item.id, sold.quantity(item.id));
+    }
+    Ok(best)
+}
+
+/// The best sold items of each subject, by its number.
+fn best_rows(alloc: Global, best: &Best) -> Result<Vec<Shared<Listed<u32>>>, Memory>
+    ensures { IfOk result (λ rows. rows.items ≡ map (standing_best best.now) subjects) }
+{
+    let mut rows = Vec::with_capacity(alloc, 24)?;
+    for subject in &Subject::all() {
+        let list = Shared::new(alloc, best.top50(alloc, *subject)?)?;
+        rows.push(list)?;
+    }
+    Ok(rows)
+}
+
+/// The newest items of each subject, by its number.
+fn newest_rows(alloc: Global, newest: &Newest) -> Result<Vec<Shared<Listed<u32>>>, Memory>
+    ensures { IfOk result (λ rows. rows.items ≡ map (standing_newest newest.now) subjects) }
+{
+    let mut rows = Vec::with_capacity(alloc, 24)?;
+    for subject in &Subject::all() {
+        let list = Shared::new(alloc, newest.top50(alloc, *subject)?)?;
+        rows.push(list)?;
+    }
+    Ok(rows)
+}
+
+impl Lists {
+    /// Those of these tables.
+    pub(crate) fn of(alloc: Global, tables: &Tables) -> Result<Lists, Memory>
+        requires { Sound tables.now }
+        ensures { IfOk result (AreLists tables.now) }
+    {
+        let (items, orders) = (tables.items.as_slice(), tables.orders.as_slice());
+        let sold = window_of(alloc, orders, items.len() as u32)?;
+        let recent = window_of(alloc, orders, items.len() as u32)?;
+        let best = best_of(alloc, items, &sold)?;
+        let newest = Newest::new(alloc, items)?;
+        Ok(Lists {
+            best_rows: best_rows(alloc, &best)?,
+            newest_rows: newest_rows(alloc, &newest)?,
+            sold,
+            recent,
+            best,
+            newest,
+        })
+    }
+
+    /// What the key of a subject's newest items shows; takes no memory.
+    pub(crate) fn newest_row(&self, subject: Subject) -> Result<Row, Memory>
+        requires { length self.now.newest_rows.items ≡ length subjects }
+        ensures { (t : Tables) → AreLists t self.now → IfOk result (λ row. row ≡ Row.Items (spec.newest t subject)) }
+    {
+        Ok(Row::Items(self.newest_rows[subject.number() as usize].share()?))
+    }
+
+    /// What the key of a subject's best sold items shows; takes no memory.
+    pub(crate) fn best_row(&self, subject: Subject) -> Result<Row, Memory>
+        requires { length self.now.best_rows.items ≡ length subjects }
+        ensures { (t : Tables) → AreLists t self.now → IfOk result (λ row. row ≡ Row.Items (spec.best t subject)) }
+    {
+        Ok(Row::Items(self.best_rows[subject.number() as usize].share()?))
+    }
+}

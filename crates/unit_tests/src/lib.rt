@@ -1,0 +1,11 @@
+//! Tests of single libraries. They stand here since a crate that has tests is proved twice.
+#![tactic(auto)]
+
+#[cfg(test)]
+mod messages;
+#[cfg(test)]
+mod rankings;
+#[cfg(test)]
+mod texts;
+#[cfg(test)]
+mod windows;

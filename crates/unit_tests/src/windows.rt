@@ -1,0 +1,167 @@
+ghost use Rattle.std.specs.Prelude.{◌≡◌, ◌≤◌, All, length, IfOk};
+ghost use Rattle.shop_model.specs.rows.Limits.{lines_limit, recent_orders};
+ghost use Rattle.shop_model.specs.rows.Sound.{Has};
+
+use shop_model::{AuthId, CardType, CardUse, Line, Order, OrderState, QUANTITY_LIMIT, ShipType};
+use shop_text::{Listed, Memory, Text};
+use shop_window::{OrderWindow, five_related};
+use std::alloc::Global;
+use std::test::Fail;
+
+/// A payment of nothing.
+fn paid(alloc: Global) -> CardUse {
+    CardUse {
+        card: CardType::Visa,
+        number: Text::new(alloc),
+        name: Text::new(alloc),
+        expiry: Text::new(alloc),
+        auth: AuthId::of(0),
+        total: 0,
+        stamp: 0,
+        country: 1,
+    }
+}
+
+/// Lines of these items and quantities, of three items that there are.
+fn lines_of(alloc: Global, pairs: &[(u32, u32)]) -> Result<Listed<Line>, Memory>
+    ensures few { IfOk result (λ lines. length lines ≤ length pairs.now) }
+    ensures items { IfOk result (λ lines. All (λ l. Has 3 l.item) lines) }
+{
+    let mut lines = Listed::with_capacity(alloc, pairs.len())?;
+    for (item, quantity) in pairs {
+        if *item < 1 || 3 < *item || QUANTITY_LIMIT < *quantity {
+            return Err(Memory);
+        }
+        lines.push(Line {
+            number: 1,
+            item: *item,
+            quantity: *quantity,
+            cost: 0,
+        })?;
+    }
+    Ok(lines)
+}
+
+/// An order of these items and quantities.
+fn order(alloc: Global, id: u32, customer: u32, pairs: &[(u32, u32)]) -> Result<Order, Memory>
+    requires { length pairs.now ≤ lines_limit }
+    ensures few { IfOk result (λ order. length order.lines ≤ lines_limit) }
+    ensures items { IfOk result (λ order. All (λ l. Has 3 l.item) order.lines) }
+{
+    Ok(Order {
+        id,
+        customer,
+        placed: 0,
+        discount: 0,
+        sub: 0,
+        tax: 0,
+        ship: 0,
+        total: 0,
+        ship_type: ShipType::Air,
+        ship_day: 0,
+        ship_address: 1,
+        status: OrderState::Pending,
+        lines: lines_of(alloc, pairs)?,
+        card: paid(alloc),
+    })
+}
+
+/// Takes in an order of these items and quantities.
+fn admit<const N: usize>(
+    window: &mut OrderWindow<N>,
+    alloc: Global,
+    id: u32,
+    customer: u32,
+    pairs: &[(u32, u32)],
+) -> Result<Option<u32>, Memory>
+    requires some { 1 ≤ N }
+    requires few { N ≤ recent_orders }
+    requires items { window.old.items ≡ 3 }
+    requires lines { length pairs.now ≤ lines_limit }
+    ensures { window.new.items ≡ window.old.items }
+{
+    let order = order(alloc, id, customer, pairs)?;
+    window.admit(&order)
+}
+
+/// The units of the three items, and of one that there is not.
+fn quantities<const N: usize>(window: &OrderWindow<N>) -> [u64; 4] {
+    [
+        window.quantity(1),
+        window.quantity(2),
+        window.quantity(3),
+        window.quantity(4),
+    ]
+}
+
+/// The ids that are answered where these orders come one after another: item 1 five times, item 2
+/// thrice, and item 2 twice with item 3 five times.
+fn three_orders<const N: usize>(
+    window: &mut OrderWindow<N>,
+    alloc: Global,
+) -> Result<[Option<u32>; 3], Memory>
+    requires some { 1 ≤ N }
+    requires few { N ≤ recent_orders }
+    requires items { window.old.items ≡ 3 }
+{
+    let first = admit(window, alloc, 11, 1, &[(1, 5)])?;
+    let second = admit(window, alloc, 12, 2, &[(2, 3)])?;
+    let third = admit(window, alloc, 13, 1, &[(2, 2), (3, 5)])?;
+    Ok([first, second, third])
+}
+
+#[test]
+fn the_oldest_order_leaves(rt: HostRuntime) -> Result<(), Fail> {
+    let alloc = rt.alloc();
+    let mut window = OrderWindow::<2>::new(alloc, 3)?;
+    assert_eq!(rt; three_orders(&mut window, alloc)?, [None, None, Some(11)]);
+    assert_eq!(rt; quantities(&window), [0, 5, 5, 0]);
+    assert_eq!(rt; window.buyers(2)?.as_slice(), [1, 2].as_slice());
+    assert_eq!(rt; window.bought(1)?.as_slice(), [(2, 2), (3, 5)].as_slice());
+    assert_eq!(rt; [window.has(1, 3), window.has(1, 1)], [true, false]);
+    Ok(())
+}
+
+#[test]
+fn a_window_of_one(rt: HostRuntime) -> Result<(), Fail> {
+    let alloc = rt.alloc();
+    let mut window = OrderWindow::<1>::new(alloc, 3)?;
+    window.reserve(3)?;
+    assert_eq!(rt;
+        three_orders(&mut window, alloc)?,
+        [None, Some(11), Some(12)]
+    );
+    assert_eq!(rt; window.buyers(2)?.as_slice(), [1].as_slice());
+    Ok(())
+}
+
+/// Orders of customer 7, customer 5, and customer 7 again, the first with an item on two lines.
+fn orders_of_two<const N: usize>(window: &mut OrderWindow<N>, alloc: Global) -> Result<(), Memory>
+    requires some { 1 ≤ N }
+    requires few { N ≤ recent_orders }
+    requires items { window.old.items ≡ 3 }
+{
+    admit(window, alloc, 11, 7, &[(3, 4), (2, 1), (3, 1)])?;
+    admit(window, alloc, 12, 5, &[(3, 2)])?;
+    admit(window, alloc, 13, 7, &[(2, 8)])?;
+    Ok(())
+}
+
+#[test]
+fn an_item_on_two_lines_and_a_customer_twice(rt: HostRuntime) -> Result<(), Fail> {
+    let alloc = rt.alloc();
+    let mut window = OrderWindow::<3>::new(alloc, 3)?;
+    orders_of_two(&mut window, alloc)?;
+    assert_eq!(rt; quantities(&window), [0, 9, 7, 0]);
+    assert_eq!(rt; window.buyers(3)?.as_slice(), [5, 7].as_slice());
+    assert_eq!(rt; window.bought(7)?.as_slice(), [(2, 9), (3, 5)].as_slice());
+    assert_eq!(rt; [window.has(7, 3), window.has(5, 2)], [true, false]);
+    Ok(())
+}
+
+#[test]
+fn five_items_are_related(rt: HostRuntime) -> Result<(), Fail> {
+    let alloc = rt.alloc();
+    assert_eq!(rt; five_related(alloc, &[], 99, 100)?, [100, 1, 2, 3, 4]);
+    Ok(())
+}
