@@ -3,7 +3,8 @@ use crate::answers::{answer, heading, text_of};
 use crate::stop::Stop;
 use shop_draft::{Draft, Hole, Id, Out, PageIds, Template, refusal};
 use shop_history::{Drawn, Ids};
-use shop_model::{Refusal, Subject};
+use shop_model::{Item, Order, Refusal, Scale, Subject};
+use shop_populate::populate;
 use shop_text::{Caption, Memory};
 use std::alloc::Global;
 
@@ -110,7 +111,7 @@ fn put_cart(page: &mut Template, title: &Caption, ids: PageIds) -> Result<(), Me
     page.begin(b"Cart")?;
     page.id(b"<h1>Cart ", Id::NewCart)?;
     page.put(b"</h1>\n<table>")?;
-    page.line_row(3, title, 12, 250, 3_000)?;
+    page.line_row(3, title, 12, 250)?;
     page.put(b"<tr>")?;
     page.text_cell(title)?;
     page.number_cell(1)?;
@@ -162,6 +163,50 @@ fn print_holes(rt: &(impl Print + AllocGlobal), page: &mut Template) -> Result<(
     print_filled(rt, "each gap where nothing is drawn", page, NONE)
 }
 
+fn put_customer(page: &mut Template, customer: Id, ids: PageIds) -> Result<(), Memory> {
+    page.clear();
+    page.buyer(customer, b"A&B", b"<C>", 50)?;
+    page.payment_form(b"A&B", b"<C>", ids)?;
+    page.newcomer_form(ids)?;
+    page.login_form(b"/buy_request", None, ids)?;
+    page.login_form(b"/order_display", Some(1_234_567_890), ids)?;
+    Ok(())
+}
+
+fn print_customers(rt: &(impl Print + AllocGlobal), page: &mut Template) -> Result<(), Stop> {
+    put_customer(page, Id::Known(95), NO_IDS)?;
+    print_page(rt, "a known customer", page)?;
+    let waiting = PageIds {
+        c: Some(Id::NewCustomer),
+        cart: Some(Id::Known(6)),
+    };
+    put_customer(page, Id::NewCustomer, waiting)?;
+    let ids = Ids {
+        customer: Some(2_881),
+        ..NONE
+    };
+    print_filled(rt, "a new customer", page, ids)
+}
+
+fn put_order(page: &mut Template, order: &Order, item: &Item) -> Result<(), Memory> {
+    page.clear();
+    page.placed(order)?;
+    page.totals(order.sub, order.tax, order.ship, order.total)?;
+    page.ship_to(b"A&B", b"<C>")?;
+    page.paid(&order.card)?;
+    page.admin_form(item, NO_IDS)?;
+    Ok(())
+}
+
+/// The twentieth order and the first item of the smallest shop.
+fn print_order(rt: &(impl Print + AllocGlobal), page: &mut Template) -> Result<(), Stop> {
+    let tables = populate(rt.alloc(), 0, &Scale::desk())?;
+    let order = tables.orders.as_slice().get(19).ok_or(Stop::NoRow)?;
+    let item = tables.items.as_slice().first().ok_or(Stop::NoRow)?;
+    put_order(page, order.get(), item)?;
+    print_page(rt, "an order, and an item", page)
+}
+
 fn print_refusal(rt: &(impl Print + AllocGlobal)) -> Result<(), Stop> {
     let mut draft = Draft {
         status: 200,
@@ -178,5 +223,7 @@ pub fn print(rt: &(impl Print + AllocGlobal)) -> Result<(), Stop> {
     print_links(rt, &mut page)?;
     print_cart(rt, &mut page)?;
     print_holes(rt, &mut page)?;
+    print_customers(rt, &mut page)?;
+    print_order(rt, &mut page)?;
     print_refusal(rt)
 }

@@ -17,9 +17,9 @@ pub fn print(rt: &(impl Print + AllocGlobal)) -> Result<(), Stop> {
 fn print_desk(rt: &(impl Print + AllocGlobal), tables: &Tables) -> Result<(), Stop> {
     share_item(rt, row(tables.items.as_slice(), 1)?)?;
     share_customer(rt, row(tables.customers.as_slice(), 10)?)?;
-    copy_address(rt, row(tables.addresses.as_slice(), 29)?)?;
-    copy_order(rt, row(tables.orders.as_slice(), 20)?)?;
-    print_country(rt, row(tables.countries.as_slice(), 45)?)?;
+    copy_address(rt, row(tables.addresses.as_slice(), 29)?.get())?;
+    copy_order(rt, row(tables.orders.as_slice(), 20)?.get())?;
+    print_country(rt, row(tables.countries.as_slice(), 45)?.get())?;
     print_author(rt, row(tables.authors.as_slice(), 1)?.get())?;
     print_subject(rt, tables.items.as_slice())?;
     print_last_orders(rt, tables.last.as_slice())
@@ -29,8 +29,8 @@ fn print_desk(rt: &(impl Print + AllocGlobal), tables: &Tables) -> Result<(), St
 fn print_larger(rt: &(impl Print + AllocGlobal), tables: &Tables) -> Result<(), Stop> {
     share_item(rt, row(tables.items.as_slice(), 1000)?)?;
     share_customer(rt, row(tables.customers.as_slice(), 2880)?)?;
-    copy_address(rt, row(tables.addresses.as_slice(), 5760)?)?;
-    copy_order(rt, row(tables.orders.as_slice(), 2592)?)
+    copy_address(rt, row(tables.addresses.as_slice(), 5760)?.get())?;
+    copy_order(rt, row(tables.orders.as_slice(), 2592)?.get())
 }
 
 /// The row of this id.

@@ -1,5 +1,6 @@
 -- What a rival's settle leaves to the caller at whose seat it was made.
 use Rattle.std.proofs.Common.{◌≡◌, max, List, [], ◌∷◌, ◌++◌, Option, Some, None, refl, sym, ◌∙◌, ap, subst, arith}
+use Rattle.shop_log.specs.Histories.{Extends}
 use Rattle.shop_log.proofs.cited.Extends.{extends_trans}
 use Rattle.shop_model.specs.declared.tables.Tables.{Tables}
 use Rattle.shop_history.specs.declared.acts.Act.{Act}
@@ -19,11 +20,15 @@ use Rattle.shop_book.specs.Solos.{SoloValue, seat_of, marks_of, IsKeptMark}
 use Rattle.shop_book.proofs.cited.Marks.{marks_are}
 use Rattle.rival_tests.specs.Rivals.{among}
 
--- what was faithful still is, where calls settled nothing since
+-- what was faithful still is, where the log has only grown
+pub faithful_grown : (t u : Tables) (log longer : List Entry) (attempt : Attempt) → u ≡ t → Extends log longer → Faithful t log attempt → Faithful u longer attempt
+faithful_grown t u log longer attempt same grows faithful =
+    subst (λ (t : Tables). Faithful t longer attempt) (sym same)
+    (record { reads_are = true_longer_all t log longer attempt.reads grows faithful.reads_are; makes = faithful.makes })
+
+-- so where calls settled nothing since
 pub faithful_later : (old new : Seat) (attempt : Attempt) → Follows old new → Faithful old.opening old.seen attempt → Faithful new.opening new.seen attempt
-faithful_later old new attempt follows faithful =
-    subst (λ (t : Tables). Faithful t new.seen attempt) (sym follows.opening)
-    (record { reads_are = true_longer_all old.opening old.seen new.seen attempt.reads follows.grows faithful.reads_are; makes = faithful.makes })
+faithful_later old new attempt follows = faithful_grown old.opening new.opening old.seen new.seen attempt follows.opening follows.grows
 
 -- a seat is one wherever its latest stamp is told
 valid_alone : (seat : Seat) → IsSeat (among seat) → IsSeat seat

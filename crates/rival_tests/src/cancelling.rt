@@ -18,7 +18,7 @@ use std::alloc::Global;
 use std::test::Fail;
 
 /// The attempt of a request that sets one unit of item 46 in a cart, or in a new one.
-fn one_unit<St: Store>(
+pub(crate) fn one_unit<St: Store>(
     alloc: Global,
     store: &mut St,
     ask: &Ask,
@@ -100,7 +100,7 @@ fn with_cancelling<St: Store>(
 }
 
 /// Settles an attempt that is done; how many entries there are then.
-fn settled<St: Store>(store: &mut St, attempt: Attempt) -> Result<u64, Fail>
+pub(crate) fn settled<St: Store>(store: &mut St, attempt: Attempt) -> Result<u64, Fail>
     requires faithful { Faithful (St.seat store.old).opening (St.seat store.old).seen attempt }
     requires moment { attempt.moment ≤ stamp_limit }
     ensures { (St.seat store.new).opening ≡ (St.seat store.old).opening }

@@ -4,27 +4,24 @@ use Rattle.std.proofs.lemmas.List.FromFn.{length-map-range_with_len}
 use Rattle.shop_model.specs.declared.tables.Tables.{Tables}
 use Rattle.shop_model.specs.lists.Catalogues.{Catalogue, catalogue}
 use Rattle.shop_model.specs.population.Population.{populated, items_table, item_row}
-use Rattle.shop_model.specs.population.Scales.{ScaleRow}
+use Rattle.shop_model.specs.population.Scales.{ScaleRow, desk}
 use Rattle.shop_attempt.specs.Seats.{IsSeat}
 use Rattle.shop_book.specs.Books.{BookValue}
 use Rattle.shop_book.specs.Solos.{SoloValue, seat_of, seated}
 use Rattle.shop_engine.specs.Workers.{IsPosted}
 
-items_of : (seed : ℕ) (scale : ScaleRow) → length (populated seed scale).items ≡ scale.items
+-- as many items are populated as the scale says
+pub items_of : (seed : ℕ) (scale : ScaleRow) → length (populated seed scale).items ≡ scale.items
 unfolding populated items_table
 items_of seed scale = length-map-range_with_len (item_row seed scale) 1 scale.items
 
--- the tables that a seat is at have as many items as their scale says
-pub scaled : (scale : ScaleRow) (t : Tables) (book : BookValue) (solo : SoloValue) → t ≡ populated 0 scale → book.opening.tables ≡ t → solo ≡ seated book 1
-    → scale.items ≡ length solo.book.opening.tables.items
-scaled scale t book solo drawn opens is =
-    sym (ap (λ (s : SoloValue). length s.book.opening.tables.items) is ∙ ap (λ (u : Tables). length u.items) (opens ∙ drawn) ∙ items_of 0 scale)
-
-pub posted : (scale : ScaleRow) (t : Tables) (index : Catalogue) (book : BookValue) (solo : SoloValue) → t ≡ populated 0 scale → index ≡ catalogue t → book.opening.tables ≡ t
-    → solo ≡ seated book 1 → IsSeat (seat_of solo) → IsPosted (seat_of solo) index (record { number = 1; seed = 0; scale = scale })
-posted scale t index book solo drawn named opens is valid = record {
-  valid = valid;
-  number = ap (λ (s : SoloValue). s.visitor.caller) is;
-  named = named ∙ ap catalogue (sym (ap (λ (s : SoloValue). s.book.opening.tables) is ∙ opens));
-  scaled = scaled scale t book solo drawn opens is;
-}
+pub posted : (scale : ScaleRow) (t : Tables) (index : Catalogue) (book : BookValue) (solo : SoloValue) → scale ≡ desk → length t.items ≡ desk.items → index ≡ catalogue t
+    → book.opening.tables ≡ t → solo ≡ seated book 1 → IsSeat (seat_of solo) → IsPosted (seat_of solo) index (record { number = 1; seed = 0; scale = scale })
+posted scale t index book solo at_desk items named opens is valid =
+    let tables : solo.book.opening.tables ≡ t = ap (λ (s : SoloValue). s.book.opening.tables) is ∙ opens in
+    record {
+      valid = valid;
+      number = ap (λ (s : SoloValue). s.visitor.caller) is;
+      named = named ∙ ap catalogue (sym tables);
+      scaled = ap (λ (s : ScaleRow). s.items) at_desk ∙ sym (ap (λ (u : Tables). length u.items) tables ∙ items);
+    }

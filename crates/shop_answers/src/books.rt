@@ -34,7 +34,7 @@ fn opened(alloc: Global, scale: &Scale) -> Result<(Book, Option<AuthId>), Memory
         .orders
         .as_slice()
         .first()
-        .map(|order| order.card.auth);
+        .map(|order| order.get().card.auth);
     Ok((Book::open(alloc, tables, 10)?, auth))
 }
 

@@ -1,6 +1,7 @@
 //! Connections over the desk's shop with seed 0. Call n of caller 1 draws 16245 + 13 (n - 1) there.
-ghost use Rattle.std.specs.Prelude.{◌≤◌};
+ghost use Rattle.std.specs.Prelude.{◌≤◌, IfOk};
 ghost use Rattle.shop_book.specs.Openings.{most_entries};
+ghost use Rattle.shop_answers.specs.Desks.{IsDesk};
 
 use crate::answers::answer;
 use crate::books::print_row;
@@ -12,7 +13,7 @@ use shop_edges::{BytesIn, BytesOut, ListClock};
 use shop_engine::{Answered, Point, Report, Worker, serve_connection, serve_message};
 use shop_history::Key;
 use shop_message::Message;
-use shop_model::Scale;
+use shop_model::{Scale, Tables};
 use shop_populate::populate;
 use shop_search::Index;
 use shop_text::{Listed, Memory, Text};
@@ -84,17 +85,24 @@ GET /shopping_cart?cart=9 HTTP/1.1\r\n\r\n",
     },
 ];
 
-/// A worker of caller 1, who has the desk's shop with seed 0 alone, and whose log may have so many
-/// changes.
-fn worker(alloc: Global, limit: u64) -> Result<Worker<Solo>, Memory>
-    requires { limit ≤ most_entries }
+/// The tables of the desk with seed 0.
+#[tactic(auto, using(crate::proofs::Posting::items_of))]
+pub fn desk(alloc: Global) -> Result<Tables, Memory>
+    ensures { IfOk result IsDesk }
 {
-    let scale = Scale::desk();
-    let tables = populate(alloc, 0, &scale)?;
+    populate(alloc, 0, &Scale::desk())
+}
+
+/// A worker of caller 1, who has a shop with these tables alone, and whose log may have so many
+/// changes.
+fn worker(alloc: Global, tables: Tables, limit: u64) -> Result<Worker<Solo>, Memory>
+    requires tables { IsDesk tables }
+    requires limit { limit ≤ most_entries }
+{
     let index = Index::build(alloc, &tables)?;
     let index = Arc::new(alloc, index)?;
     let book = Book::open(alloc, tables, limit)?;
-    Worker::new(alloc, Solo::new(book), 1, 0, scale, index)
+    Worker::new(alloc, Solo::new(book), 1, 0, Scale::desk(), index)
 }
 
 fn clock(alloc: Global, readings: [u64; 4]) -> Result<ListClock, Memory> {
@@ -102,12 +110,21 @@ fn clock(alloc: Global, readings: [u64; 4]) -> Result<ListClock, Memory> {
     ListClock::new(alloc, Listed::from_vec(readings))
 }
 
-/// What comes of the connection, and the book behind it.
-fn served(alloc: Global, case: Case) -> Result<(Report, Book), Memory> {
-    let mut source = BytesIn::new(Text::copy(alloc, case.input)?, 7, Listed::new(alloc));
+/// What comes of a connection over these tables, and the book behind it. The log may have so many
+/// changes.
+pub fn served(
+    alloc: Global,
+    tables: Tables,
+    input: &[u8],
+    readings: [u64; 4],
+    limit: u8,
+) -> Result<(Report, Book), Memory>
+    requires { IsDesk tables }
+{
+    let mut source = BytesIn::new(Text::copy(alloc, input)?, 7, Listed::new(alloc));
     let mut sink = BytesOut::new(alloc, 1_000, Listed::new(alloc));
-    let mut clock = clock(alloc, case.readings)?;
-    let mut worker = worker(alloc, u64::from(case.limit))?;
+    let mut clock = clock(alloc, readings)?;
+    let mut worker = worker(alloc, tables, u64::from(limit))?;
     let report = serve_connection(alloc, &mut worker, &mut source, &mut sink, &mut clock);
     Ok((report, worker.into_store().into_book()))
 }
@@ -124,12 +141,18 @@ fn print_point(rt: &impl Print, point: &Point) -> Result<()> {
     answer(rt, &point.kind, &numbers)
 }
 
-/// Prints the end, the points, what the log has come to, and the versions of three rows.
-fn print_served(rt: &impl Print, name: &str, report: &Report, book: &Book) -> Result<()> {
+/// Prints the end of a connection, and its points.
+pub fn print_report(rt: &impl Print, name: &str, report: &Report) -> Result<()> {
     answer(rt, &name, &report.end)?;
     for point in report.points.as_slice() {
         print_point(rt, point)?;
     }
+    Ok(())
+}
+
+/// Prints the end, the points, what the log has come to, and the versions of three rows.
+fn print_served(rt: &impl Print, name: &str, report: &Report, book: &Book) -> Result<()> {
+    print_report(rt, name, report)?;
     answer(rt, &"changes of caller 1", &book.count_of(1))?;
     answer(rt, &"all changes", &book.summary())?;
     for key in [Key::Cart(1), Key::Cart(2), Key::Item(46)] {
@@ -138,8 +161,14 @@ fn print_served(rt: &impl Print, name: &str, report: &Report, book: &Book) -> Re
     Ok(())
 }
 
+/// What comes of a case at the desk's shop, and the book behind it.
+fn served_case(alloc: Global, case: Case) -> Result<(Report, Book), Memory> {
+    let tables = desk(alloc)?;
+    served(alloc, tables, case.input, case.readings, case.limit)
+}
+
 fn print_case(rt: &(impl Print + AllocGlobal), case: Case) -> Result<()> {
-    let (report, book) = done(served(rt.alloc(), case))?;
+    let (report, book) = done(served_case(rt.alloc(), case))?;
     print_served(rt, case.name, &report, &book)
 }
 
@@ -159,7 +188,8 @@ fn answered(alloc: Global, target: &str, last: bool) -> Result<Answered, Memory>
         body: Text::new(alloc),
         close: false,
     };
-    let mut worker = worker(alloc, 10)?;
+    let tables = desk(alloc)?;
+    let mut worker = worker(alloc, tables, 10)?;
     Ok(serve_message(alloc, &mut worker, &message, last, &mut clock))
 }
 

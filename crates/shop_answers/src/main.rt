@@ -5,9 +5,12 @@
 mod answers;
 mod books;
 mod connections;
+mod customers;
 mod faults;
 mod faulty;
+mod records;
 mod sessions;
+mod twins;
 
 use anyhow::{Context, Result};
 use shop_text::Memory;
@@ -21,6 +24,7 @@ fn main(rt: HostRuntime) -> Result<()> {
     books::print(&rt)?;
     connections::print(&rt)?;
     connections::print_messages(&rt)?;
+    customers::print(&rt)?;
     sessions::print(&rt)?;
     faults::print(&rt)
 }

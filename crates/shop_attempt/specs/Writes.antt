@@ -1,21 +1,12 @@
 -- What writes make of the tables, one after another; the settle fills in ids, stamps, days and names.
-use Rattle.std.specs.Prelude.{ℕ, ◌+◌, ◌-◌, ◌==◌, min, List, [], ◌∷◌, ◌++◌, length, Option, Some, None, slice_set, if◌then◌else◌}
+use Rattle.std.specs.Prelude.{ℕ, ◌+◌, ◌-◌, ◌==◌, min, List, [], ◌∷◌, ◌++◌, length, Some, None, slice_set, if◌then◌else◌}
 use Rattle.shop_text.specs.Texts.{digsyl, digsyl_lower}
 use Rattle.shop_model.specs.declared.tables.Tables.{Tables}
 use Rattle.shop_model.specs.rows.Limits.{session_time, day_of, day_limit}
-use Rattle.shop_model.specs.rows.Lookups.{row_numbered}
 use Rattle.shop_model.specs.rows.Rows.{CustomerRow, OrderRow}
+use Rattle.shop_model.specs.trade.Buyers.{changed_at, logged_in}
 use Rattle.shop_attempt.specs.declared.attempts.Write.{Write}
 use Rattle.shop_attempt.specs.declared.attempts.Write.TheVariants.{PutCart, Login, AddAddress, AddCustomer, AddOrder, SetStock, PutItem}
-
--- a row in its place, changed; where there is none, nothing
-abbrev pub changed_row : {Row : Type 0} → List Row → ℕ → (Row → Row) → Option Row → List Row
-changed_row rows id change None = rows
-changed_row rows id change (Some row) = slice_set rows (id - 1) (change row)
-
--- the row with an id, changed
-abbrev pub changed_at : {Row : Type 0} → List Row → ℕ → (Row → Row) → List Row
-changed_at rows id change = changed_row rows id change (row_numbered rows id)
 
 -- a row made for its place; where its id is 0, a new one with the next id
 abbrev pub put_row : {Row : Type 0} → List Row → ℕ → (ℕ → Row) → List Row
@@ -25,10 +16,6 @@ put_row rows id make =
 -- an id, or, where it is 0, the last one that was drawn
 abbrev pub or_last : ℕ → ℕ → ℕ
 or_last id last = if id == 0 then last else id
-
--- a customer who logs in at a stamp
-abbrev pub logged_in : ℕ → CustomerRow → CustomerRow
-logged_in stamp customer = record customer { login = stamp; expiry = stamp + session_time }
 
 -- a new customer: the next id, the names that go with it, the address just made where none is named, and logged in
 abbrev pub entered : Tables → ℕ → CustomerRow → CustomerRow

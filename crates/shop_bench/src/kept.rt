@@ -54,7 +54,10 @@ pub fn admit(alloc: Global, tables: &Tables, count: u32) -> Result<u64, Memory>
         return Ok(gone);
     }
     for at in 0..count {
-        if window.admit(&orders[at as usize % orders.len()])?.is_some() {
+        if window
+            .admit(orders[at as usize % orders.len()].get())?
+            .is_some()
+        {
             gone = gone.wrapping_add(1);
         }
     }

@@ -16,7 +16,7 @@ fn last<T>(all: &[T], most: usize) -> &[T] {
 pub fn quantity(tables: &Tables, item: u32) -> u64 {
     let mut units = 0_u64;
     for order in last(tables.orders.as_slice(), 3_333) {
-        for line in order.lines.as_slice() {
+        for line in order.get().lines.as_slice() {
             if line.item == item {
                 units = units.wrapping_add(u64::from(line.quantity));
             }
@@ -34,8 +34,8 @@ fn has_item(order: &Order, item: u32) -> bool {
 pub fn buyers(alloc: Global, tables: &Tables, item: u32) -> Result<u64, Memory> {
     let mut buyers = BTreeMap::new(alloc);
     for order in last(tables.orders.as_slice(), 10_000) {
-        if has_item(order, item) {
-            buyers.insert(order.customer, ())?;
+        if has_item(order.get(), item) {
+            buyers.insert(order.get().customer, ())?;
         }
     }
     Ok(buyers.len() as u64)
@@ -45,8 +45,8 @@ pub fn buyers(alloc: Global, tables: &Tables, item: u32) -> Result<u64, Memory> 
 pub fn bought(alloc: Global, tables: &Tables, customer: u32) -> Result<u64, Memory> {
     let mut items = BTreeMap::new(alloc);
     for order in last(tables.orders.as_slice(), 10_000) {
-        if order.customer == customer {
-            for line in order.lines.as_slice() {
+        if order.get().customer == customer {
+            for line in order.get().lines.as_slice() {
                 let units = items.get(&line.item).copied().unwrap_or(0_u32);
                 items.insert(line.item, units.wrapping_add(line.quantity))?;
             }
@@ -65,7 +65,7 @@ pub fn best(alloc: Global, tables: &Tables, subject: Subject) -> Result<u64, Mem
     let items = tables.items.as_slice();
     let mut units = vec![in alloc; 0_u64; items.len().saturating_add(1)]?;
     for order in last(tables.orders.as_slice(), 3_333) {
-        for line in order.lines.as_slice() {
+        for line in order.get().lines.as_slice() {
             if let Some(units) = units.get_mut(line.item as usize) {
                 *units = units.wrapping_add(u64::from(line.quantity));
             }

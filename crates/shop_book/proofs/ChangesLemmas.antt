@@ -1,9 +1,11 @@
 -- What a change makes of a book.
-use Rattle.std.proofs.Common.{◌≡◌, ℕ, suc, ◌+◌, ◌-◌, ◌^◌, ◌<◌, ◌≤◌, List, [], ◌∷◌, ◌++◌, length, Contains, ◌⊎◌, ⊎_elim, sym, ◌∙◌, ap, subst, arith, length-append}
+use Rattle.std.proofs.Common.{◌≡◌, ℕ, suc, ◌+◌, ◌-◌, ◌≤◌, List, [], ◌∷◌, ◌++◌, length, Contains, ◌⊎◌, ⊎_elim, sym, ◌∙◌, ap, subst, arith, length-append}
 use Rattle.std.proofs.lemmas.Bool.{cases_eq, eq-eqb, ne_eqb, cond-true, cond-false}
 use Rattle.std.proofs.lemmas.List.Elements.{All-weaker, All-push}
 use Rattle.shop_log.specs.Histories.Legal.{push}
+use Rattle.std.specs.Prelude.{All}
 use Rattle.shop_model.specs.declared.tables.Tables.{Tables}
+use Rattle.shop_model.specs.rows.Sound.{Sound}
 use Rattle.shop_history.specs.declared.acts.Entry.{Entry}
 use Rattle.shop_history.specs.declared.keys.Key.{Key}
 use Rattle.shop_history.specs.Acts.{play, IsInForm}
@@ -23,7 +25,11 @@ use Rattle.shop_book.specs.declared.versions.Versions.{Versions}
 use Rattle.shop_book.specs.Books.{BookValue, IsBook, tables_of}
 use Rattle.shop_book.specs.Counted.{count_in, with_count}
 use Rattle.shop_book.specs.Keeping.{IsKept}
-use Rattle.shop_book.specs.Readiness.{IdsFit, AreReady}
+use Rattle.shop_book.specs.declared.puts.Put.{Put}
+use Rattle.shop_book.specs.Named.{AreNamed}
+use Rattle.shop_book.specs.Puts.{all_put, IsWhole}
+use Rattle.shop_book.specs.Readiness.{IdsFit, AreFit, AreReady}
+use Rattle.shop_book.specs.Watching.{MayCome}
 use Rattle.shop_book.specs.RowsNow.{tables_with, HasRoom}
 use Rattle.shop_book.specs.Settles.{IsNext}
 use Rattle.shop_book.specs.Stored.{stored, HasPlaces, MorePlaces}
@@ -35,6 +41,10 @@ use Rattle.shop_book.proofs.Readiness.{are_ready}
 abbrev pub with_entry : BookValue → Entry → BookValue
 with_entry b entry = record { opening = b.opening; log = b.log ++ entry ∷ []; latest = entry.stamp }
 
+-- customers of sound tables are found by name
+pub sound_named : (t : Tables) → Sound t → AreNamed t.customers
+sound_named t sound = record { users = sound.users; ids = sound.ids.customers }
+
 module _ (b now : BookValue) (is_book : IsBook b) (entry : Entry) (writes : List Write) (same_now : b ≡ now) (comes : IsNext now entry writes) where
   pub next : IsNext b entry writes
   next = subst (λ (v : BookValue). IsNext v entry writes) (sym same_now) comes
@@ -42,16 +52,26 @@ module _ (b now : BookValue) (is_book : IsBook b) (entry : Entry) (writes : List
   good_now : IsGood (tables_of b) (suc (b.opening.limit - length b.log))
   good_now = subst (IsGood (tables_of b)) (omega (arith, next.left)) (good_log b.opening.tables (b.opening.limit + 1) is_book.opens.good b.log is_book.legal (omega (arith, next.left)))
 
-  -- one more cart fits
-  pub cart_fits : length (tables_of b).carts + 1 < 2 ^ 32
-  cart_fits = omega (arith, good_now.room_for.carts)
+  -- one more row may come of each kind
+  pub may_come : (rows : Rows) → tables_with b.opening.tables rows ≡ tables_of b → MayCome rows
+  may_come rows are = record {
+    carts = omega (arith, good_now.room_for.carts, ap (λ (t : Tables). length t.carts) are);
+    customers = omega (arith, good_now.room_for.customers, ap (λ (t : Tables). length t.customers) are);
+    addresses = omega (arith, good_now.room_for.addresses, ap (λ (t : Tables). length t.addresses) are);
+    named = subst AreNamed (sym (ap (λ (t : Tables). t.customers) are)) (sound_named (tables_of b) good_now.sound);
+  }
 
   module _ (form : IsInForm entry.act) where
+    good_later : IsGood (play (tables_of b) entry.stamp entry.act).tables (b.opening.limit - length b.log)
+    good_later = good_after (tables_of b) entry (b.opening.limit - length b.log) next.bound form next.makes.passes good_now
+
     -- the ids of the rows after the writes fit
-    pub ids_fit : IdsFit (written (tables_of b) entry.stamp writes)
-    ids_fit =
-        let good : IsGood (play (tables_of b) entry.stamp entry.act).tables (b.opening.limit - length b.log) = good_after (tables_of b) entry (b.opening.limit - length b.log) next.bound form next.makes.passes good_now in
-        subst IdsFit (sym next.makes.tables_are) (grind (arith, good.room_for))
+    ids_fit : IdsFit (written (tables_of b) entry.stamp writes)
+    ids_fit = let good = good_later in subst IdsFit (sym next.makes.tables_are) (grind (arith, good.room_for))
+
+    -- and customers are found by name
+    named_later : AreNamed (written (tables_of b) entry.stamp writes).customers
+    named_later = subst (λ (t : Tables). AreNamed t.customers) (sym next.makes.tables_are) (sound_named _ good_later.sound)
 
     follows : MayFollow b.opening.tables b.log entry
     follows = record {
@@ -94,16 +114,26 @@ module _ (b now : BookValue) (is_book : IsBook b) (entry : Entry) (writes : List
       fits_kept : IdsFit (written (tables_with b.opening.tables rows) entry.stamp writes)
       fits_kept = subst (λ (t : Tables). IdsFit (written t entry.stamp writes)) (sym kept.rows_are) ids_fit
 
-      -- rows with room are the same rows
-      module _ (roomy : Rows) (same : tables_with b.opening.tables roomy ≡ tables_with b.opening.tables rows) where
-        pub ready : HasRoom roomy (length writes) → AreReady roomy entry.stamp writes
-        ready room = are_ready b.opening.tables roomy entry.stamp writes room (subst (λ (t : Tables). IdsFit (written t entry.stamp writes)) (sym same) fits_kept) next.bound
+      pub are_fit : AreFit rows entry.stamp writes
+      are_fit = record { tables = b.opening.tables; fits = fits_kept; bound = next.bound }
+
+      -- rows with room are the same rows, and prepared writes make what the writes make
+      module _ (roomy : Rows) (same : tables_with b.opening.tables roomy ≡ tables_with b.opening.tables rows)
+          (puts : List Put) (prepared : all_put (tables_with b.opening.tables rows) entry.stamp puts ≡ written (tables_with b.opening.tables rows) entry.stamp writes) where
+        puts_make : all_put (tables_with b.opening.tables roomy) entry.stamp puts ≡ written (tables_of b) entry.stamp writes
+        puts_make = ap (λ (t : Tables). all_put t entry.stamp puts) same ∙ prepared ∙ ap (λ (t : Tables). written t entry.stamp writes) kept.rows_are
+
+        pub ready : HasRoom roomy (length puts) → All IsWhole puts → AreReady roomy entry.stamp puts
+        ready room whole = are_ready b.opening.tables roomy entry.stamp puts room whole (subst IdsFit (sym puts_make) ids_fit) next.bound
+
+        pub named : (t : Tables) × AreNamed (all_put (tables_with t roomy) entry.stamp puts).customers
+        named = (b.opening.tables, subst (λ (t : Tables). AreNamed t.customers) (sym puts_make) named_later)
 
         -- and what a change makes of them, and of the versions and counts with room
         module _ (later : Rows) (wide raised : Versions) (counted : Counts)
-            (made : tables_with b.opening.tables later ≡ written (tables_with b.opening.tables roomy) entry.stamp writes) where
+            (made : tables_with b.opening.tables later ≡ all_put (tables_with b.opening.tables roomy) entry.stamp puts) where
           later_are : tables_with b.opening.tables later ≡ tables_of (with_entry b entry)
-          later_are = made ∙ ap (λ (t : Tables). written t entry.stamp writes) (same ∙ kept.rows_are) ∙ tables_after
+          later_are = made ∙ puts_make ∙ tables_after
 
           pub kept_after : (keys : List Key) → keys ≡ may_change (tables_with b.opening.tables rows) entry.act → HasPlaces raised later → ((key : Key) → stored wide key ≡ stored versions key)
               → RaisedFor (tables_with b.opening.tables roomy) (tables_with b.opening.tables later) (length b.log + 1) keys (stored wide) (stored raised)

@@ -1,4 +1,7 @@
 pub mod cited
+pub mod SaidLemmas
+pub mod NamedLemmas
+pub mod StoredLemmas
 pub mod Readiness
 pub mod WatchingLemmas
 pub mod Placed

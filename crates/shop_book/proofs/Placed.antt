@@ -31,17 +31,35 @@ more_places size more id longer has = record { first = has.first; last = omega (
 -- a key keeps its place
 pub more_place : (old new : Versions) (k : Key) → MorePlaces old new → HasPlace old k → HasPlace new k
 more_place old new (key.TheVariants.Item id) more has = more_places _ _ id more.items has
+more_place old new (key.TheVariants.Label id) more has = absurd has
 more_place old new (key.TheVariants.Customer id) more has = more_places _ _ id more.customers has
 more_place old new (key.TheVariants.Cart id) more has = more_places _ _ id more.carts has
-more_place old new _ more has = absurd has
+more_place old new (key.TheVariants.NewIn subject) more has = absurd has
+more_place old new (key.TheVariants.BestIn subject) more has = absurd has
+more_place old new (key.TheVariants.Buyers item) more has = absurd has
+more_place old new (key.TheVariants.Bought customer) more has = absurd has
+more_place old new (key.TheVariants.Name user) more has = tt
+more_place old new (key.TheVariants.Address id) more has = more_places _ _ id more.addresses has
+more_place old new (key.TheVariants.SameAddress text) more has = tt
+more_place old new (key.TheVariants.Country id) more has = absurd has
+more_place old new (key.TheVariants.Order id) more has = more_places _ _ id more.orders has
+more_place old new (key.TheVariants.LastOrder customer) more has = absurd has
+
+-- a row that is shown is one of so many
+shown_has : {A : Type 0} (make : A → Row) (rows : List A) (id size : ℕ) → length rows ≤ size → shown make (row_numbered rows id) ≢ row.Absent → Has size id
+shown_has make rows id size few is_shown =
+    elim (row_numbered rows id) as (λ there. row_numbered rows id ≡ there → shown make there ≢ row.Absent → Has size id) [
+      | None ↦ (λ is some. absurd (some refl))
+      | Some x ↦ (λ is some. more_places _ _ id few (has_row rows id x is))
+    ] refl is_shown
 
 -- a watched key that shows a row has a place
 pub place_shown : (v : Versions) (rows : Rows) (t : Tables) (k : Key) → IsWatchable k → HasPlaces v rows → row_of (tables_with t rows) k ≢ row.Absent → HasPlace v k
-place_shown v rows t (key.TheVariants.Cart id) kind places is_shown =
-    elim (row_numbered rows.carts.items id) as (λ there. row_numbered rows.carts.items id ≡ there → shown row.Cart there ≢ row.Absent → Has (length v.carts.items) id) [
-      | None ↦ (λ is some. absurd (some refl))
-      | Some cart ↦ (λ is some. more_places _ _ id places.carts (has_row rows.carts.items id cart is))
-    ] refl is_shown
+place_shown v rows t (key.TheVariants.Customer id) kind places is_shown = shown_has row.Customer rows.customers.items id _ places.customers is_shown
+place_shown v rows t (key.TheVariants.Cart id) kind places is_shown = shown_has row.Cart rows.carts.items id _ places.carts is_shown
+place_shown v rows t (key.TheVariants.Address id) kind places is_shown = shown_has row.Address rows.addresses.rows id _ places.addresses is_shown
+place_shown v rows t (key.TheVariants.Name user) kind places is_shown = tt
+place_shown v rows t (key.TheVariants.SameAddress text) kind places is_shown = tt
 place_shown v rows t _ kind places is_shown = absurd kind
 
 -- and so has one that shows another row than it did

@@ -1,9 +1,21 @@
 -- What raising the version of a watched key does to the versions of all keys.
-use Rattle.std.proofs.Common.{◌≡◌, ◌≢◌, ℕ, ◌+◌, ◌<◌, List, [], ◌∷◌, ◌++◌, length, map, take, get_or, Contains, ◌⊎◌, inl, inr, ⊎_elim, sym, ◌∙◌, ap, subst}
-use Rattle.std.proofs.lemmas.List.{take_more, map-append}
-use Rattle.std.proofs.lemmas.List.Elements.{Contains-push_cases}
+use Rattle.std.proofs.Common.{◌≡◌, ◌≢◌, ℕ, ◌+◌, List, [], ◌∷◌, ◌++◌, length, Contains, ◌⊎◌, inl, inr, ⊎_elim, sym, ◌∙◌, ap, subst}
+use Rattle.std.proofs.lemmas.List.{map-append}
+use Rattle.std.specs.Prelude.{All, Option, Some, None}
+use Rattle.std.proofs.lemmas.List.Elements.{All-nil, All-cons, Contains-push_cases}
+use Rattle.shop_model.specs.declared.address.Address.{Address}
+use Rattle.shop_model.specs.declared.address.AddressText.{AddressText}
+use Rattle.shop_model.specs.declared.buying.Buyer.{Buyer}
+use Rattle.shop_model.specs.declared.buying.Buyer.TheVariants.{Returning, Newcomer}
 use Rattle.shop_model.specs.declared.tables.Tables.{Tables}
+use Rattle.shop_model.specs.rows.Rows.{CustomerRow}
+use Rattle.shop_model.specs.trade.Buyers.{customer_named, address_saying}
+use Rattle.shop_history.specs.declared.acts.Act.{Act}
+use Rattle.shop_history.specs.declared.acts.Act.TheVariants as act
+use Rattle.shop_history.specs.MayChange.{login_changes, address_changes, buyer_changes, may_change}
+use Rattle.shop_text.specs.Texts.{digsyl}
 use Rattle.shop_history.specs.declared.keys.Key.{Key}
+use Rattle.shop_history.specs.declared.keys.Key.TheVariants as key
 use Rattle.shop_history.specs.contracts.keys.Key.{the_field}
 use Rattle.shop_history.specs.Keys.{row_of}
 use Rattle.shop_book.specs.declared.watching.Watched.{Watched}
@@ -13,7 +25,7 @@ use Rattle.shop_book.specs.declared.rows.Rows.{Rows}
 use Rattle.shop_book.specs.declared.versions.Versions.{Versions}
 use Rattle.shop_book.specs.RowsNow.{tables_with}
 use Rattle.shop_book.specs.Stored.{stored}
-use Rattle.shop_book.specs.Watching.{keys_of, RaisesOne}
+use Rattle.shop_book.specs.Watching.{IsWatchable, keys_of, RaisesOne}
 use Rattle.shop_log.proofs.cited.Codes.{decided_by}
 
 key_cases : (one other : Key) → (one ≡ other) ⊎ (one ≢ other)
@@ -57,6 +69,26 @@ module _ (before t : Tables) (rows : Rows) (number : ℕ) (keys : List Key) (old
   }
 
 -- the keys of one more
-pub keys_more : (watched : List Watched) (i : ℕ) (kept : Watched) → i < length watched → kept ≡ get_or watched i kept → keys_of (take (i + 1) watched) ≡ keys_of (take i watched) ++ kept.key ∷ []
-keys_more watched i kept within is =
-    ap (map (λ (w : Watched). w.key)) (take_more watched i kept within ∙ ap (λ (w : Watched). take i watched ++ w ∷ []) (sym is)) ∙ map-append (λ (w : Watched). w.key) (take i watched) (kept ∷ [])
+pub keys_more : (watched : List Watched) (kept : Watched) → keys_of (watched ++ kept ∷ []) ≡ keys_of watched ++ kept.key ∷ []
+keys_more watched kept = map-append (λ (w : Watched). w.key) watched (kept ∷ [])
+
+-- the keys that an act may change are watched
+pub may_change_watchable : (t : Tables) (a : Act) → All IsWatchable (may_change t a)
+may_change_watchable t (act.Cart asked draw) = All-cons IsWatchable _ [] tt (All-nil IsWatchable)
+may_change_watchable t (act.Enter asked draw) = of asked.buyer
+  where
+    login : (customer : Option CustomerRow) → All IsWatchable (login_changes customer)
+    login None = All-nil IsWatchable
+    login (Some customer) = All-cons IsWatchable (key.Customer customer.id) [] tt (All-nil IsWatchable)
+
+    address : (text : AddressText) (found : Option Address) → All IsWatchable (address_changes t text found)
+    address text (Some a) = All-nil IsWatchable
+    address text None =
+        All-cons IsWatchable (key.Address (length t.addresses + 1)) (key.SameAddress text ∷ []) tt (All-cons IsWatchable (key.SameAddress text) [] tt (All-nil IsWatchable))
+
+    of : (buyer : Buyer) → All IsWatchable (buyer_changes t buyer)
+    of (Returning asked) = login (customer_named t asked.user)
+    of (Newcomer asked) =
+        let rest : List Key = address_changes t asked.address (address_saying t asked.address) in
+        let name : Key = key.Name (digsyl (length t.customers + 1)) in
+        All-cons IsWatchable (key.Customer (length t.customers + 1)) (name ∷ rest) tt (All-cons IsWatchable name rest tt (address asked.address (address_saying t asked.address)))

@@ -2,7 +2,10 @@ pub mod Openings
 pub mod Books
 pub mod Laws
 pub mod BookView
+pub mod Said
+pub mod Named
 pub mod RowsNow
+pub mod Puts
 pub mod Readiness
 pub mod Sizes
 pub mod Stored

@@ -10,7 +10,7 @@ tables_with t rows = record t {
   customers = rows.customers.items;
   last = rows.last.items;
   carts = rows.carts.items;
-  addresses = rows.addresses.items;
+  addresses = rows.addresses.rows;
   orders = rows.orders.items;
 }
 
@@ -20,7 +20,7 @@ pub record HasRoom (rows : Rows) (more : ℕ) : Type 0 where
   pub customers : vec_len rows.customers + more ≤ vec_capacity rows.customers
   pub last : vec_len rows.last + more ≤ vec_capacity rows.last
   pub carts : vec_len rows.carts + more ≤ vec_capacity rows.carts
-  pub addresses : vec_len rows.addresses + more ≤ vec_capacity rows.addresses
+  pub addresses : more ≤ rows.addresses.room
   pub orders : vec_len rows.orders + more ≤ vec_capacity rows.orders
 
 -- no memory is taken for a list, which has one row more at most

@@ -8,7 +8,7 @@ abbrev pub sizes_of : Rows → Sizes
 sizes_of rows = record {
   carts = length rows.carts.items;
   customers = length rows.customers.items;
-  addresses = length rows.addresses.items;
+  addresses = length rows.addresses.rows;
   orders = length rows.orders.items;
 }
 
@@ -21,6 +21,6 @@ abbrev pub ids_behind : Sizes → Rows → Ids
 ids_behind before rows = record {
   cart = id_behind before.carts (length rows.carts.items);
   customer = id_behind before.customers (length rows.customers.items);
-  address = id_behind before.addresses (length rows.addresses.items);
+  address = id_behind before.addresses (length rows.addresses.rows);
   order = id_behind before.orders (length rows.orders.items);
 }

@@ -1,17 +1,19 @@
 -- The version that is stored for a key, and which keys have a place for one.
-use Rattle.std.specs.Prelude.{ℕ, ◌+◌, ◌≤◌, List, length, unwrap_or, vec_len, vec_capacity}
+use Rattle.std.specs.Prelude.{ℕ, ◌+◌, ◌≤◌, List, length, unwrap_or, vec_len, vec_capacity, bytes_eq}
+use Rattle.std.specs.HashMap.{get, spare}
 use Rattle.shop_model.specs.rows.Lookups.{row_numbered}
 use Rattle.shop_model.specs.rows.Sound.{Has}
 use Rattle.shop_history.specs.declared.keys.Key as key
 use Rattle.shop_history.specs.declared.keys.Key.{Key}
 use Rattle.shop_book.specs.declared.rows.Rows.{Rows}
 use Rattle.shop_book.specs.declared.versions.Versions.{Versions}
+use Rattle.shop_book.specs.Said.{alike}
 
 -- the number at an id, counted from 1, or 0
 abbrev pub at : List ℕ → ℕ → ℕ
 at numbers id = unwrap_or (row_numbered numbers id) 0
 
--- the version of a key, where it has a place, or 0
+-- the version of a key, where it has one, or 0; countries never change, and nor do last orders yet
 abbrev pub stored : Versions → Key → ℕ
 stored v (key.TheVariants.Item id) = at v.items.items id
 stored v (key.TheVariants.Label id) = 0
@@ -21,8 +23,14 @@ stored v (key.TheVariants.NewIn subject) = 0
 stored v (key.TheVariants.BestIn subject) = 0
 stored v (key.TheVariants.Buyers item) = 0
 stored v (key.TheVariants.Bought customer) = 0
+stored v (key.TheVariants.Name user) = unwrap_or (get bytes_eq v.names user) 0
+stored v (key.TheVariants.Address id) = at v.addresses.items id
+stored v (key.TheVariants.SameAddress text) = unwrap_or (get alike v.said text) 0
+stored v (key.TheVariants.Country id) = 0
+stored v (key.TheVariants.Order id) = at v.orders.items id
+stored v (key.TheVariants.LastOrder customer) = 0
 
--- a version can be stored for a key
+-- a version can be stored for a key; for one that is a text, where there is room
 abbrev pub HasPlace : Versions → Key → Type 0
 HasPlace v (key.TheVariants.Item id) = Has (length v.items.items) id
 HasPlace v (key.TheVariants.Label id) = ⊥
@@ -32,27 +40,50 @@ HasPlace v (key.TheVariants.NewIn subject) = ⊥
 HasPlace v (key.TheVariants.BestIn subject) = ⊥
 HasPlace v (key.TheVariants.Buyers item) = ⊥
 HasPlace v (key.TheVariants.Bought customer) = ⊥
+HasPlace v (key.TheVariants.Name user) = Unit {0}
+HasPlace v (key.TheVariants.Address id) = Has (length v.addresses.items) id
+HasPlace v (key.TheVariants.SameAddress text) = Unit {0}
+HasPlace v (key.TheVariants.Country id) = ⊥
+HasPlace v (key.TheVariants.Order id) = Has (length v.orders.items) id
+HasPlace v (key.TheVariants.LastOrder customer) = ⊥
 
 -- each row has a place
 pub record HasPlaces (v : Versions) (rows : Rows) : Type 0 where
   pub items : length rows.items.items ≤ length v.items.items
   pub customers : length rows.customers.items ≤ length v.customers.items
   pub carts : length rows.carts.items ≤ length v.carts.items
+  pub addresses : length rows.addresses.rows ≤ length v.addresses.items
+  pub orders : length rows.orders.items ≤ length v.orders.items
 
 -- no place goes
 pub record MorePlaces (old new : Versions) : Type 0 where
   pub items : length old.items.items ≤ length new.items.items
   pub customers : length old.customers.items ≤ length new.customers.items
   pub carts : length old.carts.items ≤ length new.carts.items
+  pub addresses : length old.addresses.items ≤ length new.addresses.items
+  pub orders : length old.orders.items ≤ length new.orders.items
 
 -- there is room for so many more places in each column
 pub record HasRoom (v : Versions) (more : ℕ) : Type 0 where
   pub items : vec_len v.items + more ≤ vec_capacity v.items
   pub customers : vec_len v.customers + more ≤ vec_capacity v.customers
   pub carts : vec_len v.carts + more ≤ vec_capacity v.carts
+  pub addresses : vec_len v.addresses + more ≤ vec_capacity v.addresses
+  pub orders : vec_len v.orders + more ≤ vec_capacity v.orders
+
+-- so many keys more that are texts can get versions
+pub record HasSpare (v : Versions) (more : ℕ) : Type 0 where
+  pub names : more ≤ spare v.names
+  pub said : more ≤ spare v.said
+
+-- one key got a version at most
+abbrev pub SparesOne : Versions → Versions → Type 0
+SparesOne old new = (more : ℕ) → HasSpare old (more + 1) → HasSpare new more
 
 -- there is room for a place for each row
 pub record Fits (v : Versions) (rows : Rows) : Type 0 where
   pub items : length rows.items.items ≤ vec_capacity v.items
   pub customers : length rows.customers.items ≤ vec_capacity v.customers
   pub carts : length rows.carts.items ≤ vec_capacity v.carts
+  pub addresses : length rows.addresses.rows ≤ vec_capacity v.addresses
+  pub orders : length rows.orders.items ≤ vec_capacity v.orders

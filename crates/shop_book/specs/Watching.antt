@@ -1,5 +1,5 @@
 -- What is kept of the keys that a change may change, so that only those that it does change get its version.
-use Rattle.std.specs.Prelude.{◌≡◌, ◌≢◌, ℕ, List, map, All}
+use Rattle.std.specs.Prelude.{◌≡◌, ◌≢◌, ℕ, ◌+◌, ◌^◌, ◌<◌, List, length, map, All}
 use Rattle.shop_model.specs.declared.tables.Tables.{Tables}
 use Rattle.shop_history.specs.declared.keys.Key as key
 use Rattle.shop_history.specs.declared.keys.Key.{Key}
@@ -8,13 +8,25 @@ use Rattle.shop_history.specs.Keys.{row_of}
 use Rattle.shop_book.specs.declared.rows.Rows.{Rows}
 use Rattle.shop_book.specs.declared.versions.Versions.{Versions}
 use Rattle.shop_book.specs.declared.watching.Watched.{Watched}
+use Rattle.shop_book.specs.Named.{AreNamed}
 use Rattle.shop_book.specs.RowsNow.{tables_with}
 use Rattle.shop_book.specs.Stored.{stored, HasPlace}
 
--- the kinds of keys whose rows are compared: acts change carts alone; one that changes another table adds its kind
+-- the kinds of keys whose rows are compared: those that acts may change; one that changes another table adds its kind
 abbrev pub IsWatchable : Key → Type 0
+IsWatchable (key.TheVariants.Customer id) = Unit {0}
 IsWatchable (key.TheVariants.Cart id) = Unit {0}
+IsWatchable (key.TheVariants.Name user) = Unit {0}
+IsWatchable (key.TheVariants.Address id) = Unit {0}
+IsWatchable (key.TheVariants.SameAddress text) = Unit {0}
 IsWatchable _ = ⊥
+
+-- rows of which one more may come of each kind, with customers who are found by name
+pub record MayCome (rows : Rows) : Type 0 where
+  pub carts : length rows.carts.items + 1 < 2 ^ 32
+  pub customers : length rows.customers.items + 1 < 2 ^ 32
+  pub addresses : length rows.addresses.rows + 1 < 2 ^ 32
+  pub named : AreNamed rows.customers.items
 
 -- a watched key, which has a place for a version where it showed a row
 pub record CanWatch (versions : Versions) (watched : Watched) : Type 0 where

@@ -17,6 +17,7 @@ use crate::changes::{change_rows, make_room};
 use crate::counts::Counts;
 use crate::lists::Lists;
 use crate::orders::some_auth;
+use crate::puts::puts_of;
 use crate::rows::Rows;
 use crate::shown::shown;
 use crate::versions::Versions;
@@ -253,13 +254,17 @@ impl Book {
         let Ok(watched) = watch(alloc, &self.rows, &entry.act) else {
             return Settle::Memory;
         };
-        let more = writes.len();
+        let Ok(puts) = puts_of(alloc, &self.rows, entry.stamp, writes) else {
+            return Settle::Memory;
+        };
+        let (more, keys) = (puts.len(), watched.len());
         if !make_room(
             &mut self.log,
             &mut self.rows,
             &mut self.versions,
             &mut self.counts,
             more,
+            keys,
         ) {
             return Settle::Memory;
         }
@@ -267,10 +272,10 @@ impl Book {
         let ids = change_rows(
             &mut self.rows,
             &mut self.versions,
-            &watched,
+            watched,
             stamp,
             front,
-            writes,
+            puts,
         );
         self.counts.set(entry.caller, entry.number);
         self.log.push_reserved(entry);

@@ -2,15 +2,19 @@
 //! versions; and the store of a caller who has the book for now.
 #![tactic(auto)]
 
+mod addresses;
 mod book;
 mod changes;
 mod copies;
 mod counts;
 mod ids;
 mod lists;
+mod may_change;
 mod opening;
 mod orders;
+mod puts;
 mod rows;
+mod same_rows;
 mod shown;
 mod solo;
 mod summary;

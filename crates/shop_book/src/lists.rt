@@ -35,7 +35,7 @@ pub(crate) struct Lists {
 /// The latest of these orders.
 fn window_of<const N: usize>(
     alloc: Global,
-    orders: &[Order],
+    orders: &[Shared<Order>],
     items: u32,
 ) -> Result<OrderWindow<N>, Memory>
     requires some { 1 ≤ N }
@@ -45,7 +45,7 @@ fn window_of<const N: usize>(
 {
     let mut window = OrderWindow::new(alloc, items)?;
     for order in orders {
-        window.admit(order)?;
+        window.admit(order.get())?;
     }
     Ok(window)
 }

@@ -5,7 +5,7 @@ ghost use Rattle.shop_book.specs.KeptLists.{AreLists};
 ghost use Rattle.shop_book.specs.RowsNow.{tables_with};
 
 use crate::lists::Lists;
-use crate::rows::Rows;
+use crate::rows::{Rows, country_row, id_row};
 use shop_history::{Key, Row};
 use shop_model::Tables;
 use shop_text::Memory;
@@ -25,5 +25,11 @@ pub(crate) fn shown(tables: &Tables, rows: &Rows, lists: &Lists, key: &Key) -> R
         Key::BestIn(subject) => lists.best_row(*subject),
         Key::Buyers(item) => Ok(Row::Customers(lists.recent.buyers(*item)?)),
         Key::Bought(customer) => Ok(Row::Totals(lists.recent.bought(*customer)?)),
+        Key::Name(user) => Ok(id_row(rows.customer_named(user))),
+        Key::Address(id) => rows.address_row(*id),
+        Key::SameAddress(text) => Ok(id_row(rows.addresses.saying(text.get()))),
+        Key::Country(id) => country_row(tables.countries.as_slice(), *id),
+        Key::Order(id) => rows.order_row(*id),
+        Key::LastOrder(customer) => Ok(rows.last_row(*customer)),
     }
 }

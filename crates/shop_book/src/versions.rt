@@ -1,4 +1,5 @@
-ghost use Rattle.std.specs.Prelude.{◌≡◌, ◌≢◌, ℕ, ◌+◌, ◌-◌, ◌≤◌, slice_set, length, IfOk, vec_len, vec_capacity};
+ghost use Rattle.std.specs.Prelude.{◌≡◌, ◌≢◌, ℕ, ◌+◌, ◌-◌, ◌<◌, ◌≤◌, slice_set, length, Some, IfOk, unwrap_or, vec_len, vec_capacity};
+ghost use Rattle.std.specs.HashMap.{get, spare, Updates};
 ghost use Rattle.std.specs.Bool.{OnTrue};
 ghost use Rattle.shop_model.specs.rows.Sound.{Has};
 ghost use Rattle.shop_history.specs.declared.keys.Key.{Key};
@@ -6,9 +7,11 @@ ghost use Rattle.shop_book.specs.Stored as spec;
 
 use crate::rows::Rows;
 use shop_history::Key;
-use shop_model::row_numbered;
-use shop_text::Memory;
+use shop_model::{AddressText, row_numbered};
+use shop_text::{Memory, Text};
 use std::alloc::Global;
+use std::collections::HashMap;
+use std::hash::Hash;
 
 /// The versions of all keys. One that has no place here has version 0.
 #[derive(Debug, Drop)]
@@ -16,6 +19,12 @@ pub(crate) struct Versions {
     items: Vec<u64>,
     customers: Vec<u64>,
     carts: Vec<u64>,
+    addresses: Vec<u64>,
+    orders: Vec<u64>,
+    /// Of the user names that came since the opening.
+    names: HashMap<Text, u64>,
+    /// Of the texts that addresses came to say since.
+    said: HashMap<AddressText, u64>,
 }
 
 /// The number at an id, counted from 1, or 0.
@@ -34,6 +43,28 @@ fn set_at(numbers: &mut Vec<u64>, id: u32, number: u64)
     ensures { numbers.new.items ≡ slice_set numbers.old.items (id - 1) number }
 {
     numbers[id as usize - 1] = number;
+}
+
+/// The version of a text, or 0.
+fn version_at<K: Eq + Hash>(versions: &HashMap<K, u64>, key: &K) -> u64
+    ensures { result ≡ unwrap_or (get K.eq versions.now key.now) 0 }
+{
+    match versions.get(key) {
+        Some(version) => *version,
+        None => 0,
+    }
+}
+
+/// Gives a text this version; takes no memory.
+fn set_version<K: Eq + Hash + Drop>(versions: &mut HashMap<K, u64>, key: K, version: u64)
+    requires { 0 < spare versions.old }
+    ensures updates { Updates K.eq versions.old versions.new key (Some version) }
+    ensures spare { spare versions.old ≤ spare versions.new + 1 }
+{
+    match versions.insert(key, version) {
+        Ok(_) => {}
+        Err(_) => unreachable!(),
+    }
 }
 
 /// As many zeros.
@@ -66,6 +97,10 @@ impl Versions {
             items: zeros(alloc, rows.items.len())?,
             customers: zeros(alloc, rows.customers.len())?,
             carts: zeros(alloc, rows.carts.len())?,
+            addresses: zeros(alloc, rows.addresses.len())?,
+            orders: zeros(alloc, rows.orders.len())?,
+            names: HashMap::new(alloc),
+            said: HashMap::new(alloc),
         })
     }
 
@@ -82,11 +117,17 @@ impl Versions {
             Key::BestIn(_) => 0,
             Key::Buyers(_) => 0,
             Key::Bought(_) => 0,
+            Key::Name(user) => version_at(&self.names, user),
+            Key::Address(id) => at(&self.addresses, *id),
+            Key::SameAddress(text) => version_at(&self.said, text.get()),
+            Key::Country(_) => 0,
+            Key::Order(id) => at(&self.orders, *id),
+            Key::LastOrder(_) => 0,
         }
     }
 
     /// Makes room for so many more rows in each table; answers whether there is.
-    pub(crate) fn make_room(&mut self, more: usize) -> bool
+    fn make_room_for_rows(&mut self, more: usize) -> bool
         ensures same { (key : Key) → spec.stored self.new key ≡ spec.stored self.old key }
         ensures places { spec.MorePlaces self.old self.new }
         ensures room { OnTrue result (spec.HasRoom self.new more) }
@@ -94,6 +135,33 @@ impl Versions {
         self.items.reserve(more).is_ok()
             && self.customers.reserve(more).is_ok()
             && self.carts.reserve(more).is_ok()
+            && self.addresses.reserve(more).is_ok()
+            && self.orders.reserve(more).is_ok()
+    }
+
+    /// Makes room for so many more keys that are texts; answers whether there is.
+    fn make_room_for_keys(&mut self, keys: usize) -> bool
+        ensures same { (key : Key) → spec.stored self.new key ≡ spec.stored self.old key }
+        ensures places { spec.MorePlaces self.old self.new }
+        ensures spare { OnTrue result (spec.HasSpare self.new keys) }
+        ensures room { (more : ℕ) → spec.HasRoom self.old more → spec.HasRoom self.new more }
+    {
+        let names = self.names.reserve(keys).is_ok();
+        let said = self.said.reserve(keys).is_ok();
+        names && said
+    }
+
+    /// Makes room for so many more rows in each table, and for so many keys that are texts; answers
+    /// whether there is.
+    pub(crate) fn make_room(&mut self, more: usize, keys: usize) -> bool
+        ensures same { (key : Key) → spec.stored self.new key ≡ spec.stored self.old key }
+        ensures places { spec.MorePlaces self.old self.new }
+        ensures room { OnTrue result (spec.HasRoom self.new more) }
+        ensures spare { OnTrue result (spec.HasSpare self.new keys) }
+    {
+        let rows = self.make_room_for_rows(more);
+        let keys = self.make_room_for_keys(keys);
+        rows && keys
     }
 
     /// Gives each row a place.
@@ -102,28 +170,39 @@ impl Versions {
         ensures places { spec.HasPlaces self.new rows.now }
         ensures longer { spec.MorePlaces self.old self.new }
         ensures same { (key : Key) → spec.stored self.new key ≡ spec.stored self.old key }
+        ensures spare { (more : ℕ) → spec.HasSpare self.old more → spec.HasSpare self.new more }
     {
         grow_column(&mut self.items, rows.items.len());
         grow_column(&mut self.customers, rows.customers.len());
         grow_column(&mut self.carts, rows.carts.len());
+        grow_column(&mut self.addresses, rows.addresses.len());
+        grow_column(&mut self.orders, rows.orders.len());
     }
 
-    /// Gives a key this version, and leaves all others.
-    pub(crate) fn raise(&mut self, key: &Key, version: u64)
-        requires { spec.HasPlace self.old key.now }
-        ensures here { spec.stored self.new key.now ≡ version }
-        ensures others { (other : Key) → other ≢ key.now → spec.stored self.new other ≡ spec.stored self.old other }
+    /// Gives a key this version, and leaves all others; takes no memory.
+    pub(crate) fn raise(&mut self, key: Key, version: u64)
+        requires place { spec.HasPlace self.old key }
+        requires spare { spec.HasSpare self.old 1 }
+        ensures here { spec.stored self.new key ≡ version }
+        ensures others { (other : Key) → other ≢ key → spec.stored self.new other ≡ spec.stored self.old other }
         ensures places { spec.MorePlaces self.old self.new }
+        ensures spare { spec.SparesOne self.old self.new }
     {
         match key {
-            Key::Item(id) => set_at(&mut self.items, *id, version),
+            Key::Item(id) => set_at(&mut self.items, id, version),
             Key::Label(_) => unreachable!(),
-            Key::Customer(id) => set_at(&mut self.customers, *id, version),
-            Key::Cart(id) => set_at(&mut self.carts, *id, version),
+            Key::Customer(id) => set_at(&mut self.customers, id, version),
+            Key::Cart(id) => set_at(&mut self.carts, id, version),
             Key::NewIn(_) => unreachable!(),
             Key::BestIn(_) => unreachable!(),
             Key::Buyers(_) => unreachable!(),
             Key::Bought(_) => unreachable!(),
+            Key::Name(user) => set_version(&mut self.names, user, version),
+            Key::Address(id) => set_at(&mut self.addresses, id, version),
+            Key::SameAddress(text) => set_version(&mut self.said, text.into_inner(), version),
+            Key::Country(_) => unreachable!(),
+            Key::Order(id) => set_at(&mut self.orders, id, version),
+            Key::LastOrder(_) => unreachable!(),
         }
     }
 }

@@ -1,19 +1,19 @@
-ghost use Rattle.std.specs.Prelude.{◌≡◌, ◌↔◌, ◌+◌, ◌^◌, ◌<◌, IsTrue, All, IfOk, length};
-ghost use Rattle.shop_model.specs.trade.Carts as shopping;
-ghost use Rattle.shop_model.specs.rows.Lookups as lookups;
+ghost use Rattle.std.specs.Prelude.{◌≡◌, ◌↔◌, IsTrue, All, IfOk, length};
 ghost use Rattle.shop_model.specs.declared.tables.Tables.{Tables};
 ghost use Rattle.shop_history.specs.Acts.{IsInForm};
-ghost use Rattle.shop_history.specs.Keys.{shown, row_of};
+ghost use Rattle.shop_history.specs.Keys.{row_of};
 ghost use Rattle.shop_history.specs.MayChange.{may_change};
 ghost use Rattle.shop_history.proofs.cited.Versions.{RaisedFor};
 ghost use Rattle.shop_book.specs.RowsNow.{tables_with};
-ghost use Rattle.shop_book.specs.Stored.{stored, HasPlaces, MorePlaces};
+ghost use Rattle.shop_book.specs.Named.{AreNamed};
+ghost use Rattle.shop_book.specs.Stored.{stored, HasPlaces, MorePlaces, HasSpare, SparesOne};
 ghost use Rattle.shop_book.specs.Watching as spec;
 
-use crate::rows::Rows;
+use crate::may_change::may_change;
+use crate::rows::{Rows, id_row};
+use crate::same_rows::{shows_address, shows_cart, shows_customer, shows_id};
 use crate::versions::Versions;
 use shop_history::{Act, Key, Row};
-use shop_model::{Cart, row_numbered};
 use shop_text::Memory;
 use std::alloc::Global;
 
@@ -24,85 +24,83 @@ pub(crate) struct Watched {
     pub(crate) row: Row,
 }
 
-/// The id of the cart that a request is about: the one that it names, or the next.
-fn cart_meant(carts: &[Cart], named: Option<u32>) -> u32
-    requires { length carts.now + 1 < 2 ^ 32 }
-    ensures { result ≡ shopping.cart_meant carts.now named }
+/// What a key that is watched shows.
+fn row_now(rows: &Rows, key: &Key) -> Result<Row, Memory>
+    requires watchable { spec.IsWatchable key.now }
+    requires named { AreNamed rows.now.customers.items }
+    ensures { IfOk result (λ row. (t : Tables) → row ≡ row_of (tables_with t rows.now) key.now) }
 {
-    match named {
-        Some(id) => id,
-        None => carts.len() as u32 + 1,
+    match key {
+        Key::Customer(id) => rows.customer_row(*id),
+        Key::Cart(id) => rows.cart_row(*id),
+        Key::Name(user) => Ok(id_row(rows.customer_named(user))),
+        Key::Address(id) => rows.address_row(*id),
+        Key::SameAddress(text) => Ok(id_row(rows.addresses.saying(text.get()))),
+        _ => unreachable!(),
     }
 }
 
 /// The keys that an act may change, with what they show.
 pub(crate) fn watch(alloc: Global, rows: &Rows, act: &Act) -> Result<Vec<Watched>, Memory>
-    requires { length rows.now.carts.items + 1 < 2 ^ 32 }
+    requires { spec.MayCome rows.now }
     ensures form { IfOk result (λ watched. IsInForm act.now) }
     ensures keys { IfOk result (λ watched. (t : Tables) → spec.keys_of watched.items ≡ may_change (tables_with t rows.now) act.now) }
     ensures rows { IfOk result (λ watched. (t : Tables) → spec.AreOf (tables_with t rows.now) watched.items) }
     ensures kinds { IfOk result (λ watched. All (λ w. spec.IsWatchable w.key) watched.items) }
 {
-    let mut watched = Vec::with_capacity(alloc, 1)?;
-    match act {
-        Act::Cart(asked, _) => {
-            let id = cart_meant(&rows.carts, asked.ids.cart);
-            let row = rows.cart_row(id)?;
-            watched.push(Watched {
-                key: Key::Cart(id),
-                row,
-            })?;
-        }
+    let keys = may_change(alloc, rows, act)?;
+    let mut watched = Vec::with_capacity(alloc, keys.len())?;
+    for key in keys {
+        let row = row_now(rows, &key)?;
+        watched.push(Watched { key, row })?;
     }
     Ok(watched)
 }
 
-/// Whether two carts are equal.
-fn same_cart(cart: &Cart, other: &Cart) -> bool
-    ensures { IsTrue result ↔ (cart.now ≡ other.now) }
-{
-    cart.id == other.id && cart.lines.get().as_slice() == other.lines.get().as_slice()
-}
-
-/// Whether a row is that of the cart with an id.
-fn shows_cart(carts: &[Cart], id: u32, row: &Row) -> bool
-    ensures { IsTrue result ↔ (shown Row.Cart (lookups.row_numbered carts.now id) ≡ row.now) }
-{
-    match (row_numbered(carts, id), row) {
-        (Some(cart), Row::Cart(kept)) => same_cart(cart, kept),
-        (None, Row::Absent) => true,
-        _ => false,
-    }
-}
-
 /// Whether a key still shows a row.
 fn shows(rows: &Rows, key: &Key, row: &Row) -> bool
-    requires { spec.IsWatchable key.now }
+    requires watchable { spec.IsWatchable key.now }
+    requires named { AreNamed rows.now.customers.items }
     ensures { (t : Tables) → (IsTrue result ↔ (row_of (tables_with t rows.now) key.now ≡ row.now)) }
 {
     match key {
-        Key::Cart(id) => shows_cart(rows.carts.as_slice(), *id, row),
+        Key::Customer(id) => shows_customer(&rows.customers, *id, row),
+        Key::Cart(id) => shows_cart(&rows.carts, *id, row),
+        Key::Name(user) => shows_id(rows.customer_named(user), row),
+        Key::Address(id) => shows_address(rows.addresses.as_slice(), *id, row),
+        Key::SameAddress(text) => shows_id(rows.addresses.saying(text.get()), row),
         _ => unreachable!(),
     }
 }
 
 /// Gives a watched key this number as its version, if its row is no longer the one kept.
-fn raise_if_changed(versions: &mut Versions, rows: &Rows, kept: &Watched, number: u64)
-    requires watchable { spec.CanWatch versions.old kept.now }
+fn raise_if_changed(versions: &mut Versions, rows: &Rows, kept: Watched, number: u64)
+    requires watchable { spec.CanWatch versions.old kept }
     requires places { HasPlaces versions.old rows.now }
-    ensures raised { spec.RaisesOne rows.now number kept.now versions.old versions.new }
+    requires spare { HasSpare versions.old 1 }
+    requires named { AreNamed rows.now.customers.items }
+    ensures raised { spec.RaisesOne rows.now number kept versions.old versions.new }
     ensures places { MorePlaces versions.old versions.new }
+    ensures spare { SparesOne versions.old versions.new }
 {
-    if !shows(rows, &kept.key, &kept.row) {
-        versions.raise(&kept.key, number);
+    let Watched { key, row } = kept;
+    if !shows(rows, &key, &row) {
+        versions.raise(key, number);
     }
 }
 
 /// Gives each watched key whose row is no longer the one kept this number as its version.
-pub(crate) fn raise_changed(versions: &mut Versions, rows: &Rows, watched: &[Watched], number: u64)
-    requires watchable { All (spec.CanWatch versions.old) watched.now }
+pub(crate) fn raise_changed(
+    versions: &mut Versions,
+    rows: &Rows,
+    watched: Vec<Watched>,
+    number: u64,
+)
+    requires watchable { All (spec.CanWatch versions.old) watched.items }
     requires places { HasPlaces versions.old rows.now }
-    ensures raised { (before t : Tables) → spec.AreOf before watched.now → RaisedFor before (tables_with t rows.now) number (spec.keys_of watched.now) (stored versions.old) (stored versions.new) }
+    requires spare { HasSpare versions.old (length watched.items) }
+    requires named { AreNamed rows.now.customers.items }
+    ensures raised { (before t : Tables) → spec.AreOf before watched.items → RaisedFor before (tables_with t rows.now) number (spec.keys_of watched.items) (stored versions.old) (stored versions.new) }
     ensures places { HasPlaces versions.new rows.now }
 {
     for kept in watched {

@@ -1,16 +1,17 @@
-ghost use Rattle.std.specs.Prelude.{◌≡◌, ◌∷◌, ◌++◌, [], ◌+◌, ◌^◌, ◌<◌, ◌≤◌, length, vec_len, vec_capacity};
+ghost use Rattle.std.specs.Prelude.{◌≡◌, ℕ, ◌^◌, ◌<◌, ◌≤◌, length, vec_len, vec_capacity};
 ghost use Rattle.shop_model.specs.rows.Limits.{stamp_limit, day_of};
 ghost use Rattle.shop_model.specs.declared.tables.Tables.{Tables};
-ghost use Rattle.shop_attempt.specs.Writes as write;
-ghost use Rattle.shop_attempt.specs.Writes.{changed_at, put_row, logged_in, written_one, written};
+ghost use Rattle.shop_model.specs.trade.Buyers.{changed_at, logged_in};
+ghost use Rattle.shop_attempt.specs.Writes.{put_row};
+ghost use Rattle.shop_book.specs.Puts.{put_one, all_put};
 ghost use Rattle.shop_book.specs.Readiness as spec;
-ghost use Rattle.shop_book.specs.RowsNow.{tables_with, KeepsRoom, TakesOne};
+ghost use Rattle.shop_book.specs.RowsNow.{tables_with, HasRoom, KeepsRoom, TakesOne};
 
+use crate::puts::{Put, or_last};
 use crate::rows::Rows;
-use shop_attempt::{Stock, Write};
-use shop_model::{
-    Address, AddressText, CardUse, Cart, Customer, DAY_LENGTH, DAY_LIMIT, Item, Order, SESSION_TIME,
-};
+use shop_attempt::Stock;
+use shop_model::{Cart, Customer, DAY_LENGTH, Item, Order, SESSION_TIME};
+use shop_text::Shared;
 
 /// Puts a cart in its place, or a new one behind the others.
 fn put_cart(carts: &mut Vec<Cart>, cart: Cart)
@@ -75,30 +76,11 @@ fn login(customers: &mut Vec<Customer>, id: u32, stamp: u64)
     }
 }
 
-/// Adds an address.
-fn add_address(addresses: &mut Vec<Address>, text: AddressText)
-    requires room { vec_len addresses.old < vec_capacity addresses.old }
-    requires fits { length addresses.old.items + 1 < 2 ^ 32 }
-    ensures items { addresses.new.items ≡ addresses.old.items ++ record { id = length addresses.old.items + 1; text = text } ∷ [] }
-    ensures keeps_room { KeepsRoom addresses.old addresses.new }
-{
-    let id = addresses.len() as u32 + 1;
-    addresses.push_reserved(Address { id, text });
-}
-
-/// An id, or, where it is 0, the last one of so many.
-fn or_last(id: u32, count: usize) -> u32
-    requires { count < 2 ^ 32 }
-    ensures { result ≡ write.or_last id count }
-{
-    if id == 0 { count as u32 } else { id }
-}
-
 impl Rows {
     /// Adds a customer, who is logged in.
     fn add_customer(&mut self, stamp: u64, customer: Customer)
-        requires { spec.IsReady self.old stamp (Write.AddCustomer customer) }
-        ensures made { (t : Tables) → tables_with t self.new ≡ written_one (tables_with t self.old) stamp (Write.AddCustomer customer) }
+        requires { spec.IsReady self.old stamp (Put.Customer customer) }
+        ensures made { (t : Tables) → tables_with t self.new ≡ put_one (tables_with t self.old) stamp (Put.Customer customer) }
         ensures room { TakesOne self.old self.new }
     {
         self.customers.push_reserved(Customer {
@@ -111,55 +93,44 @@ impl Rows {
         self.last.push_reserved(None);
     }
 
-    /// Adds an order, which is its customer's last, and is shipped so many days later.
-    fn add_order(&mut self, stamp: u64, order: Order, days: u32)
-        requires { spec.IsReady self.old stamp (Write.AddOrder order days) }
-        ensures made { (t : Tables) → tables_with t self.new ≡ written_one (tables_with t self.old) stamp (Write.AddOrder order days) }
+    /// Adds an order, which is its customer's last.
+    fn add_order(&mut self, order: Shared<Order>)
+        requires { HasRoom self.old 1 }
+        ensures made { (t : Tables) → (stamp : ℕ) → tables_with t self.new ≡ put_one (tables_with t self.old) stamp (Put.Order order) }
         ensures room { TakesOne self.old self.new }
     {
-        let id = self.orders.len() as u32 + 1;
-        let place = order.customer.saturating_sub(1) as usize;
+        let (id, customer) = (order.get().id, order.get().customer);
+        let place = customer.saturating_sub(1) as usize;
         if place < self.last.len() {
             self.last[place] = Some(id);
         }
-        let day = stamp / DAY_LENGTH + u64::from(days);
-        self.orders.push_reserved(Order {
-            id,
-            placed: stamp,
-            ship_day: day.min(u64::from(DAY_LIMIT)) as u32,
-            ship_address: or_last(order.ship_address, self.addresses.len()),
-            card: CardUse {
-                stamp,
-                ..order.card
-            },
-            ..order
-        });
+        self.orders.push_reserved(order);
     }
 
     /// Makes a write.
-    fn put_write(&mut self, stamp: u64, write: Write)
-        requires { spec.IsReady self.old stamp write }
-        ensures made { (t : Tables) → tables_with t self.new ≡ written_one (tables_with t self.old) stamp write }
+    fn put(&mut self, stamp: u64, put: Put)
+        requires { spec.IsReady self.old stamp put }
+        ensures made { (t : Tables) → tables_with t self.new ≡ put_one (tables_with t self.old) stamp put }
         ensures room { TakesOne self.old self.new }
     {
-        match write {
-            Write::PutCart(cart) => put_cart(&mut self.carts, cart),
-            Write::Login(id) => login(&mut self.customers, id, stamp),
-            Write::AddAddress(text) => add_address(&mut self.addresses, text),
-            Write::AddCustomer(customer) => self.add_customer(stamp, customer),
-            Write::AddOrder(order, days) => self.add_order(stamp, order, days),
-            Write::SetStock(stock) => set_stock(&mut self.items, &stock),
-            Write::PutItem(item) => put_item(&mut self.items, item, stamp),
+        match put {
+            Put::Cart(cart) => put_cart(&mut self.carts, cart),
+            Put::Login(id) => login(&mut self.customers, id, stamp),
+            Put::Address(address, text) => self.addresses.push(address, text),
+            Put::Customer(customer) => self.add_customer(stamp, customer),
+            Put::Order(order) => self.add_order(order),
+            Put::Stock(stock) => set_stock(&mut self.items, &stock),
+            Put::Item(item) => put_item(&mut self.items, item, stamp),
         }
     }
 
     /// Makes the writes, one after another.
-    pub(crate) fn put_writes(&mut self, stamp: u64, writes: Vec<Write>)
-        requires { spec.AreReady self.old stamp writes.items }
-        ensures { (t : Tables) → tables_with t self.new ≡ written (tables_with t self.old) stamp writes.items }
+    pub(crate) fn put_all(&mut self, stamp: u64, puts: Vec<Put>)
+        requires { spec.AreReady self.old stamp puts.items }
+        ensures { (t : Tables) → tables_with t self.new ≡ all_put (tables_with t self.old) stamp puts.items }
     {
-        for write in writes {
-            self.put_write(stamp, write);
+        for put in puts {
+            self.put(stamp, put);
         }
     }
 }

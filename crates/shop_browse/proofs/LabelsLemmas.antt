@@ -13,7 +13,8 @@ use Rattle.shop_model.specs.declared.subject.Subject.{Subject}
 use Rattle.shop_model.specs.declared.tables.Tables.{Tables}
 use Rattle.shop_model.specs.lists.Catalogues.{Catalogue, Naming, naming, catalogue, matches, by_title, found}
 use Rattle.shop_model.specs.rows.Limits.{list_limit}
-use Rattle.shop_model.specs.rows.Lookups.{row_numbered}
+use Rattle.shop_model.specs.trade.Buyers.{customer_named, address_saying}
+use Rattle.shop_model.specs.rows.Lookups.{joined, row_numbered}
 use Rattle.shop_model.specs.pages.PageText.{block_line}
 use Rattle.shop_model.specs.lists.Rankings.{Sale, put_among, in_order, in_subject, newer, newest, sold_lately, sales, better, best}
 use Rattle.shop_model.specs.rows.Rows.{ItemRow}
@@ -114,6 +115,12 @@ module _ (t : Tables) (sound : Sound t) where
   named_within (key.BestIn subject) = best_within subject
   named_within (key.Buyers item) = All-nil (Has (length t.items))
   named_within (key.Bought customer) = All-nil (Has (length t.items))
+  named_within (key.Name user) = none_named row.Id (λ x. refl) (option_map (λ c. c.id) (customer_named t user))
+  named_within (key.Address id) = none_named row.Address (λ x. refl) (row_numbered t.addresses id)
+  named_within (key.SameAddress text) = none_named row.Id (λ x. refl) (option_map (λ a. a.id) (address_saying t text))
+  named_within (key.Country id) = none_named row.Country (λ x. refl) (row_numbered t.countries id)
+  named_within (key.Order id) = none_named row.Order (λ x. refl) (row_numbered t.orders id)
+  named_within (key.LastOrder id) = none_named row.Id (λ x. refl) (joined (row_numbered t.last id))
 
 -- the labels of items that there are may be read by any request
 pub labels_may : (c : Catalogue) (opening : Tables) (log : List Entry) (request : Request) (draw : ℕ) (ids : List ℕ) → c ≡ catalogue opening → All (Has (length c.items)) ids

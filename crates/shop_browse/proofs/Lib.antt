@@ -7,3 +7,10 @@ pub mod HomeLemmas
 pub mod ProductDetailLemmas
 pub mod SearchResultsLemmas
 pub mod SearchRequestLemmas
+pub mod OrderPageLemmas
+pub mod Rows
+pub mod Logins
+pub mod OrderReads
+pub mod OrderDisplayLemmas
+pub mod KnownLemmas
+pub mod AdminRequestLemmas

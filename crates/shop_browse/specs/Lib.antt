@@ -7,3 +7,6 @@ pub mod Home
 pub mod ProductDetail
 pub mod SearchRequest
 pub mod SearchResults
+pub mod Known
+pub mod AdminRequest
+pub mod OrderDisplay

@@ -48,6 +48,7 @@ impl<'a> Interaction for &'a BestSellers {
 }
 
 /// An attempt at the best sold items of a subject.
+#[inline(never)]
 pub fn best_sellers<St: Store>(
     alloc: Global,
     store: &mut St,

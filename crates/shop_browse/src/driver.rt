@@ -19,7 +19,7 @@ use std::alloc::Global;
 const ROUNDS: u32 = 7;
 
 /// How many reads have room from the start: those of most requests.
-const READS: usize = 8;
+const READS: usize = 12;
 
 /// What an interaction does next.
 #[derive(Drop)]

@@ -197,6 +197,7 @@ impl<'a> Interaction for &'a Home {
 }
 
 /// The promotion, and a greeting for the customer whose number was given.
+#[inline(never)]
 pub fn home<St: Store>(
     alloc: Global,
     store: &mut St,

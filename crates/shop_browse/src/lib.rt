@@ -2,13 +2,19 @@
 //! writes its page, and the driver, which has the store, reads the rows that it asks for.
 #![tactic(auto)]
 
+pub mod admin_request;
 mod attempted;
 pub mod best_sellers;
+pub mod customer_registration;
 mod driver;
 pub mod home;
+mod known;
 mod labels;
 mod lists;
 pub mod new_products;
+pub mod order_display;
+pub mod order_inquiry;
+mod order_page;
 pub mod product_detail;
 pub mod search_request;
 pub mod search_results;

@@ -48,6 +48,7 @@ impl<'a> Interaction for &'a NewProducts {
 }
 
 /// An attempt at the newest items of a subject.
+#[inline(never)]
 pub fn new_products<St: Store>(
     alloc: Global,
     store: &mut St,

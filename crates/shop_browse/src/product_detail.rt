@@ -189,6 +189,7 @@ impl<'a> Interaction for &'a ProductDetail {
 }
 
 /// An attempt at the page of the item with this number, which it writes into the draft.
+#[inline(never)]
 pub fn product_detail<St: Store>(
     alloc: Global,
     store: &mut St,

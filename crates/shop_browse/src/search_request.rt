@@ -70,6 +70,7 @@ impl<'a> Interaction for &'a SearchRequest {
 }
 
 /// The promotion and a form to search with; the customer isn't looked at.
+#[inline(never)]
 pub fn search_request<St: Store>(
     alloc: Global,
     store: &mut St,

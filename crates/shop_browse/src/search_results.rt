@@ -67,6 +67,7 @@ impl<'a> Interaction for &'a SearchResults {
 }
 
 /// An attempt at what a search finds.
+#[inline(never)]
 pub fn search_results<St: Store>(
     alloc: Global,
     store: &mut St,

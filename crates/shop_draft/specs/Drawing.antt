@@ -29,10 +29,17 @@ maybe_at drawn id = option_map (id_at drawn) id
 abbrev pub ids_at : Drawn → PageIds → IdsAsked
 ids_at drawn ids = record { c = maybe_at drawn ids.c; cart = maybe_at drawn ids.cart }
 
--- the user name of a new customer; none where there is none
+-- the user name of the customer with an id; none where there is none
 abbrev pub user_text : Option ℕ → List ℕ
 user_text None = []
 user_text (Some customer) = digsyl customer
+
+-- the user name of a customer, known or new; what is made for a cart or an order has none
+abbrev pub user_at : Drawn → Id → List ℕ
+user_at drawn (Known id) = digsyl id
+user_at drawn NewCustomer = user_text drawn.ids.customer
+user_at drawn NewCart = []
+user_at drawn NewOrder = []
 
 -- the day that comes so many days after that of a stamp, 9999-12-31 at most
 abbrev pub day_after : ℕ → ℕ → ℕ

@@ -3,3 +3,4 @@ pub mod Drawing
 pub mod Templates
 pub mod Links
 pub mod Pages
+pub mod Customers

@@ -1,7 +1,8 @@
-//! Fields, and the forms of the cart and of a search.
+//! Fields, and the forms of the cart, of a search and of an item.
 ghost use Rattle.std.specs.Prelude.{◌≡◌, ◌++◌, OnOk, codes, map};
 ghost use Rattle.std.specs.List.{flat_map};
 ghost use Rattle.shop_text.specs.Texts.{escape};
+ghost use Rattle.shop_model.specs.pages.AdminRequest.{admin_form};
 ghost use Rattle.shop_model.specs.pages.ShoppingCart.{line_field};
 ghost use Rattle.shop_model.specs.pages.PageText.{block_line, field_text};
 ghost use Rattle.shop_model.specs.pages.SearchRequest as show;
@@ -11,6 +12,7 @@ ghost use Rattle.shop_draft.specs.Drawing.{id_at, ids_at, maybe_at};
 ghost use Rattle.shop_draft.specs.Templates.{Adds, Says};
 
 use crate::{Id, PageIds, Template};
+use shop_model::Item;
 use shop_text::Memory;
 
 impl Template {
@@ -93,6 +95,24 @@ impl Template {
         self.put(
             b"<form action=\"/search_results\"><input name=\"kind\" value=\"title\"><input name=\"text\" value=\"\">",
         )?;
+        self.id_fields(ids)?;
+        self.put(b"</form>\n")?;
+        Ok(())
+    }
+
+    /// Adds the form in which an item is changed.
+    pub fn admin_form(&mut self, item: &Item, ids: PageIds) -> Result<(), Memory>
+        ensures { OnOk result (Adds self.old self.new (λ drawn. block_line (admin_form item.now (ids_at drawn ids)))) }
+    {
+        let details = item.details.get();
+        self.number(
+            b"<form action=\"/admin_confirm\"><input name=\"item\" value=\"",
+            u64::from(item.id),
+        )?;
+        self.number(b"\"><input name=\"cost\" value=\"", details.cost)?;
+        self.text(b"\"><input name=\"image\" value=\"", &details.image)?;
+        self.text(b"\"><input name=\"thumb\" value=\"", &details.thumb)?;
+        self.put(b"\">")?;
         self.id_fields(ids)?;
         self.put(b"</form>\n")?;
         Ok(())

@@ -5,12 +5,14 @@
 #![tactic(auto)]
 
 mod blocks;
+mod customers;
 mod draft;
 mod flat;
 mod forms;
 mod holes;
 mod ids;
 mod links;
+mod orders;
 mod out;
 mod tables;
 mod template;

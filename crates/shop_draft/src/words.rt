@@ -1,12 +1,13 @@
 //! Markup, and behind it a value.
 ghost use Rattle.std.specs.Prelude.{◌≡◌, ◌≤◌, ◌++◌, OnOk, decimal};
-ghost use Rattle.shop_text.specs.Texts.{escape, cents_text, day_text};
-ghost use Rattle.shop_draft.specs.Drawing.{id_at, hole_text};
+ghost use Rattle.shop_text.specs.Texts.{escape, cents_text, day_text, digsyl};
+ghost use Rattle.shop_text.specs.Syllables.{spelled};
+ghost use Rattle.shop_draft.specs.Drawing.{id_at, user_at, hole_text};
 ghost use Rattle.shop_draft.specs.Templates.{Adds, Says};
 
 use crate::{Hole, Id, Template};
 use itoa::Buffer;
-use shop_text::{Caption, Memory, day_bytes, entity};
+use shop_text::{Caption, Memory, day_bytes, entity, syllable};
 
 impl Template {
     /// Adds bytes as they stand in a page: whole runs of plain bytes, and an entity for each other byte.
@@ -161,6 +162,49 @@ impl Template {
     {
         self.put(front)?;
         self.put_id(id)?;
+        Ok(())
+    }
+
+    /// Adds the syllable of each digit.
+    fn put_spelled(&mut self, digits: &[u8]) -> Result<(), Memory>
+        ensures { OnOk result (Says self.old self.new (spelled digits.now)) }
+    {
+        for code in digits {
+            self.put(syllable(code.saturating_sub(b'0')))?;
+        }
+        Ok(())
+    }
+
+    /// Adds the user name of the customer with an id.
+    #[inline(never)]
+    pub(crate) fn put_known_user(&mut self, customer: u32) -> Result<(), Memory>
+        ensures { OnOk result (Says self.old self.new (escape (digsyl customer))) }
+    {
+        let mut buffer = Buffer::new();
+        self.put_spelled(buffer.format(customer).as_bytes())?;
+        Ok(())
+    }
+
+    /// Adds the user name of a customer, or a hole for it.
+    #[tactic(auto, unfolding(crate::specs::Drawing::hole_text))]
+    fn put_user(&mut self, customer: Id) -> Result<(), Memory>
+        ensures { OnOk result (Adds self.old self.new (λ drawn. escape (user_at drawn customer))) }
+    {
+        match customer {
+            Id::Known(customer) => self.put_known_user(customer)?,
+            Id::NewCustomer => self.put_gap(Hole::User)?,
+            Id::NewCart | Id::NewOrder => {}
+        }
+        Ok(())
+    }
+
+    /// Markup as it stands, and behind it the user name of a customer, or a hole for it.
+    #[inline(always)]
+    pub fn user(&mut self, front: &[u8], customer: Id) -> Result<(), Memory>
+        ensures { OnOk result (Adds self.old self.new (λ drawn. front.now ++ escape (user_at drawn customer))) }
+    {
+        self.put(front)?;
+        self.put_user(customer)?;
         Ok(())
     }
 }

@@ -3,8 +3,10 @@ use Rattle.std.proofs.Common.{◌≡◌, ℕ, ◌+◌, ◌%◌, ◌<◌, ◌≤�
 use Rattle.std.proofs.lemmas.Bool.{cases_lt}
 use Rattle.std.proofs.lemmas.List.{take-append-le, take_all}
 use Rattle.shop_log.specs.Histories.{Extends}
+use Rattle.shop_model.specs.declared.buying.Buyer.{Buyer}
+use Rattle.shop_model.specs.declared.buying.Buyer.TheVariants.{Returning, Newcomer}
 use Rattle.shop_model.specs.declared.requests.Request.{Request}
-use Rattle.shop_model.specs.declared.requests.Request.TheVariants.{Home, NewProducts, BestSellers, ProductDetail, SearchRequest, SearchResults, CartRequest}
+use Rattle.shop_model.specs.declared.requests.Request.TheVariants.{Home, NewProducts, BestSellers, ProductDetail, SearchRequest, SearchResults, CartRequest, CustomerRegistration, BuyRequest, OrderInquiry, OrderDisplay, AdminRequest}
 use Rattle.shop_model.specs.declared.tables.Tables.{Tables}
 use Rattle.shop_model.specs.asked.CartAsked.{CartAsked}
 use Rattle.shop_model.specs.trade.Carts.{lines_named}
@@ -13,9 +15,12 @@ use Rattle.shop_model.specs.rows.Sound.{Has}
 use Rattle.shop_history.specs.declared.acts.Entry.{Entry}
 use Rattle.shop_history.specs.declared.keys.Key.{Key}
 use Rattle.shop_history.specs.declared.keys.Key.TheVariants as keys
+use Rattle.shop_history.specs.declared.keys.Row.{Row}
+use Rattle.shop_history.specs.declared.keys.Row.TheVariants as rows
+use Rattle.shop_history.specs.Keys.{row_of}
 use Rattle.shop_history.specs.Logs.{tables}
 use Rattle.shop_attempt.specs.Seats.{Seat, Follows}
-use Rattle.shop_browse.specs.Footprints.{IsAmong, WasOnCart, LeavesNoLine, IsCartItem, drawn_item, IsAbout, InFootprint, IsLabel}
+use Rattle.shop_browse.specs.Footprints.{IsAmong, WasOnCart, LeavesNoLine, IsCartItem, WasShown, IsShipAddress, IsLastOrder, IsUser, IsOfOrder, IsBuyer, drawn_item, IsAbout, InFootprint, IsLabel}
 use Rattle.shop_browse.proofs.cited.Sizes.{same_size}
 
 drawn_later : (t : Tables) (log longer : List Entry) (draw : ℕ) → drawn_item (tables t log) draw ≡ drawn_item (tables t longer) draw
@@ -58,6 +63,37 @@ cart_item_later t log longer asked draw item extends may = ⊎_elim
     other)
     may
 
+-- what was shown
+
+module _ (t : Tables) (log longer : List Entry) (extends : Extends log longer) where
+  shown_later : (key : Key) (row : Row) → WasShown t log key row → WasShown t longer key row
+  shown_later key row was =
+      let same = front_later log longer was.front extends in
+      record { front = same.0; is = ap (λ (l : List Entry). row_of (tables t l) key) same.1 ∙ was.is }
+
+  address_later : (order : ℕ) (key : Key) → IsShipAddress t log order key → IsShipAddress t longer order key
+  address_later order key is = (is.0, shown_later (keys.Order order) (rows.Order is.0) is.1, is.2)
+
+  last_later : (id : ℕ) (key : Key) → IsLastOrder t log id key → IsLastOrder t longer id key
+  last_later id key is = (is.0, shown_later (keys.LastOrder id) (rows.Id is.0) is.1, ⊎_elim (λ (order : key ≡ keys.Order is.0). inl order) (λ (ship : IsShipAddress t log is.0 key). inr (address_later is.0 key ship)) is.2)
+
+  user_later : (user : List ℕ) (key : Key) → IsUser t log user key → IsUser t longer user key
+  user_later user key is = ⊎_elim
+      (λ (name : key ≡ keys.Name user). inl name)
+      (λ (customer : (id : ℕ) × WasShown t log (keys.Name user) (rows.Id id) × (key ≡ keys.Customer id)). inr (customer.0, shown_later (keys.Name user) (rows.Id customer.0) customer.1, customer.2))
+      is
+
+  of_order_later : (user : List ℕ) (key : Key) → IsOfOrder t log user key → IsOfOrder t longer user key
+  of_order_later user key is = ⊎_elim
+      (λ (of : (id : ℕ) × WasShown t log (keys.Name user) (rows.Id id) × ((key ≡ keys.LastOrder id) ⊎ IsLastOrder t log id key)).
+      inl (of.0, shown_later (keys.Name user) (rows.Id of.0) of.1, ⊎_elim (λ (last : key ≡ keys.LastOrder of.0). inl last) (λ (order : IsLastOrder t log of.0 key). inr (last_later of.0 key order)) of.2))
+      (λ (country : (id : ℕ) × (key ≡ keys.Country id)). inr country)
+      is
+
+  buyer_later : (buyer : Buyer) (key : Key) → IsBuyer t log buyer key → IsBuyer t longer buyer key
+  buyer_later (Returning asked) key is = user_later asked.user key is
+  buyer_later (Newcomer asked) key is = is
+
 about_later : (t : Tables) (log longer : List Entry) (request : Request) (draw : ℕ) (key : Key) → Extends log longer → IsAbout t log request draw key → IsAbout t longer request draw key
 about_later t log longer (Home asked) draw key extends may =
     subst (λ n. ((c : ℕ) × (asked.ids.c ≡ Some c) × (key ≡ keys.Customer c)) ⊎ (key ≡ keys.Item n)) (drawn_later t log longer draw) may
@@ -70,6 +106,20 @@ about_later t log longer (CartRequest asked) draw key extends may = ⊎_elim
     (λ (cart : (id : ℕ) × (asked.ids.cart ≡ Some id) × (key ≡ keys.Cart id)). inl cart)
     (λ (item : (id : ℕ) × IsCartItem t log asked draw id × (key ≡ keys.Item id)). inr (item.0, cart_item_later t log longer asked draw item.0 extends item.1, item.2))
     may
+about_later t log longer (CustomerRegistration asked) draw key extends may = may
+about_later t log longer (BuyRequest asked) draw key extends may = ⊎_elim
+    (λ (bought : (key ≡ keys.Cart asked.cart) ⊎ ((item : ℕ) × WasOnCart t log asked.cart item × (key ≡ keys.Item item))). inl (⊎_elim
+    (λ (cart : key ≡ keys.Cart asked.cart). inl cart)
+    (λ (item : (id : ℕ) × WasOnCart t log asked.cart id × (key ≡ keys.Item id)). inr (item.0, on_cart_later t log longer asked.cart item.0 extends item.1, item.2))
+    bought))
+    (λ (buyer : IsBuyer t log asked.buyer key). inr (buyer_later t log longer extends asked.buyer key buyer))
+    may
+about_later t log longer (OrderInquiry asked) draw key extends may = may
+about_later t log longer (OrderDisplay asked) draw key extends may = ⊎_elim
+    (λ (user : IsUser t log asked.login.user key). inl (user_later t log longer extends asked.login.user key user))
+    (λ (order : IsOfOrder t log asked.login.user key). inr (of_order_later t log longer extends asked.login.user key order))
+    may
+about_later t log longer (AdminRequest asked) draw key extends may = may
 
 footprint_longer : (t : Tables) (log longer : List Entry) (request : Request) (draw : ℕ) (key : Key) → Extends log longer → InFootprint t log request draw key → InFootprint t longer request draw key
 footprint_longer t log longer request draw key extends may = ⊎_elim

@@ -14,7 +14,7 @@ use Rattle.shop_model.specs.rows.Lookups.{row_numbered}
 use Rattle.shop_model.specs.pages.Show.{is_changing, check}
 use Rattle.shop_model.specs.asked.Refusals.{page_of}
 use Rattle.shop_history.specs.declared.acts.Act.{Act}
-use Rattle.shop_history.specs.declared.acts.Act.TheVariants.{Cart}
+use Rattle.shop_history.specs.declared.acts.Act.TheVariants.{Cart, Enter}
 use Rattle.shop_history.specs.declared.acts.Drawn.{Drawn}
 use Rattle.shop_history.specs.declared.acts.Entry.{Entry}
 use Rattle.shop_history.specs.declared.acts.Ids.{Ids}
@@ -213,6 +213,7 @@ changed_is start old new asking draft attempt drawn form bytes looked follows se
 
 act_changes : (act : Act) → is_changing (request_of act) ≡ true
 act_changes (Cart asked draw) = refl
+act_changes (Enter asked draw) = refl
 
 passes_there : (opening : Tables) (reads : List ReadOf) (act : Act) (writes : Option (List Write)) (t : Tables) (stamp : ℕ) → MakesAct opening reads (Some act) writes → Agrees opening t reads → stamp ≤ stamp_limit
     → check t (request_of act) ≡ None

@@ -74,7 +74,7 @@ range_more : (a n : ℕ) → range_with_len a (suc n) ≡ range_with_len a n ++ 
 range_more a zero = ap (λ m. m ∷ []) (omega arith)
 range_more a (suc n) = ap (λ ns. a ∷ ns) (range_more (a + 1) n ∙ ap (λ m. range_with_len (a + 1) n ++ m ∷ []) (omega arith))
 
-runs_push : (ids : List ℕ) (id : ℕ) → id ≡ 1 + length ids → id < 2 ^ 32 → Runs ids → Runs (ids ++ id ∷ [])
+pub runs_push : (ids : List ℕ) (id : ℕ) → id ≡ 1 + length ids → id < 2 ^ 32 → Runs ids → Runs (ids ++ id ∷ [])
 runs_push ids id next fits runs =
     let longer : suc (length ids) ≡ length (ids ++ id ∷ []) = omega (arith, length-append ids (id ∷ [])) in
     record {

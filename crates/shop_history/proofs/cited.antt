@@ -4,4 +4,5 @@ pub mod KeptTables
 pub mod Drawing
 pub mod MayChange
 pub mod Versions
+pub mod Found
 pub mod GoodTables

@@ -1,14 +1,23 @@
 -- What an act makes of the tables, and of which request it is.
-use Rattle.std.specs.Prelude.{◌≡◌, ℕ}
+use Rattle.std.specs.Prelude.{◌≡◌, ℕ, [], Option, Some, None, unwrap_or}
 use Rattle.shop_model.specs.declared.page.Page.{Page}
 use Rattle.shop_model.specs.declared.requests.Request.{Request}
-use Rattle.shop_model.specs.declared.requests.Request.TheVariants.{CartRequest}
+use Rattle.shop_model.specs.declared.buying.BuyRequest as buying
+use Rattle.shop_model.specs.declared.buying.Buyer.{Buyer}
+use Rattle.shop_model.specs.declared.buying.Buyer.TheVariants.{Returning, Newcomer}
+use Rattle.shop_model.specs.declared.refusal.Refusal.TheVariants.{NoUserName}
+use Rattle.shop_model.specs.declared.requests.Request.TheVariants.{CartRequest, BuyRequest}
 use Rattle.shop_model.specs.declared.tables.Tables.{Tables}
 use Rattle.shop_model.specs.asked.CartAsked.{CartAsked, IsCartAsked}
-use Rattle.shop_model.specs.trade.Carts.{lines_after, cart_meant, carts_with}
+use Rattle.shop_model.specs.asked.CustomersAsked.{IsLoginAsked, IsNewcomerAsked}
+use Rattle.shop_model.specs.asked.Refusals.{page_of}
+use Rattle.shop_model.specs.rows.Rows.{CustomerRow}
+use Rattle.shop_model.specs.trade.Buyers.{buyer_row, tables_entered}
+use Rattle.shop_model.specs.trade.Carts.{lines_named, lines_after, cart_meant, carts_with}
+use Rattle.shop_model.specs.pages.BuyRequest.{buy_request}
 use Rattle.shop_model.specs.pages.ShoppingCart.{cart_page, ids_with}
 use Rattle.shop_history.specs.declared.acts.Act.{Act}
-use Rattle.shop_history.specs.declared.acts.Act.TheVariants.{Cart}
+use Rattle.shop_history.specs.declared.acts.Act.TheVariants.{Cart, Enter}
 
 -- what an act gives: the tables, and the page
 pub record Played : Type 0 where
@@ -24,23 +33,44 @@ play_cart t asked draw = record {
       (cart_meant t.carts asked.ids.cart) (lines_after t asked draw);
 }
 
+-- what a customer is shown who buys a cart; there is one where the check is none
+abbrev pub buyer_page : Tables → ℕ → Option CustomerRow → Page
+buyer_page t cart None = page_of NoUserName
+buyer_page t cart (Some customer) = buy_request t customer cart (unwrap_or (lines_named t.carts (Some cart)) [])
+
+-- what a request to buy a cart gives
+abbrev pub play_enter : Tables → ℕ → buying.BuyRequest → ℕ → Played
+play_enter t stamp asked draw = record {
+  tables = tables_entered t stamp draw asked.buyer;
+  page = buyer_page t asked.cart (buyer_row t stamp draw asked.buyer);
+}
+
 -- what an act gives at a stamp, where the check of its request is none
 abbrev pub play : Tables → ℕ → Act → Played
 play t stamp (Cart asked draw) = play_cart t asked draw
+play t stamp (Enter asked draw) = play_enter t stamp asked draw
 
 -- the request that an act does
 abbrev pub request_of : Act → Request
 request_of (Cart asked draw) = CartRequest asked
+request_of (Enter asked draw) = BuyRequest asked
 
 -- an act has the word that was drawn for its request
 abbrev pub HasDrawn : ℕ → Act → Type 0
 HasDrawn draw (Cart asked word) = word ≡ draw
+HasDrawn draw (Enter asked word) = word ≡ draw
 
 -- an act does this request, with this word
 pub record IsActOf (request : Request) (draw : ℕ) (act : Act) : Type 0 where
   pub does : request_of act ≡ request
   pub drew : HasDrawn draw act
 
+-- what is said of a buyer is in its forms
+abbrev pub IsBuyer : Buyer → Type 0
+IsBuyer (Returning asked) = IsLoginAsked asked
+IsBuyer (Newcomer asked) = IsNewcomerAsked asked
+
 -- the parameters of an act are in their forms
 abbrev pub IsInForm : Act → Type 0
 IsInForm (Cart asked draw) = IsCartAsked asked
+IsInForm (Enter asked draw) = IsBuyer asked.buyer

@@ -1,10 +1,11 @@
 -- What keys show.
-use Rattle.std.specs.Prelude.{Bool, true, false, Option, Some, None}
+use Rattle.std.specs.Prelude.{Bool, true, false, Option, Some, None, option_map}
 use Rattle.shop_model.specs.declared.tables.Tables.{Tables}
-use Rattle.shop_model.specs.rows.Lookups.{row_numbered, author_of}
+use Rattle.shop_model.specs.rows.Lookups.{row_numbered, author_of, joined}
 use Rattle.shop_model.specs.lists.Rankings.{newest, best}
 use Rattle.shop_model.specs.lists.Related.{buyers, bought}
 use Rattle.shop_model.specs.rows.Rows.{ItemRow}
+use Rattle.shop_model.specs.trade.Buyers.{customer_named, address_saying}
 use Rattle.shop_history.specs.declared.keys.Key as key
 use Rattle.shop_history.specs.declared.keys.Key.{Key}
 use Rattle.shop_history.specs.Labels.{LabelRow}
@@ -31,6 +32,12 @@ row_of t (key.TheVariants.NewIn subject) = row.TheVariants.Items (newest t subje
 row_of t (key.TheVariants.BestIn subject) = row.TheVariants.Items (best t subject)
 row_of t (key.TheVariants.Buyers item) = row.TheVariants.Customers (buyers t item)
 row_of t (key.TheVariants.Bought customer) = row.TheVariants.Totals (bought t customer)
+row_of t (key.TheVariants.Name user) = shown row.TheVariants.Id (option_map (λ c. c.id) (customer_named t user))
+row_of t (key.TheVariants.Address id) = shown row.TheVariants.Address (row_numbered t.addresses id)
+row_of t (key.TheVariants.SameAddress text) = shown row.TheVariants.Id (option_map (λ a. a.id) (address_saying t text))
+row_of t (key.TheVariants.Country id) = shown row.TheVariants.Country (row_numbered t.countries id)
+row_of t (key.TheVariants.Order id) = shown row.TheVariants.Order (row_numbered t.orders id)
+row_of t (key.TheVariants.LastOrder customer) = shown row.TheVariants.Id (joined (row_numbered t.last customer))
 
 -- whether a row is an item
 abbrev pub is_item : Row → Bool

@@ -1,10 +1,12 @@
-use shop_model::CartRequest;
+use shop_model::{BuyRequest, CartRequest};
 
 /// What an accepted request does.
 #[derive(Debug, Drop)]
 pub enum Act {
     /// What Shopping Cart makes of a cart, with the word that was drawn for the request.
     Cart(CartRequest, u32),
+    /// That a customer who buys logs in, or is entered with the discount that the word draws.
+    Enter(BuyRequest, u32),
 }
 
 /// An accepted change.

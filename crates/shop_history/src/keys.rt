@@ -1,7 +1,9 @@
 ghost use Rattle.std.specs.Prelude.{◌≡◌};
 
-use shop_model::{Author, Cart, Customer, Item, ItemDetails, Subject};
-use shop_text::{Caption, Listed, Shared};
+use shop_model::{
+    Address, AddressText, Author, Cart, Country, Customer, Item, ItemDetails, Order, Subject,
+};
+use shop_text::{Boxed, Caption, Listed, Shared, Text};
 use std::marker::Model;
 
 /// What a request can read of the shop, one row at a time.
@@ -23,6 +25,18 @@ pub enum Key {
     Buyers(u32),
     /// What a customer bought lately, by its id.
     Bought(u32),
+    /// The id of the customer with a user name.
+    Name(Text),
+    /// An address, by its id.
+    Address(u32),
+    /// The id of the address that says this, the smallest where there are several.
+    SameAddress(Boxed<AddressText>),
+    /// A country, by its id.
+    Country(u32),
+    /// An order, by its id.
+    Order(u32),
+    /// The id of a customer's last order, by the customer's.
+    LastOrder(u32),
 }
 
 /// How an item is named in lists: its title, and its author's names.
@@ -75,4 +89,9 @@ pub enum Row {
     Customers(Listed<u32>),
     /// Items and how many units of each, by rising ids.
     Totals(Listed<(u32, u64)>),
+    Address(Shared<Address>),
+    Country(Shared<Country>),
+    Order(Shared<Order>),
+    /// The id of a row that is found in another way.
+    Id(u32),
 }

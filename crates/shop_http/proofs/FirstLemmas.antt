@@ -1,27 +1,19 @@
--- The values of the parameters that are read once, of more and more pairs.
+-- The first values of the parameters, of more and more pairs.
 use Rattle.std.proofs.Common.{◌≡◌, ℕ, List, [], ◌∷◌, ◌++◌, map, Option, Some, None, refl, sym, ap, ◌∙◌}
 use Rattle.std.specs.List.{find}
 use Rattle.std.specs.Option.{option_map, option_or}
 use Rattle.std.specs.Str.{bytes_eq}
 use Rattle.std.proofs.lemmas.List.Folds.{find-append}
-use Rattle.shop_model.specs.declared.parameter.Parameter.TheVariants.{C, Cart, Item, Subject, Kind, Text}
 use Rattle.shop_model.specs.asked.Parameters.{parameter_name}
 use Rattle.shop_http.specs.Firsts.{Firsts, behind}
 use Rattle.shop_http.specs.Forms.{Pair, decoded_text, decoded, value_named}
 
-none_behind : (value : Option (List ℕ)) → option_or value None ≡ value
+pub none_behind : (value : Option (List ℕ)) → option_or value None ≡ value
 none_behind None = refl
 none_behind (Some text) = refl
 
 pub behind-nil : (firsts : Firsts) → behind firsts [] ≡ firsts
-behind-nil firsts i = record {
-  c = none_behind firsts.c i;
-  cart = none_behind firsts.cart i;
-  item = none_behind firsts.item i;
-  subject = none_behind firsts.subject i;
-  kind = none_behind firsts.kind i;
-  text = none_behind firsts.text i;
-}
+behind-nil firsts i parameter = none_behind (firsts parameter) i
 
 -- the first value among the pairs of two lists
 in_turn : (value : Option (List ℕ)) (one other : Option Pair)
@@ -39,14 +31,7 @@ value-append value pairs others name =
     ∙ ap (λ found. option_or value (option_map (λ pair. pair.1) found)) (sym (find-append (λ (pair : Pair). bytes_eq pair.0 name) pairs others))
 
 pub behind-append : (firsts : Firsts) (pairs others : List Pair) → behind (behind firsts pairs) others ≡ behind firsts (pairs ++ others)
-behind-append firsts pairs others i = record {
-  c = value-append firsts.c pairs others (parameter_name C) i;
-  cart = value-append firsts.cart pairs others (parameter_name Cart) i;
-  item = value-append firsts.item pairs others (parameter_name Item) i;
-  subject = value-append firsts.subject pairs others (parameter_name Subject) i;
-  kind = value-append firsts.kind pairs others (parameter_name Kind) i;
-  text = value-append firsts.text pairs others (parameter_name Text) i;
-}
+behind-append firsts pairs others i parameter = value-append (firsts parameter) pairs others (parameter_name parameter) i
 
 -- the next of the encoded pairs that are left
 pub behind-next : (firsts : Firsts) (left left' : List Pair) (name value text : List ℕ)

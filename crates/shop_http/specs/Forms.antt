@@ -1,6 +1,6 @@
 -- The parameters of a message, and the forms that they are to have. The syntax of pairs is that of the URL
 -- Standard, section 5; the forms are this project's own.
-use Rattle.std.specs.Prelude.{ℕ, ◌&&◌, ◌==◌, Bool, not, nat_lt, nat_le, List, length, map, Option, Some, None, Result, Ok, if◌then◌else◌}
+use Rattle.std.specs.Prelude.{ℕ, ◌&&◌, ◌==◌, Bool, not, nat_lt, nat_le, List, [], length, map, Option, Some, None, unwrap_or, Result, Ok, if◌then◌else◌}
 use Rattle.std.specs.List.{find}
 use Rattle.std.specs.Option.{option_map, option_and_then, ok_or}
 use Rattle.std.specs.Str.{bytes_eq}
@@ -9,6 +9,7 @@ use Rattle.form_urlencoded.specs.Form.{decode, parse}
 use Rattle.shop_model.specs.declared.parameter.Parameter.{Parameter}
 use Rattle.shop_model.specs.rows.Limits.{text_limit}
 use Rattle.shop_model.specs.asked.Parameters.{parameter_name}
+use Rattle.shop_text.specs.Numbers.{number_of}
 
 -- a name and a value
 abbrev pub Pair : Type 0
@@ -55,6 +56,18 @@ optional_by form (Some value) parameter = ok_or (option_map (λ x. Some x) (form
 abbrev pub optional : {A : Type 0} → Form A → List Pair → Parameter → Result (Option A) Parameter
 optional form pairs parameter = optional_by form (value_of pairs parameter) parameter
 
+-- a parameter that is empty where it is absent
+abbrev pub or_empty : {A : Type 0} → Form A → List Pair → Parameter → Result A Parameter
+or_empty form pairs parameter = ok_or (form (unwrap_or (value_of pairs parameter) [])) parameter
+
 -- a text that isn't empty, within the limit
 unfoldable pub text_of : Form (List ℕ)
 text_of text = if nat_le 1 (length text) && nat_le (length text) text_limit then Some text else None
+
+-- a text within the limit, which may be empty
+unfoldable pub short_text_of : Form (List ℕ)
+short_text_of text = if nat_le (length text) text_limit then Some text else None
+
+-- the id of one of the 92 countries
+unfoldable pub country_of : Form ℕ
+country_of digits = option_and_then (λ id. if nat_le 1 id && nat_le id 92 then Some id else None) (number_of digits)

@@ -1,5 +1,6 @@
 pub mod Sets
 pub mod Forms
+pub mod Names
 pub mod Firsts
 pub mod ValuesView
 pub mod PairsView

@@ -1,5 +1,5 @@
 -- What a message asks for. The paths and the parameters are this project's own.
-use Rattle.std.specs.Prelude.{ℕ, ◌==◌, ◌||◌, ◌++◌, List, [], codes, Option, Some, None, Result, Ok, Err, if◌then◌else◌}
+use Rattle.std.specs.Prelude.{ℕ, ◌==◌, ◌||◌, ◌++◌, List, [], codes, Option, Some, None, is_some, Result, Ok, Err, if◌then◌else◌}
 use Rattle.std.specs.List.{before_first, after_first}
 use Rattle.std.specs.Option.{ok_or}
 use Rattle.std.specs.Result.{result_map_both}
@@ -7,10 +7,14 @@ use Rattle.std.specs.Str.{bytes_eq}
 use Rattle.shop_model.specs.declared.requests.Interaction.{Interaction}
 use Rattle.shop_model.specs.declared.requests.Interaction.TheVariants as interaction
 use Rattle.shop_model.specs.declared.parameter.Parameter.{Parameter}
-use Rattle.shop_model.specs.declared.parameter.Parameter.TheVariants.{C, Cart, Item, Qty, Subject, Kind, Text}
+use Rattle.shop_model.specs.declared.parameter.Parameter.TheVariants.{C, Cart, Item, Qty, Subject, Kind, Text, User, Pass, FirstName, LastName, Street1, Street2, City, State, Zip, Country, Phone, Email}
+use Rattle.shop_model.specs.declared.address.AddressText.{AddressText}
+use Rattle.shop_model.specs.declared.buying.Buyer.{Buyer}
+use Rattle.shop_model.specs.declared.buying.Buyer.TheVariants as buyer
 use Rattle.shop_model.specs.declared.requests.IdsAsked.{IdsAsked}
 use Rattle.shop_model.specs.declared.requests.Request.{Request}
 use Rattle.shop_model.specs.declared.requests.Request.TheVariants as request
+use Rattle.shop_model.specs.asked.CustomersAsked.{LoginAsked, NewcomerAsked}
 use Rattle.shop_model.specs.asked.Interactions.{interaction_of}
 use Rattle.shop_model.specs.asked.Kinds.{kind_of}
 use Rattle.shop_model.specs.rows.Subjects.{subject_of}
@@ -19,7 +23,7 @@ use Rattle.shop_model.specs.declared.refusal.Refusal as told
 use Rattle.shop_model.specs.declared.refusal.Refusal.TheVariants as page
 use Rattle.shop_http.specs.declared.requests.Refusal.{Refusal}
 use Rattle.shop_http.specs.declared.requests.Refusal.TheVariants as refusal
-use Rattle.shop_http.specs.Forms.{Pair, pairs, required, optional, text_of}
+use Rattle.shop_http.specs.Forms.{Pair, pairs, value_of, required, optional, or_empty, text_of, short_text_of, country_of}
 use Rattle.shop_text.specs.Numbers.{number_of}
 use Rattle.shop_http.specs.Sets.{sets_asked}
 
@@ -74,6 +78,66 @@ shopping_cart pairs =
     in_turn (ids_asked pairs) (λ ids.
     Ok (request.CartRequest (record { item = item; sets = sets; ids = ids })))))
 
+abbrev pub customer_registration : List Pair → Result Request Parameter
+customer_registration pairs =
+    in_turn (ids_asked pairs) (λ ids. Ok (request.CustomerRegistration (record { ids = ids })))
+
+-- the name of a customer, and its password
+abbrev pub login_asked : List Pair → Result LoginAsked Parameter
+login_asked pairs =
+    in_turn (required text_of pairs User) (λ user.
+    in_turn (required short_text_of pairs Pass) (λ pass.
+    Ok (record { user = user; pass = pass })))
+
+-- what an address says
+abbrev pub address_asked : List Pair → Result AddressText Parameter
+address_asked pairs =
+    in_turn (required text_of pairs Street1) (λ street1.
+    in_turn (or_empty short_text_of pairs Street2) (λ street2.
+    in_turn (required text_of pairs City) (λ city.
+    in_turn (or_empty short_text_of pairs State) (λ state.
+    in_turn (required text_of pairs Zip) (λ zip.
+    in_turn (required country_of pairs Country) (λ country.
+    Ok (record { street1 = street1; street2 = street2; city = city; state = state; zip = zip; country = country })))))))
+
+-- who is no customer yet
+abbrev pub newcomer_asked : List Pair → Result NewcomerAsked Parameter
+newcomer_asked pairs =
+    in_turn (required text_of pairs FirstName) (λ first.
+    in_turn (required text_of pairs LastName) (λ last.
+    in_turn (address_asked pairs) (λ address.
+    in_turn (required text_of pairs Phone) (λ phone.
+    in_turn (required text_of pairs Email) (λ email.
+    Ok (record { first = first; last = last; address = address; phone = phone; email = email }))))))
+
+-- who buys: a customer where one is named, and else who is none yet
+abbrev pub buyer_asked : List Pair → Result Buyer Parameter
+buyer_asked pairs =
+    if is_some (value_of pairs User)
+    then in_turn (login_asked pairs) (λ login. Ok (buyer.Returning login))
+    else in_turn (newcomer_asked pairs) (λ newcomer. Ok (buyer.Newcomer newcomer))
+
+abbrev pub buy_request : List Pair → Result Request Parameter
+buy_request pairs =
+    in_turn (required number_of pairs Cart) (λ cart.
+    in_turn (buyer_asked pairs) (λ buyer.
+    Ok (request.BuyRequest (record { cart = cart; buyer = buyer }))))
+
+abbrev pub order_inquiry : List Pair → Result Request Parameter
+order_inquiry pairs = in_turn (ids_asked pairs) (λ ids. Ok (request.OrderInquiry (record { ids = ids })))
+
+abbrev pub order_display : List Pair → Result Request Parameter
+order_display pairs =
+    in_turn (login_asked pairs) (λ login.
+    in_turn (ids_asked pairs) (λ ids.
+    Ok (request.OrderDisplay (record { login = login; ids = ids }))))
+
+abbrev pub admin_request : List Pair → Result Request Parameter
+admin_request pairs =
+    in_turn (required number_of pairs Item) (λ item.
+    in_turn (ids_asked pairs) (λ ids.
+    Ok (request.AdminRequest (record { item = item; ids = ids }))))
+
 -- what the pairs ask for at an interaction, or the first parameter that is missing or not in its form
 abbrev pub request_by : Interaction → List Pair → Result Request Parameter
 request_by interaction.Home = home
@@ -83,6 +147,11 @@ request_by interaction.ProductDetail = product_detail
 request_by interaction.SearchRequest = search_request
 request_by interaction.SearchResults = search_results
 request_by interaction.ShoppingCart = shopping_cart
+request_by interaction.CustomerRegistration = customer_registration
+request_by interaction.BuyRequest = buy_request
+request_by interaction.OrderInquiry = order_inquiry
+request_by interaction.OrderDisplay = order_display
+request_by interaction.AdminRequest = admin_request
 
 -- what stands before the first `?`, and what follows it
 abbrev pub path_of : List ℕ → List ℕ

@@ -1,13 +1,8 @@
 -- The encoded values of a message as contracts see them.
-use Rattle.shop_http.specs.declared.requests.values.Values.TheInside.{Inside}
+use Rattle.std.specs.Prelude.{None, slice_index_or}
+use Rattle.shop_http.specs.declared.requests.values.Values.{Values}
 use Rattle.shop_http.specs.Firsts.{Firsts, kept}
+use Rattle.shop_http.specs.Names.{place_of}
 
-abbrev pub firsts_kept : Inside → Firsts
-firsts_kept values = record {
-  c = kept values.c;
-  cart = kept values.cart;
-  item = kept values.item;
-  subject = kept values.subject;
-  kind = kept values.kind;
-  text = kept values.text;
-}
+abbrev pub firsts_kept : Values → Firsts
+firsts_kept values parameter = kept (slice_index_or values.kept (place_of parameter) None)

@@ -7,6 +7,7 @@ ghost use Rattle.shop_http.specs.Requests as spec;
 
 use crate::router::Routes;
 use browsing::{best_sellers, home, new_products, product_detail, search_request, search_results};
+use buying::{admin_request, buy_request, customer_registration, order_display, order_inquiry};
 use cart::shopping_cart;
 use fault::Fault;
 use memchr::memchr;
@@ -18,10 +19,12 @@ use std::alloc::Global;
 use values::Values;
 
 mod browsing;
+mod buying;
 mod cart;
 mod decoding;
 mod fault;
 mod forms;
+mod names;
 mod pairs;
 mod values;
 
@@ -122,6 +125,11 @@ fn read(
         Interaction::SearchRequest => search_request(alloc, &pairs),
         Interaction::SearchResults => search_results(alloc, &pairs),
         Interaction::ShoppingCart => shopping_cart(alloc, &pairs),
+        Interaction::CustomerRegistration => customer_registration(alloc, &pairs),
+        Interaction::BuyRequest => buy_request(alloc, &pairs),
+        Interaction::OrderInquiry => order_inquiry(alloc, &pairs),
+        Interaction::OrderDisplay => order_display(alloc, &pairs),
+        Interaction::AdminRequest => admin_request(alloc, &pairs),
     }
 }
 

@@ -23,6 +23,7 @@ impl Routes {
     pub fn new(alloc: Global) -> Result<Routes, Memory> {
         let mut router = Router::new(alloc);
         add_first(&mut router)?;
+        add_middle(&mut router)?;
         add_last(&mut router)?;
         Ok(Routes { router })
     }
@@ -46,17 +47,29 @@ fn add_first(router: &mut Router<Interaction>) -> Result<(), Memory>
     requires { router.old ≡ [] }
     ensures { OnOk result (router.new ≡ rows_of (take 4 paths)) }
 {
+    add_linked(router, Interaction::AdminRequest)?;
     add_linked(router, Interaction::BestSellers)?;
+    add_linked(router, Interaction::BuyRequest)?;
+    add_linked(router, Interaction::CustomerRegistration)
+}
+
+/// Adds the next four paths of the table.
+fn add_middle(router: &mut Router<Interaction>) -> Result<(), Memory>
+    requires { router.old ≡ rows_of (take 4 paths) }
+    ensures { OnOk result (router.new ≡ rows_of (take 8 paths)) }
+{
     add_linked(router, Interaction::Home)?;
     add_linked(router, Interaction::NewProducts)?;
-    add_linked(router, Interaction::ProductDetail)
+    add_linked(router, Interaction::OrderDisplay)?;
+    add_linked(router, Interaction::OrderInquiry)
 }
 
 /// Adds the other paths of the table.
 fn add_last(router: &mut Router<Interaction>) -> Result<(), Memory>
-    requires { router.old ≡ rows_of (take 4 paths) }
+    requires { router.old ≡ rows_of (take 8 paths) }
     ensures { OnOk result (router.new ≡ rows_of paths) }
 {
+    add_linked(router, Interaction::ProductDetail)?;
     add_linked(router, Interaction::SearchRequest)?;
     add_linked(router, Interaction::SearchResults)?;
     add_linked(router, Interaction::ShoppingCart)?;

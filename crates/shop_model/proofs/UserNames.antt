@@ -5,7 +5,7 @@ use Rattle.std.proofs.lemmas.List.{length-map}
 use Rattle.shop_model.specs.rows.Rows.{CustomerRow}
 use Rattle.shop_model.specs.declared.tables.Tables.{Tables}
 use Rattle.shop_model.specs.rows.Sound.{Sound}
-use Rattle.shop_model.proofs.Digsyls.{digsyl_injective}
+use Rattle.shop_text.proofs.cited.Syllables.{digsyl_injective}
 use Rattle.shop_model.proofs.cited.Lists.{id_of_place}
 
 pub names_differ : (t : Tables) → Sound t → AllPairs (λ a b. a.user ≢ b.user) t.customers

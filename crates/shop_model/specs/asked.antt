@@ -3,6 +3,9 @@ pub mod SearchAsked
 pub mod SearchResultsView
 pub mod CartAsked
 pub mod CartRequestView
+pub mod CustomersAsked
+pub mod LoginView
+pub mod NewcomerView
 pub mod Interactions
 pub mod Parameters
 pub mod Refusals

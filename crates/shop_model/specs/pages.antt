@@ -8,5 +8,12 @@ pub mod BestSellers
 pub mod ProductDetail
 pub mod SearchRequest
 pub mod SearchResults
+pub mod Priced
 pub mod ShoppingCart
+pub mod Forms
+pub mod CustomerRegistration
+pub mod BuyRequest
+pub mod OrderInquiry
+pub mod OrderDisplay
+pub mod AdminRequest
 pub mod Show

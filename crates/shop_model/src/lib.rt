@@ -5,6 +5,7 @@ mod address;
 mod auth_id;
 mod author;
 mod backing;
+mod buying;
 mod card_type;
 mod card_use;
 mod cart;
@@ -31,6 +32,10 @@ pub use address::{Address, AddressText};
 pub use auth_id::AuthId;
 pub use author::Author;
 pub use backing::Backing;
+pub use buying::{
+    AdminRequest, BuyRequest, Buyer, CustomerRegistration, Login, Newcomer, OrderDisplay,
+    OrderInquiry,
+};
 pub use card_type::CardType;
 pub use card_use::CardUse;
 pub use cart::Cart;

@@ -14,6 +14,20 @@ pub enum Parameter {
     Subject,
     Kind,
     Text,
+    /// The name of a customer who logs in.
+    User,
+    /// Its password.
+    Pass,
+    FirstName,
+    LastName,
+    Street1,
+    Street2,
+    City,
+    State,
+    Zip,
+    Country,
+    Phone,
+    Email,
 }
 
 impl Parameter {
@@ -28,6 +42,18 @@ impl Parameter {
             Parameter::Subject => b"subject",
             Parameter::Kind => b"kind",
             Parameter::Text => b"text",
+            Parameter::User => b"user",
+            Parameter::Pass => b"pass",
+            Parameter::FirstName => b"fn",
+            Parameter::LastName => b"ln",
+            Parameter::Street1 => b"street1",
+            Parameter::Street2 => b"street2",
+            Parameter::City => b"city",
+            Parameter::State => b"state",
+            Parameter::Zip => b"zip",
+            Parameter::Country => b"country",
+            Parameter::Phone => b"phone",
+            Parameter::Email => b"email",
         }
     }
 
@@ -43,6 +69,18 @@ impl Parameter {
             Parameter::Subject => b"Bad parameter subject.",
             Parameter::Kind => b"Bad parameter kind.",
             Parameter::Text => b"Bad parameter text.",
+            Parameter::User => b"Bad parameter user.",
+            Parameter::Pass => b"Bad parameter pass.",
+            Parameter::FirstName => b"Bad parameter fn.",
+            Parameter::LastName => b"Bad parameter ln.",
+            Parameter::Street1 => b"Bad parameter street1.",
+            Parameter::Street2 => b"Bad parameter street2.",
+            Parameter::City => b"Bad parameter city.",
+            Parameter::State => b"Bad parameter state.",
+            Parameter::Zip => b"Bad parameter zip.",
+            Parameter::Country => b"Bad parameter country.",
+            Parameter::Phone => b"Bad parameter phone.",
+            Parameter::Email => b"Bad parameter email.",
         }
     }
 }

@@ -4,6 +4,7 @@ ghost use Rattle.shop_model.specs.asked.Interactions.{path_of};
 ghost use Rattle.shop_model.specs.asked.Kinds.{kind_of, kind_name};
 
 use crate::Subject;
+use crate::buying::{AdminRequest, BuyRequest, CustomerRegistration, OrderDisplay, OrderInquiry};
 use shop_text::{Listed, Text};
 use std::marker::Model;
 
@@ -17,6 +18,11 @@ pub enum Interaction {
     SearchRequest,
     SearchResults,
     ShoppingCart,
+    CustomerRegistration,
+    BuyRequest,
+    OrderInquiry,
+    OrderDisplay,
+    AdminRequest,
 }
 
 impl Interaction {
@@ -32,6 +38,11 @@ impl Interaction {
             Interaction::SearchRequest => "/search_request",
             Interaction::SearchResults => "/search_results",
             Interaction::ShoppingCart => "/shopping_cart",
+            Interaction::CustomerRegistration => "/customer_registration",
+            Interaction::BuyRequest => "/buy_request",
+            Interaction::OrderInquiry => "/order_inquiry",
+            Interaction::OrderDisplay => "/order_display",
+            Interaction::AdminRequest => "/admin_request",
         }
     }
 }
@@ -165,4 +176,9 @@ pub enum Request {
     SearchRequest(SearchRequest),
     SearchResults(SearchResults),
     CartRequest(CartRequest),
+    CustomerRegistration(CustomerRegistration),
+    BuyRequest(BuyRequest),
+    OrderInquiry(OrderInquiry),
+    OrderDisplay(OrderDisplay),
+    AdminRequest(AdminRequest),
 }

@@ -56,11 +56,11 @@ read_of_named : (named : Option ℕ) (cart : ReadOf) → IsNamed named (Some car
 read_of_named None cart is = absurd cc
 read_of_named (Some id) cart is = record { id = id; named_is = refl; key_is = cc }
 
-cart_found : (o : Option CartRow) (cart : CartRow) → shown row.Cart o ≡ row.Cart cart → o ≡ Some cart
+pub cart_found : (o : Option CartRow) (cart : CartRow) → shown row.Cart o ≡ row.Cart cart → o ≡ Some cart
 cart_found None cart is = absurd cc
 cart_found (Some other) cart is = cc
 
-fit_shown : (t : Tables) (id : ℕ) (o : Option CartRow) → row_numbered t.carts id ≡ o → Sound t → IsFitRow (shown row.Cart o)
+pub fit_shown : (t : Tables) (id : ℕ) (o : Option CartRow) → row_numbered t.carts id ≡ o → Sound t → IsFitRow (shown row.Cart o)
 fit_shown t id None is sound = tt
 fit_shown t id (Some cart) is sound = all_numbered IsFit t.carts id cart is sound.carts
 

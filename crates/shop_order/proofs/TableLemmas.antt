@@ -5,6 +5,7 @@ use Rattle.std.proofs.Math.Nat.{mul-le-mul}
 use Rattle.std.proofs.lemmas.List.{append-nil, length-map, get_or-map, map_more}
 use Rattle.std.proofs.lemmas.List.Sums.{sum_by_more}
 use Rattle.shop_model.specs.declared.tables.Tables.{Tables}
+use Rattle.shop_model.specs.pages.Priced.{priced_cells}
 use Rattle.shop_model.specs.pages.ShoppingCart.{line_cells, line_cost}
 use Rattle.shop_model.specs.rows.Lookups.{row_numbered, title_of, cost_of}
 use Rattle.shop_model.specs.pages.PageText.{row_text}
@@ -32,7 +33,7 @@ cost_shown None = refl
 cost_shown (Some item) = refl
 
 cells_shown : (t : Tables) (line : ℕ × ℕ) (r : Row) → row_of t (key.Item line.0) ≡ r → line_cells t line ≡ cells_in line r
-unfolding line_cells
+unfolding priced_cells
 cells_shown t line r is =
     let title : title_of t line.0 ≡ title_in r = title_shown (row_numbered t.items line.0) ∙ ap title_in is in
     let cost : cost_of t line.0 ≡ cost_in r = cost_shown (row_numbered t.items line.0) ∙ ap cost_in is in
@@ -56,6 +57,10 @@ module _ (lines : List (ℕ × ℕ)) (items : List ReadOf) (i : ℕ) (read : Rea
       ∙ get_or-map key_of lines i (0, 0) read.key within in
       ap (row_of t) (sym key_is) ∙ shows_at t items i read behind at shows
 
+  -- what one unit of it costs
+  pub cost_at : (t : Tables) → Shows t items → cost_of t (line_at lines i).0 ≡ cost_in read.row
+  cost_at t shows = cost_shown (row_numbered t.items (line_at lines i).0) ∙ ap cost_in (item_shown t shows)
+
   pub rows_more : (old rows new : List ℕ) → new ≡ rows ++ row_text (cells_in (line_at lines i) read.row)
       → (t : Tables) → Shows t items → rows ≡ old ++ flat_map row_text (map (line_cells t) (take i lines)) → new ≡ old ++ flat_map row_text (map (line_cells t) (take (i + 1) lines))
   rows_more old rows new added t shows so_far =
@@ -70,10 +75,8 @@ module _ (lines : List (ℕ × ℕ)) (items : List ReadOf) (i : ℕ) (read : Rea
   pub sum_more : (sum cost : ℕ) → cost ≡ cost_in read.row * (line_at lines i).1 → ((t : Tables) → Shows t items → sum ≡ sum_by (line_cost t) (take i lines))
       → (t : Tables) → Shows t items → sum + cost ≡ sum_by (line_cost t) (take (i + 1) lines)
   sum_more sum cost cost_is so_far t shows =
-      let line : ℕ × ℕ = line_at lines i in
-      let one : cost_of t line.0 ≡ cost_in read.row = cost_shown (row_numbered t.items line.0) ∙ ap cost_in (item_shown t shows) in
       ap (λ n. n + cost) (so_far t shows)
-      ∙ ap (λ n. sum_by (line_cost t) (take i lines) + n) (cost_is ∙ ap (λ n. n * line.1) (sym one))
+      ∙ ap (λ n. sum_by (line_cost t) (take i lines) + n) (cost_is ∙ ap (λ n. n * (line_at lines i).1) (sym (cost_at t shows)))
       ∙ sym (sum_by_more (line_cost t) lines i (0, 0) within)
 
 -- a hundred lines of 999 units fit

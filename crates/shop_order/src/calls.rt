@@ -1,11 +1,16 @@
 ghost use Rattle.shop_attempt.specs.Marks.{Looks};
 ghost use Rattle.shop_browse.specs.Attempts.{AttemptedAs, Suits, asking_of};
 
+use crate::buy_request::buy_request;
 use crate::shopping_cart::shopping_cart;
 use shop_attempt::Store;
+use shop_browse::admin_request::admin_request;
 use shop_browse::best_sellers::best_sellers;
+use shop_browse::customer_registration::customer_registration;
 use shop_browse::home::home;
 use shop_browse::new_products::new_products;
+use shop_browse::order_display::order_display;
+use shop_browse::order_inquiry::order_inquiry;
 use shop_browse::product_detail::product_detail;
 use shop_browse::search_request::search_request;
 use shop_browse::search_results::search_results;
@@ -34,5 +39,12 @@ pub fn attempt<St: Store>(
         Request::SearchRequest(asked) => search_request(alloc, store, ask, asked, draft),
         Request::SearchResults(asked) => search_results(alloc, store, ask, asked, draft),
         Request::CartRequest(asked) => shopping_cart(alloc, store, ask, asked, draft),
+        Request::CustomerRegistration(asked) => customer_registration(
+            alloc, store, ask, asked, draft,
+        ),
+        Request::OrderInquiry(asked) => order_inquiry(alloc, store, ask, asked, draft),
+        Request::OrderDisplay(asked) => order_display(alloc, store, ask, asked, draft),
+        Request::AdminRequest(asked) => admin_request(alloc, store, ask, asked, draft),
+        Request::BuyRequest(asked) => buy_request(alloc, store, ask, asked, draft),
     }
 }

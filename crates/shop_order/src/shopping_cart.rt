@@ -1,9 +1,9 @@
 //! Shopping Cart: what a request for it makes of a cart.
-ghost use Rattle.std.specs.Prelude.{◌≡◌, ◌∷◌, ◌≤◌, [], ◌≢◌, None, IfOk, length, map, option_copied};
+ghost use Rattle.std.specs.Prelude.{◌≡◌, ◌++◌, ◌≤◌, ◌≢◌, None, IfOk, OnOk, length, map, option_copied};
 ghost use Rattle.shop_history.specs.declared.keys.Key.TheVariants as key_kinds;
 ghost use Rattle.shop_attempt.specs.Marks.{Looks};
 ghost use Rattle.shop_browse.specs.Attempts.{AttemptedAs, Suits, asking_of};
-ghost use Rattle.shop_browse.specs.Driver.{IsWhole, AreSeen, IsNext};
+ghost use Rattle.shop_browse.specs.Driver.{IsWhole, IsNext};
 ghost use Rattle.shop_pricing.specs.Bounds.{AreLines};
 ghost use Rattle.shop_order.specs.ShoppingCart as spec;
 
@@ -112,14 +112,22 @@ fn change(
     Ok(Next::Change(act(asked, ask.draw)?, writes))
 }
 
+/// Adds the keys of the items of lines.
+pub(crate) fn add_item_keys(keys: &mut Listed<Key>, lines: &[(u32, u32)]) -> Result<(), Memory>
+    ensures { OnOk result (keys.new ≡ keys.old ++ map (λ l. key_kinds.Item l.0) lines.now) }
+{
+    for line in lines {
+        keys.push(Key::Item(line.0))?;
+    }
+    Ok(())
+}
+
 /// The keys of the items of lines.
 fn item_keys(alloc: Global, lines: &[(u32, u32)]) -> Result<Listed<Key>, Memory>
     ensures { IfOk result (λ keys. keys ≡ map (λ l. key_kinds.Item l.0) lines.now) }
 {
     let mut keys = Listed::with_capacity(alloc, lines.len())?;
-    for line in lines {
-        keys.push(Key::Item(line.0))?;
-    }
+    add_item_keys(&mut keys, lines)?;
     Ok(keys)
 }
 
@@ -209,6 +217,7 @@ impl<'a> Interaction for ShoppingCart<'a> {
 }
 
 /// An attempt at the cart that is named, or a new one, with what the request sets of it.
+#[inline(never)]
 pub fn shopping_cart<St: Store>(
     alloc: Global,
     store: &mut St,

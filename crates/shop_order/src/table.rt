@@ -30,7 +30,7 @@ fn title(page: &mut Template, row: &Row) -> Result<(), Memory>
 }
 
 /// The cost of one unit of the item in a row, in cents.
-fn cost(row: &Row) -> u64
+pub(crate) fn cost(row: &Row) -> u64
     ensures value { result ≡ spec.cost_in row.now }
     ensures most { result ≤ price_limit }
 {

@@ -3,7 +3,7 @@ ghost use Rattle.shop_model.specs.population.Population as spec;
 
 use shop_model::words::{adjective, last_name, noun};
 use shop_model::{Address, AddressText, Scale, drawn};
-use shop_text::{Listed, Memory, Text};
+use shop_text::{Listed, Memory, Shared, Text};
 use std::alloc::Global;
 
 /// The table's number in the drawn words.
@@ -74,12 +74,13 @@ pub(crate) fn addresses_table(
     alloc: Global,
     seed: u32,
     scale: &Scale,
-) -> Result<Listed<Address>, Memory>
+) -> Result<Listed<Shared<Address>>, Memory>
     ensures { IfOk result (λ table. table ≡ spec.addresses_table seed scale.now) }
 {
     let mut table = Listed::with_capacity(alloc, scale.addresses as usize)?;
     for made in 0..scale.addresses {
-        table.push(address_row(alloc, seed, scale, made + 1)?)?;
+        let address = address_row(alloc, seed, scale, made + 1)?;
+        table.push(Shared::new(alloc, address)?)?;
     }
     Ok(table)
 }

@@ -2,7 +2,7 @@ ghost use Rattle.std.specs.Prelude.{◌≡◌, ◌≤◌, ◌++◌, IfOk};
 ghost use Rattle.shop_model.specs.population.Population as spec;
 
 use shop_model::Country;
-use shop_text::{Listed, Memory, Text};
+use shop_text::{Listed, Memory, Shared, Text};
 use std::alloc::Global;
 
 /// How many countries there are, at every scale.
@@ -33,12 +33,13 @@ fn country_row(alloc: Global, id: u32) -> Result<Country, Memory>
 
 /// All countries.
 #[tactic(auto, using(shop_model::proofs::cited::Lists::rows_push), unfolding(shop_model::specs::population::Population::countries_table))]
-pub(crate) fn countries_table(alloc: Global) -> Result<Listed<Country>, Memory>
+pub(crate) fn countries_table(alloc: Global) -> Result<Listed<Shared<Country>>, Memory>
     ensures { IfOk result (λ table. table ≡ spec.countries_table) }
 {
     let mut table = Listed::with_capacity(alloc, COUNTRIES as usize)?;
     for made in 0..COUNTRIES {
-        table.push(country_row(alloc, made + 1)?)?;
+        let country = country_row(alloc, made + 1)?;
+        table.push(Shared::new(alloc, country)?)?;
     }
     Ok(table)
 }

@@ -3,6 +3,7 @@ ghost use Rattle.shop_model.specs.rows.Sound.{Has};
 ghost use Rattle.shop_model.specs.population.Population as spec;
 
 use shop_model::{Address, Customer, Item, Scale};
+use shop_text::Shared;
 
 /// The customer with this id among those of the shop.
 #[tactic(auto, using(shop_model::proofs::cited::Lists::id_within, shop_model::proofs::cited::Lists::row_at), unfolding(shop_model::specs::population::Population::customers_table))]
@@ -26,14 +27,14 @@ pub(crate) fn customer_at<'a>(
 pub(crate) fn address_at<'a>(
     seed: u32,
     scale: &Scale,
-    addresses: &'a [Address],
+    addresses: &'a [Shared<Address>],
     id: u32,
 ) -> &'a Address
     requires table { addresses.now ≡ spec.addresses_table seed scale.now }
     requires has { Has scale.now.addresses id }
     ensures { result.now ≡ spec.address_row seed scale.now id }
 {
-    &addresses[(id - 1) as usize]
+    addresses[(id - 1) as usize].get()
 }
 
 /// The item with this id among those of the shop.

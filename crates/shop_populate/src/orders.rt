@@ -6,7 +6,7 @@ use crate::lines::{order_lines, size};
 use crate::lookups::{address_at, customer_at};
 use crate::money::charged;
 use shop_model::{Address, Customer, Item, Line, Order, OrderState, Scale, ShipType, drawn};
-use shop_text::{Listed, Memory};
+use shop_text::{Listed, Memory, Shared};
 use std::alloc::Global;
 
 /// The table's number in the drawn words.
@@ -79,7 +79,7 @@ fn order_row(
     seed: u32,
     scale: &Scale,
     customers: &[Customer],
-    addresses: &[Address],
+    addresses: &[Shared<Address>],
     items: &[Item],
     id: u32,
 ) -> Result<Order, Memory>
@@ -128,9 +128,9 @@ pub(crate) fn orders_table(
     seed: u32,
     scale: &Scale,
     customers: &[Customer],
-    addresses: &[Address],
+    addresses: &[Shared<Address>],
     items: &[Item],
-) -> Result<Listed<Order>, Memory>
+) -> Result<Listed<Shared<Order>>, Memory>
     requires customers { customers.now ≡ spec.customers_table seed scale.now }
     requires addresses { addresses.now ≡ spec.addresses_table seed scale.now }
     requires items { items.now ≡ spec.items_table seed scale.now }
@@ -138,7 +138,8 @@ pub(crate) fn orders_table(
 {
     let mut table = Listed::with_capacity(alloc, scale.orders as usize)?;
     for made in 0..scale.orders {
-        table.push(order_row(alloc, seed, scale, customers, addresses, items, made + 1)?)?;
+        let order = order_row(alloc, seed, scale, customers, addresses, items, made + 1)?;
+        table.push(Shared::new(alloc, order)?)?;
     }
     Ok(table)
 }

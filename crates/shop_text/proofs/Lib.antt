@@ -1,3 +1,4 @@
 pub mod Dates
 pub mod cited
 pub mod Extends
+mod Spelled

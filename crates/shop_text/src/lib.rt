@@ -4,6 +4,7 @@
 //! A push that is refused for want of memory leaves the text as it was.
 #![tactic(auto)]
 
+mod boxed;
 mod caption;
 mod days;
 mod fold;
@@ -16,6 +17,7 @@ mod shared;
 mod syllables;
 mod text;
 
+pub use boxed::Boxed;
 pub use caption::Caption;
 pub use days::{day_bytes, day_text};
 pub use fold::{fold_begins, fold_eq};
@@ -25,5 +27,5 @@ pub use memory::Memory;
 pub use money::cents_text;
 pub use numbers::number_of;
 pub use shared::Shared;
-pub use syllables::{digsyl, digsyl_lower, syllable};
+pub use syllables::{digsyl, digsyl_lower, is_digsyl_lower, syllable, undigsyl};
 pub use text::Text;

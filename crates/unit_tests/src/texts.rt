@@ -18,6 +18,28 @@ fn numbers_in_syllables(rt: HostRuntime) -> Result<(), Fail> {
 }
 
 #[test]
+fn numbers_from_syllables(rt: HostRuntime) {
+    let cases = [
+        ("BA", Some(0)),
+        ("OGBA", Some(10)),
+        ("RIRE", Some(34)),
+        ("RISE", Some(35)),
+        ("REALNGRENGATULALNGSE", Some(u32::MAX)),
+        ("REALNGRENGATULALNGAT", None),
+        ("NGNGNGNGNGNGNGNGNGNG", None),
+        ("BARISE", None),
+        ("BABA", None),
+        ("rise", None),
+        ("RIS", None),
+        ("RISO", None),
+        ("", None),
+    ];
+    for (text, want) in cases {
+        assert_eq!(rt; undigsyl(text.as_bytes()), want);
+    }
+}
+
+#[test]
 fn amounts_in_cents(rt: HostRuntime) -> Result<(), Fail> {
     let alloc = rt.alloc();
     let cases = [

@@ -4,10 +4,11 @@ use Rattle.std.proofs.lemmas.List.{length-set}
 use Rattle.shop_model.specs.declared.tables.Tables.{Tables}
 use Rattle.shop_model.specs.rows.Limits.{day_of}
 use Rattle.shop_model.specs.rows.Lookups.{row_numbered}
+use Rattle.shop_model.specs.trade.Buyers.{changed_row, changed_at, logged_in}
 use Rattle.shop_history.proofs.cited.KeptTables.{Grows}
 use Rattle.shop_attempt.specs.declared.attempts.Write.{Write}
 use Rattle.shop_attempt.specs.declared.attempts.Write.TheVariants.{PutCart, Login, AddAddress, AddCustomer, AddOrder, SetStock, PutItem}
-use Rattle.shop_attempt.specs.Writes.{changed_row, changed_at, put_row, logged_in, entered, placed, written_one, written}
+use Rattle.shop_attempt.specs.Writes.{put_row, entered, placed, written_one, written}
 
 -- rows that are changed stay as many, and those that are put are one more at most
 

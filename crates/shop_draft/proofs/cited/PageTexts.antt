@@ -89,6 +89,31 @@ three_texts front v w close feed old s0 s1 s2 s3 now a b c is_v is_w is0 is1 is2
     )
     (simp append_assoc)
 
+-- four, of which the second and the third are one text
+pub named_values : (tag u v w x close feed : List ℕ) (old s1 s2 s3 s4 now a b c d : List ℕ) → escape u ≡ u → escape v ≡ v → escape w ≡ w
+    → escape x ≡ x → s1 ≡ old ++ (tag ++ u ++ escape a) → s2 ≡ s1 ++ (v ++ escape b) → s3 ≡ s2 ++ (w ++ escape c) → s4 ≡ s3 ++ (x ++ escape d)
+    → now ≡ s4 ++ (close ++ feed) → now ≡ old ++ (tag ++ escape (u ++ a ++ v ++ (b ++ w ++ c) ++ x ++ d) ++ close ++ feed)
+named_values tag u v w x close feed old s1 s2 s3 s4 now a b c d is_u is_v is_w is_x is1 is2 is3 is4 is =
+    rw (
+      is,
+      is4,
+      is3,
+      is2,
+      is1,
+      escape_append (u ++ a ++ v ++ (b ++ w ++ c) ++ x) d,
+      escape_append (u ++ a ++ v ++ (b ++ w ++ c)) x,
+      escape_append (u ++ a ++ v) (b ++ w ++ c),
+      escape_append (b ++ w) c,
+      escape_append b w,
+      escape_append (u ++ a) v,
+      escape_append u a,
+      is_u,
+      is_v,
+      is_w,
+      is_x,
+    )
+    (simp append_assoc)
+
 -- a field whose name ends in a value
 pub counted_field : (tag w middle close : List ℕ) (old s1 s2 now a b : List ℕ) → escape w ≡ w
     → s1 ≡ old ++ (tag ++ w ++ escape a) → s2 ≡ s1 ++ (middle ++ escape b) → now ≡ s2 ++ close

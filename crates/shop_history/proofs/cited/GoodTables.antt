@@ -1,26 +1,34 @@
 -- Entries that may follow keep the tables sound, and each uses one of the room.
-use Rattle.std.proofs.Common.{◌≡◌, ℕ, suc, ◌+◌, ◌-◌, ◌*◌, ◌^◌, ◌<◌, ◌≤◌, List, [], ◌∷◌, length, take, All, Option, Some, None, IfSome, option_map, unwrap_or, refl, arith, length-append}
+use Rattle.std.proofs.Common.{◌≡◌, ℕ, suc, ◌+◌, ◌-◌, ◌*◌, ◌%◌, ◌^◌, ◌<◌, ◌≤◌, List, [], ◌∷◌, length, take, All, Option, Some, None, IfSome, option_map, unwrap_or, refl, arith, length-append}
 use Rattle.std.proofs.lemmas.List.{length-set}
+use Rattle.std.proofs.lemmas.Nat.{mod_below}
 use Rattle.std.proofs.lemmas.List.Elements.{All-weaker}
 use Rattle.shop_log.proofs.cited.Extends.{extends_length, take_extends}
 use Rattle.shop_log.proofs.cited.Legality as legality
 use Rattle.shop_log.proofs.cited.Legality.{legal_front}
+use Rattle.shop_model.specs.declared.address.Address.{Address}
+use Rattle.shop_model.specs.declared.address.AddressText.{AddressText}
+use Rattle.shop_model.specs.declared.buying.Buyer.{Buyer}
+use Rattle.shop_model.specs.declared.buying.Buyer.TheVariants.{Returning, Newcomer}
 use Rattle.shop_model.specs.declared.tables.Tables.{Tables}
 use Rattle.shop_model.specs.asked.CartAsked.{CartAsked}
+use Rattle.shop_model.specs.trade.Buyers.{customer_named, logged_in, says_same, address_saying, addresses_with, new_customer, customers_with, tables_entered}
 use Rattle.shop_model.specs.trade.Carts.{check_cart, check_asked, lines_named, lines_after, cart_lines, carts_with}
 use Rattle.shop_model.specs.pages.Show.{check}
 use Rattle.shop_model.specs.rows.Limits.{stamp_limit, restocks_limit}
 use Rattle.shop_model.specs.rows.Lookups.{row_numbered}
-use Rattle.shop_model.specs.rows.Rows.{CartRow}
+use Rattle.shop_model.specs.rows.Rows.{CartRow, CustomerRow}
 use Rattle.shop_model.specs.rows.Sound.{Sound, Room}
 use Rattle.shop_history.specs.declared.acts.Act.{Act}
-use Rattle.shop_history.specs.declared.acts.Act.TheVariants.{Cart}
+use Rattle.shop_history.specs.declared.acts.Act.TheVariants.{Cart, Enter}
 use Rattle.shop_history.specs.declared.acts.Entry.{Entry}
-use Rattle.shop_history.specs.Acts.{play, request_of, IsInForm}
+use Rattle.shop_history.specs.Acts.{play, request_of, IsBuyer, IsInForm}
 use Rattle.shop_history.specs.Logs.{history, after, tables, Legal, MayFollow, IsGood}
 use Rattle.shop_history.proofs.Lines.{AreFit, none_fit, cart_lines_fit}
 use Rattle.shop_history.proofs.cited.MayChange.{named_there}
 use Rattle.shop_history.proofs.cited.Places.{all_numbered}
+use Rattle.shop_history.proofs.Changed.{changed_length}
+use Rattle.shop_history.proofs.SoundCustomers.{login_sound, entered_sound, shared_sound, address_there}
 use Rattle.shop_history.proofs.SoundCarts.{AreSound, carts_sound, sound_with, push_sound, set_sound}
 
 -- room for fewer entries
@@ -67,9 +75,64 @@ carts_one_more : (carts : List CartRow) (named : Option ℕ) (lines : List (ℕ 
 carts_one_more carts None lines = omega (arith, length-append carts (record { id = length carts + 1; lines = lines } ∷ []))
 carts_one_more carts (Some id) lines = omega (arith, length-set carts (id - 1) (record { id = id; lines = lines }))
 
+-- a customer who logs in, or comes
+
+login_good : (t : Tables) (stamp : ℕ) (customer : Option CustomerRow) (room : ℕ) → stamp ≤ stamp_limit → IsGood t (suc room)
+    → IsGood (record t { customers = customers_with t.customers stamp customer }) room
+login_good t stamp None room bound good = record { sound = good.sound; room_for = room_less t (suc room) room (omega arith) good.room_for }
+login_good t stamp (Some customer) room bound good =
+    let less : Room t room = room_less t (suc room) room (omega arith) good.room_for in
+    let same = changed_length t.customers customer.id (logged_in stamp) in
+    record {
+      sound = login_sound t customer.id stamp bound good.sound;
+      room_for = record {
+        countries = less.countries;
+        addresses = less.addresses;
+        customers = omega (arith, same, less.customers);
+        authors = less.authors;
+        items = less.items;
+        orders = less.orders;
+        carts = less.carts;
+        restocks = less.restocks;
+      };
+    }
+
+addresses_one_more : (addresses : List Address) (text : AddressText) (same : Option Address) → length (addresses_with addresses text same) ≤ length addresses + 1
+addresses_one_more addresses text None = omega (arith, length-append addresses (record { id = length addresses + 1; text = text } ∷ []))
+addresses_one_more addresses text (Some same) = omega arith
+
+enter_good : (t : Tables) (stamp draw : ℕ) (buyer : Buyer) (room : ℕ) → stamp ≤ stamp_limit → IsBuyer buyer → IsGood t (suc room)
+    → IsGood (tables_entered t stamp draw buyer) room
+enter_good t stamp draw (Returning asked) room bound form good = login_good t stamp (customer_named t asked.user) room bound good
+enter_good t stamp draw (Newcomer asked) room bound form good =
+    let same : Option Address = address_saying t asked.address in
+    let with_address : Tables = record t { addresses = addresses_with t.addresses asked.address same } in
+    let customer : CustomerRow = new_customer t stamp draw asked in
+    let less : Room t room = room_less t (suc room) room (omega arith) good.room_for in
+    let drawn : draw % 51 < 51 = mod_below draw 51 (omega arith) in
+    let sound : Sound with_address = shared_sound t asked.address same (omega (arith, good.room_for.addresses)) form.address good.sound in
+    record {
+      sound =
+          entered_sound with_address customer refl (omega (arith, good.room_for.customers)) refl
+          (address_there (λ a. says_same a.text asked.address) t asked.address same good.sound refl)
+          (record { discount = omega (arith, drawn); login = bound; expiry = omega (arith, bound) }) sound;
+      room_for = record {
+        countries = less.countries;
+        addresses = omega (arith, addresses_one_more t.addresses asked.address same, good.room_for.addresses);
+        customers = omega (arith, length-append t.customers (customer ∷ []), good.room_for.customers);
+        authors = less.authors;
+        items = less.items;
+        orders = less.orders;
+        carts = less.carts;
+        restocks = less.restocks;
+      };
+    }
+
 -- an act that is not refused
-play_good : (t : Tables) (stamp : ℕ) (act : Act) (room : ℕ) → check t (request_of act) ≡ None → IsGood t (suc room) → IsGood (play t stamp act).tables room
-play_good t stamp (Cart asked draw) room passes good =
+play_good : (t : Tables) (stamp : ℕ) (act : Act) (room : ℕ) → stamp ≤ stamp_limit → IsInForm act → check t (request_of act) ≡ None → IsGood t (suc room)
+    → IsGood (play t stamp act).tables room
+play_good t stamp (Enter asked draw) room bound form passes good = enter_good t stamp draw asked.buyer room bound form good
+play_good t stamp (Cart asked draw) room bound form passes good =
     let lines : List (ℕ × ℕ) = lines_after t asked draw in
     let carts : List CartRow = carts_with t.carts asked.ids.cart lines in
     let are : AreSound (length t.items) carts
@@ -78,7 +141,7 @@ play_good t stamp (Cart asked draw) room passes good =
     record { sound = sound_with t carts are good.sound; room_for = room_with t carts room (carts_one_more t.carts asked.ids.cart lines) good.room_for }
 
 pub good_after : (t : Tables) (entry : Entry) (room : ℕ) → entry.stamp ≤ stamp_limit → IsInForm entry.act → check t (request_of entry.act) ≡ None → IsGood t (suc room) → IsGood (after t entry) room
-good_after t entry room bound form passes good = play_good t entry.stamp entry.act room passes good
+good_after t entry room bound form passes good = play_good t entry.stamp entry.act room bound form passes good
 
 pub good_log : (t : Tables) (most : ℕ) → IsGood t most → (log : List Entry) → Legal t log → length log ≤ most → IsGood (tables t log) (most - length log)
 unfolding history

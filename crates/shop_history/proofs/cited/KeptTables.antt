@@ -2,10 +2,13 @@
 use Rattle.std.proofs.Common.{◌≡◌, ℕ, ◌≤◌, List, length, refl, sym, ◌∙◌, ap, subst, arith}
 use Rattle.std.proofs.lemmas.List.{length-map}
 use Rattle.shop_log.proofs.cited.ListEnds.{by_end}
+use Rattle.shop_model.specs.declared.buying.Buyer.{Buyer}
+use Rattle.shop_model.specs.declared.buying.Buyer.TheVariants.{Returning, Newcomer}
 use Rattle.shop_model.specs.declared.tables.Tables.{Tables}
 use Rattle.shop_model.specs.lists.Catalogues.{Catalogue, naming}
+use Rattle.shop_model.specs.trade.Buyers.{tables_entered}
 use Rattle.shop_history.specs.declared.acts.Act.{Act}
-use Rattle.shop_history.specs.declared.acts.Act.TheVariants.{Cart}
+use Rattle.shop_history.specs.declared.acts.Act.TheVariants.{Cart, Enter}
 use Rattle.shop_history.specs.declared.acts.Entry.{Entry}
 use Rattle.shop_history.specs.Acts.{play}
 use Rattle.shop_history.specs.Logs.{after, tables, SameCatalogue}
@@ -19,8 +22,13 @@ pub record Keeps (t u : Tables) : Type 0 where
   pub items : u.items ≡ t.items
   pub orders : u.orders ≡ t.orders
 
+enter_keeps : (t : Tables) (stamp draw : ℕ) (buyer : Buyer) → Keeps t (tables_entered t stamp draw buyer)
+enter_keeps t stamp draw (Returning asked) = record { catalogue = refl; countries = refl; born_orders = refl; items = refl; orders = refl }
+enter_keeps t stamp draw (Newcomer asked) = record { catalogue = refl; countries = refl; born_orders = refl; items = refl; orders = refl }
+
 pub play_keeps : (t : Tables) (stamp : ℕ) (act : Act) → Keeps t (play t stamp act).tables
 play_keeps t stamp (Cart asked draw) = record { catalogue = refl; countries = refl; born_orders = refl; items = refl; orders = refl }
+play_keeps t stamp (Enter asked draw) = enter_keeps t stamp draw asked.buyer
 
 keeps_then : (t u w : Tables) → Keeps t u → Keeps u w → Keeps t w
 keeps_then t u w first second = grind (arith, first, second)

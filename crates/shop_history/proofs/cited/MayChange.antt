@@ -10,13 +10,14 @@ use Rattle.shop_model.specs.lists.Rankings.{newest, best, sold_lately}
 use Rattle.shop_model.specs.rows.Rows.{CartRow}
 use Rattle.shop_model.specs.rows.Sound.{Sound}
 use Rattle.shop_history.specs.declared.acts.Act.{Act}
-use Rattle.shop_history.specs.declared.acts.Act.TheVariants.{Cart}
+use Rattle.shop_history.specs.declared.acts.Act.TheVariants.{Cart, Enter}
 use Rattle.shop_history.specs.declared.keys.Key as key
 use Rattle.shop_history.specs.declared.keys.Key.{Key}
 use Rattle.shop_history.specs.declared.keys.Row as row
 use Rattle.shop_history.specs.Acts.{play, request_of}
 use Rattle.shop_history.specs.Keys.{row_of, shown}
 use Rattle.shop_history.specs.MayChange.{may_change}
+use Rattle.shop_history.proofs.EnterFrame.{enter_frame}
 use Rattle.shop_history.proofs.cited.Places.{row_set_other, row_push_other}
 
 pub named_there : (items : ℕ) (asked : CartAsked) (there : Option CartRow) → check_asked items asked (option_map (λ c. c.lines) there) ≡ None → (cart : CartRow) × (there ≡ Some cart)
@@ -45,3 +46,10 @@ frame t stamp (Cart asked draw) sound passes (key.TheVariants.NewIn subject) = i
 frame t stamp (Cart asked draw) sound passes (key.TheVariants.BestIn subject) = inr refl
 frame t stamp (Cart asked draw) sound passes (key.TheVariants.Buyers item) = inr refl
 frame t stamp (Cart asked draw) sound passes (key.TheVariants.Bought customer) = inr refl
+frame t stamp (Cart asked draw) sound passes (key.TheVariants.Name user) = inr refl
+frame t stamp (Cart asked draw) sound passes (key.TheVariants.Address id) = inr refl
+frame t stamp (Cart asked draw) sound passes (key.TheVariants.SameAddress text) = inr refl
+frame t stamp (Cart asked draw) sound passes (key.TheVariants.Country id) = inr refl
+frame t stamp (Cart asked draw) sound passes (key.TheVariants.Order id) = inr refl
+frame t stamp (Cart asked draw) sound passes (key.TheVariants.LastOrder customer) = inr refl
+frame t stamp (Enter asked draw) sound passes key = enter_frame t stamp draw asked.buyer key

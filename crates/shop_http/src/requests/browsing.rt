@@ -51,7 +51,7 @@ pub(crate) fn search_results(alloc: Global, pairs: &Pairs) -> Result<Request, Fa
     ensures { Reads (spec.search_results pairs.now) result }
 {
     let kind = required_kind(alloc, pairs)?;
-    let text = required_text(alloc, pairs)?;
+    let text = required_text(alloc, pairs, Parameter::Text)?;
     let ids = ids_asked(alloc, pairs)?;
     Ok(Request::SearchResults(SearchResults { kind, text, ids }))
 }

@@ -1,7 +1,8 @@
-ghost use Rattle.std.specs.Prelude.{◌≡◌, ◌≢◌, ◌<◌, ◌≤◌, IfOk, IfSome, length};
+ghost use Rattle.std.specs.Prelude.{◌≡◌, IfOk, IfSome};
 ghost use Rattle.std.specs.Option.{option_map, ok_or};
+ghost use Rattle.shop_model.specs.asked.CustomersAsked.{IsFilled, IsShort};
 ghost use Rattle.shop_model.specs.asked.Kinds.{kind_of};
-ghost use Rattle.shop_model.specs.rows.Limits.{text_limit};
+ghost use Rattle.shop_model.specs.rows.Sound.{Has};
 ghost use Rattle.shop_model.specs.rows.Subjects.{subject_of};
 ghost use Rattle.shop_model.specs.declared.parameter.Parameter.{Parameter};
 ghost use Rattle.shop_http.specs.Answers.{Reads};
@@ -16,6 +17,9 @@ use shop_model::{IdsAsked, Parameter, SearchKind, Subject, TEXT_LIMIT};
 use shop_text::{Text, number_of};
 use std::alloc::Global;
 
+/// The ids of countries run from 1 to this.
+const COUNTRIES: u32 = 92;
+
 /// A number that has to be there.
 #[inline(always)]
 pub(crate) fn required_number(
@@ -23,7 +27,6 @@ pub(crate) fn required_number(
     pairs: &Pairs,
     parameter: Parameter,
 ) -> Result<u32, Fault>
-    requires { parameter ≢ Parameter.Qty }
     ensures { Reads (spec.required numbers.number_of pairs.now parameter) result }
 {
     match pairs.value_of(parameter) {
@@ -39,7 +42,6 @@ pub(crate) fn optional_number(
     pairs: &Pairs,
     parameter: Parameter,
 ) -> Result<Option<u32>, Fault>
-    requires { parameter ≢ Parameter.Qty }
     ensures { Reads (spec.optional numbers.number_of pairs.now parameter) result }
 {
     match pairs.value_of(parameter) {
@@ -84,31 +86,103 @@ pub(crate) fn required_kind(alloc: Global, pairs: &Pairs) -> Result<SearchKind, 
     }
 }
 
-/// A copy of the text that is searched for, where it is of 1 to 100 bytes.
-pub(crate) fn required_text(alloc: Global, pairs: &Pairs) -> Result<Text, Fault>
-    ensures value { Reads (spec.required spec.text_of pairs.now Parameter.Text) result }
-    ensures some { IfOk result (λ text. 0 < length text) }
-    ensures short { IfOk result (λ text. length text ≤ text_limit) }
+/// The country that is named by its id.
+pub(crate) fn required_country(alloc: Global, pairs: &Pairs) -> Result<u32, Fault>
+    ensures value { Reads (spec.required spec.country_of pairs.now Parameter.Country) result }
+    ensures there { IfOk result (Has 92) }
 {
-    let Some(value) = pairs.value_of(Parameter::Text) else {
-        return Err(Fault::Parameter(Parameter::Text));
+    let Some(value) = pairs.value_of(Parameter::Country) else {
+        return Err(Fault::Parameter(Parameter::Country));
+    };
+    match country_of(decoded(alloc, value)?.as_slice()) {
+        Some(country) => Ok(country),
+        None => Err(Fault::Parameter(Parameter::Country)),
+    }
+}
+
+#[tactic(auto, unfolding(crate::specs::Forms::country_of))]
+fn country_of(digits: &[u8]) -> Option<u32>
+    ensures value { result ≡ spec.country_of digits.now }
+    ensures there { IfSome result (Has 92) }
+{
+    let country = number_of(digits)?;
+    if country == 0 || country > COUNTRIES {
+        return None;
+    }
+    Some(country)
+}
+
+/// A copy of a text that has to be there, and may not be empty.
+pub(crate) fn required_text(
+    alloc: Global,
+    pairs: &Pairs,
+    parameter: Parameter,
+) -> Result<Text, Fault>
+    ensures value { Reads (spec.required spec.text_of pairs.now parameter) result }
+    ensures filled { IfOk result IsFilled }
+{
+    let Some(value) = pairs.value_of(parameter) else {
+        return Err(Fault::Parameter(parameter));
     };
     match text_of(decoded(alloc, value)?.as_slice()) {
         Some(text) => Ok(Text::copy(alloc, text)?),
-        None => Err(Fault::Parameter(Parameter::Text)),
+        None => Err(Fault::Parameter(parameter)),
     }
 }
 
 #[tactic(auto, unfolding(crate::specs::Forms::text_of))]
 fn text_of(text: &[u8]) -> Option<&[u8]>
     ensures value { option_map (λ text. text.now) result ≡ spec.text_of text.now }
-    ensures some { IfSome result (λ text. 0 < length text.now) }
-    ensures short { IfSome result (λ text. length text.now ≤ text_limit) }
+    ensures filled { IfSome result (λ text. IsFilled text.now) }
 {
     if text.is_empty() || text.len() > TEXT_LIMIT {
         return None;
     }
     Some(text)
+}
+
+/// A copy of a text that has to be there, and may be empty.
+pub(crate) fn required_short_text(
+    alloc: Global,
+    pairs: &Pairs,
+    parameter: Parameter,
+) -> Result<Text, Fault>
+    ensures value { Reads (spec.required spec.short_text_of pairs.now parameter) result }
+    ensures short { IfOk result IsShort }
+{
+    match pairs.value_of(parameter) {
+        Some(value) => short_text_in(alloc, value, parameter),
+        None => Err(Fault::Parameter(parameter)),
+    }
+}
+
+/// A copy of a text, which is empty where it is absent.
+#[tactic(auto, unfolding(crate::specs::Forms::short_text_of))]
+pub(crate) fn short_text_or_empty(
+    alloc: Global,
+    pairs: &Pairs,
+    parameter: Parameter,
+) -> Result<Text, Fault>
+    ensures value { Reads (spec.or_empty spec.short_text_of pairs.now parameter) result }
+    ensures short { IfOk result IsShort }
+{
+    match pairs.value_of(parameter) {
+        Some(value) => short_text_in(alloc, value, parameter),
+        None => Ok(Text::new(alloc)),
+    }
+}
+
+/// A copy of an encoded value that may be empty.
+#[tactic(auto, unfolding(crate::specs::Forms::short_text_of))]
+fn short_text_in(alloc: Global, encoded: &[u8], parameter: Parameter) -> Result<Text, Fault>
+    ensures value { Reads (ok_or (spec.short_text_of (spec.decoded_text encoded.now)) parameter) result }
+    ensures short { IfOk result IsShort }
+{
+    let text = decoded(alloc, encoded)?;
+    if text.as_slice().len() > TEXT_LIMIT {
+        return Err(Fault::Parameter(parameter));
+    }
+    Ok(Text::copy(alloc, text.as_slice())?)
 }
 
 /// The ids, each of which may be absent.

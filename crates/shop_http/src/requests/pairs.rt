@@ -1,7 +1,7 @@
-ghost use Rattle.std.specs.Prelude.{◌≡◌, ◌≢◌, ◌++◌};
-ghost use Rattle.shop_model.specs.declared.parameter.Parameter.{Parameter};
+ghost use Rattle.std.specs.Prelude.{◌≡◌, ◌++◌};
 ghost use Rattle.shop_http.specs.Firsts.{firsts_of, kept};
 ghost use Rattle.shop_http.specs.Forms as spec;
+ghost use Rattle.shop_http.specs.ValuesView.{firsts_kept};
 
 use super::values::Values;
 use shop_model::Parameter;
@@ -20,19 +20,20 @@ impl<'v, 'a> Model for Pairs<'v, 'a> {
     ghost use Rattle.shop_http.specs.Forms.{Pair};
     ghost use Rattle.shop_http.specs.Firsts.{firsts_of};
     ghost use Rattle.shop_http.specs.PairsView.{pairs_of};
+    ghost use Rattle.shop_http.specs.ValuesView.{firsts_kept};
 
     ghost Value = { List Pair };
 
     ghost view = { pairs_of };
 
-    ghost invariant = { λ p. p.values.now ≡ firsts_of (pairs_of p) };
+    ghost invariant = { λ p. firsts_kept p.values.now ≡ firsts_of (pairs_of p) };
 }
 
 impl<'v, 'a> Pairs<'v, 'a> {
     /// The pairs of a query and of a form, whose values these are.
     #[inline(always)]
     pub(crate) fn of(query: &'a [u8], form: &'a [u8], values: &'v Values<'a>) -> Pairs<'v, 'a>
-        requires { values.now ≡ firsts_of (spec.pairs query.now ++ spec.pairs form.now) }
+        requires { firsts_kept values.now ≡ firsts_of (spec.pairs query.now ++ spec.pairs form.now) }
         ensures { result ≡ spec.pairs query.now ++ spec.pairs form.now }
     {
         Pairs {
@@ -49,10 +50,9 @@ impl<'v, 'a> Pairs<'v, 'a> {
         (self.query, self.form)
     }
 
-    /// The value of the first pair of a parameter that is read once, still encoded.
+    /// The value of the first pair of a parameter, still encoded.
     #[inline(always)]
     pub(crate) fn value_of(&self, parameter: Parameter) -> Option<&'a [u8]>
-        requires { parameter ≢ Parameter.Qty }
         ensures { kept result ≡ spec.value_of self.now parameter }
     {
         self.values.of(parameter)

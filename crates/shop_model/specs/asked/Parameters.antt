@@ -1,7 +1,7 @@
 -- The parameters of requests; the names are this project's own.
 use Rattle.std.specs.Prelude.{ℕ, List, ◌++◌, codes}
 use Rattle.shop_model.specs.declared.parameter.Parameter.{Parameter}
-use Rattle.shop_model.specs.declared.parameter.Parameter.TheVariants.{C, Cart, Item, Qty, Subject, Kind, Text}
+use Rattle.shop_model.specs.declared.parameter.Parameter.TheVariants.{C, Cart, Item, Qty, Subject, Kind, Text, User, Pass, FirstName, LastName, Street1, Street2, City, State, Zip, Country, Phone, Email}
 
 abbrev pub parameter_name : Parameter → List ℕ
 parameter_name C = codes "c"
@@ -11,6 +11,18 @@ parameter_name Qty = codes "qty"
 parameter_name Subject = codes "subject"
 parameter_name Kind = codes "kind"
 parameter_name Text = codes "text"
+parameter_name User = codes "user"
+parameter_name Pass = codes "pass"
+parameter_name FirstName = codes "fn"
+parameter_name LastName = codes "ln"
+parameter_name Street1 = codes "street1"
+parameter_name Street2 = codes "street2"
+parameter_name City = codes "city"
+parameter_name State = codes "state"
+parameter_name Zip = codes "zip"
+parameter_name Country = codes "country"
+parameter_name Phone = codes "phone"
+parameter_name Email = codes "email"
 
 -- what refuses a parameter that is missing or not in its form
 abbrev pub bad_parameter : Parameter → List ℕ

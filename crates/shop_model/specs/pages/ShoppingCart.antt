@@ -1,27 +1,22 @@
 -- The page of Shopping Cart; this project's own wording of the TPC-W specification's interaction.
-use Rattle.std.specs.Prelude.{ℕ, ◌*◌, List, [], ◌∷◌, ◌++◌, map, sum_by, Some, codes, decimal}
+use Rattle.std.specs.Prelude.{ℕ, ◌*◌, List, ◌∷◌, ◌++◌, map, sum_by, Some, codes, decimal}
 use Rattle.shop_text.specs.Texts.{cents_text}
 use Rattle.shop_model.specs.declared.page.Block.TheVariants.{Heading, Para, Table, Form}
 use Rattle.shop_model.specs.declared.page.Field.{Field}
 use Rattle.shop_model.specs.declared.page.Page.{Page}
 use Rattle.shop_model.specs.declared.requests.IdsAsked.{IdsAsked}
 use Rattle.shop_model.specs.declared.tables.Tables.{Tables}
-use Rattle.shop_model.specs.rows.Lookups.{title_of, cost_of}
+use Rattle.shop_model.specs.rows.Lookups.{cost_of}
+use Rattle.shop_model.specs.pages.Priced.{priced_cells}
 use Rattle.shop_model.specs.pages.Targets.{number_field, id_fields, plain_link, nav}
 
 -- what a line costs
 abbrev pub line_cost : Tables → ℕ × ℕ → ℕ
 line_cost t line = cost_of t line.0 * line.1
 
--- a line as a row of the table: item, title, quantity, cost of one, cost of all
-unfoldable pub line_cells : Tables → ℕ × ℕ → List (List ℕ)
-line_cells t line =
-    decimal line.0
-    ∷ title_of t line.0
-    ∷ decimal line.1
-    ∷ cents_text (cost_of t line.0)
-    ∷ cents_text (line_cost t line)
-    ∷ []
+-- a line as a row of the table, at what its item costs
+abbrev pub line_cells : Tables → ℕ × ℕ → List (List ℕ)
+line_cells t line = priced_cells t line.0 line.1 (cost_of t line.0)
 
 -- a line as a field of the form
 abbrev pub line_field : ℕ × ℕ → Field

@@ -2,7 +2,7 @@
 use Rattle.std.specs.Prelude.{ℕ, Option, Some, None, Bool, true, false}
 use Rattle.shop_model.specs.declared.page.Page.{Page}
 use Rattle.shop_model.specs.declared.requests.Request.{Request}
-use Rattle.shop_model.specs.declared.requests.Request.TheVariants.{Home, NewProducts, BestSellers, ProductDetail, SearchRequest, SearchResults, CartRequest}
+use Rattle.shop_model.specs.declared.requests.Request.TheVariants.{Home, NewProducts, BestSellers, ProductDetail, SearchRequest, SearchResults, CartRequest, CustomerRegistration, BuyRequest, OrderInquiry, OrderDisplay, AdminRequest}
 use Rattle.shop_model.specs.declared.tables.Tables.{Tables}
 use Rattle.shop_model.specs.declared.refusal.Refusal.{Refusal}
 use Rattle.shop_model.specs.pages.NewProducts.{new_products}
@@ -13,7 +13,12 @@ use Rattle.shop_model.specs.asked.Refusals.{page_of}
 use Rattle.shop_model.specs.pages.Home.{home_page, customer_asked}
 use Rattle.shop_model.specs.pages.SearchRequest.{search_request}
 use Rattle.shop_model.specs.declared.refusal.Refusal.TheVariants.{NoItem, NoCustomer}
+use Rattle.shop_model.specs.trade.Buyers.{check_enter, check_login}
 use Rattle.shop_model.specs.trade.Carts.{check_cart}
+use Rattle.shop_model.specs.pages.AdminRequest.{admin_request}
+use Rattle.shop_model.specs.pages.CustomerRegistration.{customer_registration}
+use Rattle.shop_model.specs.pages.OrderDisplay.{order_display}
+use Rattle.shop_model.specs.pages.OrderInquiry.{order_inquiry}
 use Rattle.shop_model.specs.rows.Lookups.{row_numbered}
 
 -- whether a request changes rows, where nothing refuses it
@@ -25,6 +30,11 @@ is_changing (ProductDetail asked) = false
 is_changing (SearchRequest asked) = false
 is_changing (SearchResults asked) = false
 is_changing (CartRequest asked) = true
+is_changing (CustomerRegistration asked) = false
+is_changing (BuyRequest asked) = true
+is_changing (OrderInquiry asked) = false
+is_changing (OrderDisplay asked) = false
+is_changing (AdminRequest asked) = false
 
 -- a row that has to be there
 abbrev pub check_there : {Row : Type 0} → Refusal → Option Row → Option Refusal
@@ -45,6 +55,11 @@ check t (ProductDetail asked) = check_there NoItem (row_numbered t.items asked.i
 check t (SearchRequest asked) = None
 check t (SearchResults asked) = None
 check t (CartRequest asked) = check_cart t asked
+check t (CustomerRegistration asked) = check_customer t asked.ids.c
+check t (BuyRequest asked) = check_enter t asked.cart asked.buyer
+check t (OrderInquiry asked) = check_customer t asked.ids.c
+check t (OrderDisplay asked) = check_login t asked.login
+check t (AdminRequest asked) = check_there NoItem (row_numbered t.items asked.item)
 
 -- what a request that only reads shows where nothing refuses it
 abbrev pub page_for : Tables → Request → ℕ → Option Page
@@ -55,6 +70,11 @@ page_for tables (ProductDetail asked) draw = product_detail tables asked.item as
 page_for tables (SearchRequest asked) draw = Some (search_request tables asked.ids draw)
 page_for tables (SearchResults asked) draw = Some (search_results tables asked.kind asked.text asked.ids)
 page_for tables (CartRequest asked) draw = None
+page_for tables (CustomerRegistration asked) draw = Some (customer_registration asked.ids (customer_asked tables asked.ids.c))
+page_for tables (BuyRequest asked) draw = None
+page_for tables (OrderInquiry asked) draw = Some (order_inquiry asked.ids (customer_asked tables asked.ids.c))
+page_for tables (OrderDisplay asked) draw = order_display tables asked.login asked.ids
+page_for tables (AdminRequest asked) draw = admin_request tables asked.item asked.ids
 
 -- the page of a refusal, where there is one, or else another
 abbrev pub refused_or : Option Refusal → Option Page → Option Page

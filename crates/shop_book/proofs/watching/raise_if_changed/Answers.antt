@@ -4,7 +4,7 @@ use Rattle.shop_model.specs.rows.Empty.{no_tables}
 use Rattle.shop_book.proofs.Placed.{place_changed}
 use Rattle.shop_book.proofs.watching.raise_if_changed.Goals as goal
 
-pub raise-requires : goal.raise-requires
-raise-requires c =
-    place_changed c.args.versions.now c.args.rows.now no_tables c.args.kept.now.key c.args.kept.now.row c.requires.watchable c.requires.places
+pub raise-requires-clause-place : goal.raise-requires-clause-place
+raise-requires-clause-place c =
+    place_changed c.args.versions.now c.args.rows.now no_tables c.args.kept.key c.args.kept.row c.requires.watchable c.requires.places
     (λ e. false≢true (sym c.if-not-shows.true ∙ (c.shows.ensures no_tables).1 e))

@@ -1,4 +1,7 @@
-use Rattle.std.proofs.Common.{◌++◌, ◌∙◌, ap, sym}
+use Rattle.std.proofs.Common.{ℕ, List, ◌++◌, map, ◌∙◌, ap, sym}
+use Rattle.std.specs.List.{flat_map}
+use Rattle.std.proofs.lemmas.List.{take_all}
+use Rattle.shop_model.specs.pages.ShoppingCart.{line_cells}
 use Rattle.shop_model.specs.pages.PageText.{row_text}
 use Rattle.shop_attempt.specs.declared.attempts.ReadOf.{ReadOf}
 use Rattle.shop_draft.specs.Templates.{filled}
@@ -12,3 +15,8 @@ loop-place-preserved c t shows drawn =
     (c.in_ok-row.ensures drawn
     ∙ ap (λ (r : ReadOf). filled drawn c.loop-place.page ++ row_text (cells_in (line_at c.args.lines.now c.loop-place.place) r.row)) (sym c.index-items-place.is))
     t shows (c.loop-place.invariant t shows drawn)
+
+pub returns : goal.returns
+returns c t shows drawn =
+    c.loop-place.invariant t shows drawn
+    ∙ ap (λ (lines : List (ℕ × ℕ)). filled drawn c.args.page.now ++ flat_map row_text (map (line_cells t) lines)) (take_all c.loop-place.place c.args.lines.now c.loop-place-test.false)

@@ -4,7 +4,8 @@ use Rattle.shop_populate.proofs.last_orders.last_orders_table.Goals as goal
 
 pub index_mut-requires : goal.index_mut-requires
 index_mut-requires c =
-    let is = rw (← c.order.view_is) at c.order-item.is in
+    let same = c.order.view_is ∙ c.get-order.ensures in
+    let is = rw (← same) at c.order-item.is in
     let within = place_within _ _ _ _ _ c.requires.known c.loop-order-test.true is c.loop-order.invariant in
     omega (arith, within, c.loop-order.lasts.ok)
 
@@ -14,5 +15,6 @@ loop-order-init c =
 
 pub loop-order-preserved : goal.loop-order-preserved
 loop-order-preserved c =
-    let is = rw (← c.order.view_is) at c.order-item.is in
+    let same = c.order.view_is ∙ c.get-order.ensures in
+    let is = rw (← same) at c.order-item.is in
     lasts_more _ _ _ _ _ c.requires.run c.requires.known c.loop-order-test.true is c.loop-order.invariant

@@ -1,22 +1,24 @@
-use Rattle.std.proofs.Common.{◌≡◌, ℕ, ◌+◌, ◌==◌, if◌then◌else◌, List, [], ◌∷◌, ◌++◌, length, All, refl, sym, ◌∙◌, ap, subst, arith, length-append}
+use Rattle.std.proofs.Common.{◌≡◌, ℕ, ◌+◌, ◌==◌, if◌then◌else◌, List, [], ◌∷◌, ◌++◌, length, refl, sym, ◌∙◌, ap, subst, arith, length-append}
 use Rattle.shop_model.specs.declared.tables.Tables.{Tables}
 use Rattle.shop_history.specs.declared.acts.Entry.{Entry}
 use Rattle.shop_history.specs.Drawing.{new_ids}
 use Rattle.shop_history.proofs.cited.Versions.{RaisedFor}
-use Rattle.shop_book.specs.declared.watching.Watched.{Watched}
 use Rattle.shop_book.specs.Books.{tables_of}
 use Rattle.shop_book.specs.BookView.{book_of}
 use Rattle.shop_book.specs.Keeping.{IsKept}
 use Rattle.shop_book.specs.RowsNow.{tables_with, HasRoom}
 use Rattle.shop_book.specs.Stored as versioned
 use Rattle.shop_book.specs.Stored.{stored}
-use Rattle.shop_book.specs.Watching.{AreOf, IsWatchable, keys_of}
-use Rattle.shop_book.proofs.ChangesLemmas.{next, cart_fits, kept_roomy, ready, kept_after}
+use Rattle.shop_book.specs.Watching.{AreOf, keys_of}
+use Rattle.shop_book.proofs.ChangesLemmas.{next, may_come, are_fit, kept_roomy, ready, named, kept_after}
 use Rattle.shop_book.proofs.book.Book.change.Goals as goal
 
 pub watch-requires : goal.watch-requires
-watch-requires c =
-    omega (arith, cart_fits _ _ c.self.invariant.is_book _ _ c.self.view_is c.requires, ap (λ (t : Tables). length t.carts) c.self.invariant.rows_are)
+watch-requires c = may_come _ _ c.self.invariant.is_book _ _ c.self.view_is c.requires c.self.inside.rows c.self.invariant.rows_are
+
+pub puts_of-requires : goal.puts_of-requires
+puts_of-requires c =
+    are_fit _ _ c.self.invariant.is_book _ _ c.self.view_is c.requires c.in-Ok.ensures.form c.self.inside.rows c.self.inside.versions c.self.inside.counts c.self.inside.lists c.self.invariant
 
 pub invariant_of-self : goal.invariant_of-self
 invariant_of-self c =
@@ -26,20 +28,24 @@ invariant_of-self c =
 
 pub change_rows-ids-requires : goal.change_rows-ids-requires
 change_rows-ids-requires c =
-    let many : c.len-more.result ≡ length c.args.writes.items = omega (arith, c.len-more.ensures, c.args.writes.ok.0) in
+    let t = c.self.inside.opening.tables in
+    let many : c.len-more.result ≡ length c.in-Ok-puts_of.puts.items = omega (arith, c.len-more.ensures, c.in-Ok-puts_of.puts.ok.0) in
+    let watching : c.len-keys.result ≡ length c.in-Ok.watched.items = omega (arith, c.len-keys.ensures, c.in-Ok.watched.ok.0) in
     record {
       ready =
           ready _ _ c.self.invariant.is_book _ _ c.self.view_is c.requires c.in-Ok.ensures.form c.self.inside.rows c.self.inside.versions c.self.inside.counts c.self.inside.lists c.self.invariant
-          c.make_room.new.rows (c.make_room.ensures.rows c.self.inside.opening.tables)
-          (subst (HasRoom c.make_room.new.rows) many c.if-not-make_room.ensures.rows_room);
+          c.make_room.new.rows (c.make_room.ensures.rows t) c.in-Ok-puts_of.puts.items (c.in-Ok-puts_of.ensures.made t)
+          (subst (HasRoom c.make_room.new.rows) many c.if-not-make_room.ensures.rows_room) c.in-Ok-puts_of.ensures.whole;
       places =
           (kept_roomy (book_of c.self.inside) c.self.inside.rows c.make_room.new.rows c.self.inside.versions c.make_room.new.versions c.self.inside.counts c.make_room.new.counts c.self.inside.lists
           c.self.invariant c.make_room.ensures.rows c.make_room.ensures.versions c.make_room.ensures.places c.make_room.ensures.counts).places;
       room = subst (versioned.HasRoom c.make_room.new.versions) many c.if-not-make_room.ensures.versions_room;
-      rows = λ t.
-          subst (λ (watched : List Watched). AreOf (tables_with t c.make_room.new.rows) watched) (sym c.deref.ensures.value)
-          (subst (λ (u : Tables). AreOf u c.in-Ok.watched.items) (sym (c.make_room.ensures.rows t)) (c.in-Ok.ensures.rows t));
-      kinds = subst (λ (watched : List Watched). All (λ w. IsWatchable w.key) watched) (sym c.deref.ensures.value) c.in-Ok.ensures.kinds;
+      spare = subst (versioned.HasSpare c.make_room.new.versions) watching c.if-not-make_room.ensures.versions_spare;
+      named =
+          named _ _ c.self.invariant.is_book _ _ c.self.view_is c.requires c.in-Ok.ensures.form c.self.inside.rows c.self.inside.versions c.self.inside.counts c.self.inside.lists c.self.invariant
+          c.make_room.new.rows (c.make_room.ensures.rows t) c.in-Ok-puts_of.puts.items (c.in-Ok-puts_of.ensures.made t);
+      rows = λ t. subst (λ (u : Tables). AreOf u c.in-Ok.watched.items) (sym (c.make_room.ensures.rows t)) (c.in-Ok.ensures.rows t);
+      kinds = c.in-Ok.ensures.kinds;
     }
 
 pub invariant_of-self-2 : goal.invariant_of-self-2
@@ -50,10 +56,10 @@ invariant_of-self-2 c =
     let size : c.len.result + 1 ≡ length c.self.inside.log.items + 1 = omega (arith, c.len.ensures, c.make_room.new.log.ok.0, ap length c.make_room.ensures.log) in
     let rises : RaisedFor (tables_with t c.make_room.new.rows) later (length c.self.inside.log.items + 1) (keys_of c.in-Ok.watched.items) (stored c.make_room.new.versions) (stored c.change_rows-ids.new.versions)
     = subst (λ n. RaisedFor (tables_with t c.make_room.new.rows) later n (keys_of c.in-Ok.watched.items) (stored c.make_room.new.versions) (stored c.change_rows-ids.new.versions)) size
-    (subst (λ (watched : List Watched). RaisedFor (tables_with t c.make_room.new.rows) later (c.len.result + 1) (keys_of watched) (stored c.make_room.new.versions) (stored c.change_rows-ids.new.versions)) c.deref.ensures.value (c.change_rows-ids.ensures.raised t)) in
+    (c.change_rows-ids.ensures.raised t) in
     subst (λ (l : List Entry). IsKept (record { opening = c.self.inside.opening; log = l; latest = c.args.entry.stamp }) c.change_rows-ids.new.rows c.change_rows-ids.new.versions c.set.new.self c.self.inside.lists) (sym log)
     (kept_after _ _ c.self.invariant.is_book _ _ c.self.view_is c.requires c.in-Ok.ensures.form c.self.inside.rows c.self.inside.versions c.self.inside.counts c.self.inside.lists c.self.invariant
-    c.make_room.new.rows (c.make_room.ensures.rows t) c.change_rows-ids.new.rows c.make_room.new.versions c.change_rows-ids.new.versions c.set.new.self (c.change_rows-ids.ensures.made t)
+    c.make_room.new.rows (c.make_room.ensures.rows t) c.in-Ok-puts_of.puts.items (c.in-Ok-puts_of.ensures.made t) c.change_rows-ids.new.rows c.make_room.new.versions c.change_rows-ids.new.versions c.set.new.self (c.change_rows-ids.ensures.made t)
     (keys_of c.in-Ok.watched.items) (c.in-Ok.ensures.keys t) c.change_rows-ids.ensures.places c.make_room.ensures.versions rises
     (λ caller. c.set.ensures caller ∙ ap (λ (count : ℕ). if c.args.entry.caller == caller then c.args.entry.number else count) (c.make_room.ensures.counts caller)))
 

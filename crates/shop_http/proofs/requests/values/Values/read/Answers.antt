@@ -1,8 +1,9 @@
-use Rattle.std.proofs.Common.{map, ap, ◌∙◌}
+use Rattle.std.proofs.Common.{◌≡◌, [], map, ap, sym, ◌∙◌}
 use Rattle.form_urlencoded.specs.Parse.{raw_pairs_left}
 use Rattle.shop_http.specs.Firsts.{behind}
 use Rattle.shop_http.specs.Forms.{decoded}
-use Rattle.shop_http.proofs.FirstLemmas.{behind-next}
+use Rattle.shop_http.specs.ValuesView.{firsts_kept}
+use Rattle.shop_http.proofs.FirstLemmas.{behind-nil, behind-next}
 use Rattle.shop_http.proofs.Pairs.{pairs-decoded}
 use Rattle.shop_http.proofs.requests.values.Values.read.Goals as goal
 
@@ -13,9 +14,14 @@ loop-name-init c =
 pub loop-name-preserved-in_ok-name : goal.loop-name-preserved-in_ok-name
 loop-name-preserved-in_ok-name c =
     ap (λ firsts. behind firsts (map decoded (raw_pairs_left c.next.new.self))) c.add.ensures
-    ∙ behind-next c.loop-name.self _ _ _ _ _ c.in-Some.ensures.steps (c.as_slice.ensures.value ∙ c.in_ok-name.ensures) ∙ c.loop-name.invariant
+    ∙ behind-next (firsts_kept c.loop-name.self) _ _ _ _ _ c.in-Some.ensures.steps (c.as_slice.ensures.value ∙ c.in_ok-name.ensures) ∙ c.loop-name.invariant
 
 pub loop-name-preserved : goal.loop-name-preserved
 loop-name-preserved c =
     ap (λ firsts. behind firsts (map decoded (raw_pairs_left c.next.new.self))) c.add.ensures
-    ∙ behind-next c.loop-name.self _ _ _ _ _ c.in-Some.ensures.steps (c.as_slice.ensures.value ∙ c.in_ok-name.ensures) ∙ c.loop-name.invariant
+    ∙ behind-next (firsts_kept c.loop-name.self) _ _ _ _ _ c.in-Some.ensures.steps (c.as_slice.ensures.value ∙ c.in_ok-name.ensures) ∙ c.loop-name.invariant
+
+pub returns : goal.returns
+returns c =
+    let none : raw_pairs_left c.loop-name.name-iterator ≡ [] = c.in-None.ensures.steps.0 in
+    sym (behind-nil (firsts_kept c.loop-name.self)) ∙ rw none at c.loop-name.invariant

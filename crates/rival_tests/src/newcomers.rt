@@ -1,0 +1,243 @@
+//! Two callers who buy as newcomers: the change of caller 2 falls between the reads of caller 1 and its settle.
+ghost use Rattle.std.specs.Prelude.{◌≡◌, ◌≤◌, IfOk};
+ghost use Rattle.shop_log.specs.Histories.{Extends};
+ghost use Rattle.shop_model.specs.rows.Limits.{stamp_limit};
+ghost use Rattle.shop_model.specs.rows.Sound.{Has};
+ghost use Rattle.shop_attempt.specs.Faithful.{Faithful};
+ghost use Rattle.shop_attempt.specs.Seats.{Follows};
+ghost use Rattle.shop_book.specs.Solos.{seat_of};
+ghost use Rattle.shop_browse.specs.Attempts.{Suits};
+
+use crate::cancelling::{one_unit, settled};
+use crate::tests::{desk, empty_draft};
+use shop_attempt::{Attempt, Settle, Store};
+use shop_book::{Book, Solo, Visitor};
+use shop_browse::{Ask, Attempted};
+use shop_draft::Draft;
+use shop_history::{Ids, Key, Row};
+use shop_model::{AddressText, BuyRequest, Buyer, Newcomer, Scale};
+use shop_order::buy_request::buy_request;
+use shop_text::{Boxed, Memory, Text};
+use std::alloc::Global;
+use std::test::Fail;
+
+/// What a newcomer asks for, who buys cart 1 and has an address in a country.
+fn asked(alloc: Global, country: u32) -> Result<BuyRequest, Memory>
+    requires { Has 92 country }
+{
+    let address = AddressText {
+        street1: Text::copy(alloc, b"1 Way")?,
+        street2: Text::new(alloc),
+        city: Text::copy(alloc, b"Ulm")?,
+        state: Text::new(alloc),
+        zip: Text::copy(alloc, b"89073")?,
+        country,
+    };
+    let newcomer = Newcomer {
+        first: Text::copy(alloc, b"Zoe")?,
+        last: Text::copy(alloc, b"B")?,
+        address,
+        phone: Text::copy(alloc, b"5")?,
+        email: Text::copy(alloc, b"z")?,
+    };
+    Ok(BuyRequest {
+        cart: 1,
+        buyer: Buyer::Newcomer(Boxed::new(alloc, newcomer)?),
+    })
+}
+
+/// The attempt of a newcomer.
+fn buying<St: Store>(
+    alloc: Global,
+    store: &mut St,
+    ask: &Ask,
+    asked: &BuyRequest,
+    draft: &mut Draft,
+) -> Result<Attempt, Fail>
+    requires suits { Suits ask.now (St.seat store.old) }
+    ensures follows { Follows (St.seat store.old) (St.seat store.new) }
+    ensures faithful { IfOk result (Faithful (St.seat store.new).opening (St.seat store.new).seen) }
+    ensures moment { IfOk result (λ attempt. attempt.moment ≡ ask.now.moment) }
+{
+    match buy_request(alloc, store, ask, asked, draft) {
+        Attempted::Ready(attempt) => Ok(attempt),
+        Attempted::Contradiction(_) => Err("a contradiction".into()),
+        Attempted::Memory => Err("no memory".into()),
+    }
+}
+
+/// What a settle is told.
+#[derive(Clone, Copy, Debug, PartialEq, Eq)]
+enum Answer {
+    Done(Ids),
+    /// Whether it is an address that was looked for, the version read, and the one found.
+    Stale(bool, u64, u64),
+    Other,
+}
+
+/// What the settle of an attempt is told.
+fn told<St: Store>(store: &mut St, attempt: Attempt) -> Answer
+    requires faithful { Faithful (St.seat store.old).opening (St.seat store.old).seen attempt }
+    requires moment { attempt.moment ≤ stamp_limit }
+    ensures follows { Follows (St.seat store.old) (St.seat store.new) }
+{
+    match store.settle(attempt) {
+        Settle::Done(drawn) => Answer::Done(drawn.ids),
+        Settle::Stale(conflict) => {
+            let address = matches!(conflict.key, Key::SameAddress(_));
+            Answer::Stale(address, conflict.read, conflict.found)
+        }
+        Settle::Full(_) => Answer::Other,
+        Settle::Memory => Answer::Other,
+    }
+}
+
+/// What a newcomer is told whose attempt is settled at once.
+#[tactic(auto, using(shop_attempt::proofs::cited::Looks::follows_trans))]
+fn bought<St: Store>(
+    alloc: Global,
+    store: &mut St,
+    ask: &Ask,
+    asked: &BuyRequest,
+    draft: &mut Draft,
+) -> Result<Answer, Fail>
+    requires suits { Suits ask.now (St.seat store.old) }
+    requires moment { ask.now.moment ≤ stamp_limit }
+    ensures follows { Follows (St.seat store.old) (St.seat store.new) }
+{
+    let attempt = buying(alloc, store, ask, asked, draft)?;
+    Ok(told(store, attempt))
+}
+
+/// What caller 2 is told, who has the seat meanwhile.
+fn told_rival(
+    alloc: Global,
+    solo: &mut Solo,
+    ask: &Ask,
+    asked: &BuyRequest,
+    draft: &mut Draft,
+) -> Result<Answer, Fail>
+    requires suits { Suits ask.now (seat_of solo.old) }
+    requires moment { ask.now.moment ≤ stamp_limit }
+    ensures opening { solo.new.book.opening.tables ≡ solo.old.book.opening.tables }
+    ensures grows { Extends solo.old.book.log solo.new.book.log }
+{
+    let visitor = Visitor {
+        caller: 2,
+        calls: 0,
+        settles: 0,
+        greatest: 0,
+    };
+    let was = solo.turn(visitor);
+    let told = bought(alloc, solo, ask, asked, draft);
+    solo.turn(was);
+    told
+}
+
+/// What caller 2 is told, and then caller 1 at its settles, of which there is a second one where the first
+/// is stale.
+#[tactic(auto, using(crate::proofs::Rivals::faithful_grown))]
+fn told_in_turn(
+    alloc: Global,
+    solo: &mut Solo,
+    ask: &Ask,
+    mine: &BuyRequest,
+    other: &BuyRequest,
+    draft: &mut Draft,
+) -> Result<[Answer; 3], Fail>
+    requires suits { Suits ask.now (seat_of solo.old) }
+    requires moment { ask.now.moment ≤ stamp_limit }
+{
+    let cart = one_unit(alloc, solo, ask, None, draft)?;
+    settled(solo, cart)?;
+    let attempt = buying(alloc, solo, ask, mine, draft)?;
+    let rival = told_rival(alloc, solo, ask, other, draft)?;
+    let first = told(solo, attempt);
+    let second = match first {
+        Answer::Stale(_, _, _) => bought(alloc, solo, ask, mine, draft)?,
+        _ => first,
+    };
+    Ok([rival, first, second])
+}
+
+/// The book of the desk after that, where caller 2 is of a country, and caller 1 of country 7.
+fn book_after(alloc: Global, country: u32) -> Result<(Book, Result<[Answer; 3], Fail>), Fail>
+    requires { Has 92 country }
+{
+    let mut draft = empty_draft(alloc)?;
+    let mine = asked(alloc, 7)?;
+    let other = asked(alloc, country)?;
+    let scale = Scale::desk();
+    let (book, index) = desk(alloc, &scale)?;
+    let ask = Ask {
+        scale: &scale,
+        index: &index,
+        moment: 1_000,
+        draw: 0,
+    };
+    let mut solo = Solo::new(book);
+    let told = told_in_turn(alloc, &mut solo, &ask, &mine, &other, &mut draft);
+    Ok((solo.into_book(), told))
+}
+
+/// The id of a customer's address, and the customer's version.
+fn address_of(book: &Book, customer: u32) -> Option<(u32, u64)> {
+    let (row, version) = book.read(&Key::Customer(customer)).ok()?;
+    let Row::Customer(customer) = &row else {
+        return None;
+    };
+    Some((customer.address, version))
+}
+
+/// What the callers were told, and the addresses of the three customers from 41, with their versions.
+#[derive(Drop)]
+struct Outcome {
+    told: [Answer; 3],
+    addresses: [Option<(u32, u64)>; 3],
+}
+
+fn outcome_of(alloc: Global, country: u32) -> Result<Outcome, Fail>
+    requires { Has 92 country }
+{
+    let (book, told) = book_after(alloc, country)?;
+    let addresses = [
+        address_of(&book, 41),
+        address_of(&book, 42),
+        address_of(&book, 43),
+    ];
+    drop(book);
+    Ok(Outcome {
+        told: told?,
+        addresses,
+    })
+}
+
+/// What is told where a customer comes, and an address with it or none.
+fn came(customer: u32, address: Option<u32>) -> Answer {
+    Answer::Done(Ids {
+        cart: None,
+        customer: Some(customer),
+        address,
+        order: None,
+    })
+}
+
+#[test]
+fn a_newcomer_shares_the_address_that_another_brought_meanwhile(
+    rt: HostRuntime,
+) -> Result<(), Fail> {
+    let outcome = outcome_of(rt.alloc(), 7)?;
+    let (first, second) = (came(41, Some(81)), came(42, None));
+    assert_eq!(rt; outcome.told, [first, Answer::Stale(true, 0, 2), second]);
+    assert_eq!(rt; outcome.addresses, [Some((81, 2)), Some((81, 3)), None]);
+    Ok(())
+}
+
+#[test]
+fn a_newcomer_of_another_address_is_not_in_the_way(rt: HostRuntime) -> Result<(), Fail> {
+    let outcome = outcome_of(rt.alloc(), 8)?;
+    let (first, second) = (came(41, Some(81)), came(42, Some(82)));
+    assert_eq!(rt; outcome.told, [first, second, second]);
+    assert_eq!(rt; outcome.addresses, [Some((81, 2)), Some((82, 3)), None]);
+    Ok(())
+}

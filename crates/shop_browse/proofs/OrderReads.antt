@@ -1,0 +1,157 @@
+-- What Order Display asks for, round by round, by what it has read.
+use Rattle.std.proofs.Common.{◌≡◌, ℕ, ◌+◌, ◌-◌, List, [], ◌∷◌, ◌++◌, length, map, take, All, refl, sym, ◌∙◌, ap, subst, inl, inr, arith}
+use Rattle.std.proofs.lemmas.List.Elements.{All-nil, All-cons, All-map}
+use Rattle.std.proofs.lemmas.Simd.{map-map}
+use Rattle.shop_model.specs.declared.address.Address.{Address}
+use Rattle.shop_model.specs.declared.buying.OrderDisplay as asked_for
+use Rattle.shop_model.specs.declared.country.Country.{Country}
+use Rattle.shop_model.specs.declared.requests.Request.TheVariants.{OrderDisplay}
+use Rattle.shop_model.specs.declared.tables.Tables.{Tables}
+use Rattle.shop_model.specs.asked.CustomersAsked.{LoginAsked}
+use Rattle.shop_model.specs.rows.Rows.{LineRow, OrderRow}
+use Rattle.shop_model.specs.rows.Sound.{Has}
+use Rattle.shop_history.specs.declared.acts.Entry.{Entry}
+use Rattle.shop_history.specs.declared.keys.Key.{Key}
+use Rattle.shop_history.specs.declared.keys.Key.TheVariants as key
+use Rattle.shop_history.specs.declared.keys.Row.{Row}
+use Rattle.shop_history.specs.declared.keys.Row.TheVariants as row
+use Rattle.shop_history.specs.Keys.{row_of}
+use Rattle.shop_history.specs.Logs.{history, tables}
+use Rattle.shop_attempt.specs.declared.attempts.ReadOf.{ReadOf}
+use Rattle.shop_attempt.specs.Reads.{AreTrue}
+use Rattle.shop_browse.specs.declared.attempted.Ask.{Ask}
+use Rattle.shop_browse.specs.Driver.{keys_of, AsksFor}
+use Rattle.shop_browse.specs.Footprints.{InFootprint, WasShown, IsOfOrder}
+use Rattle.shop_browse.proofs.LabelsLemmas.{labels_may}
+use Rattle.shop_browse.specs.OrderDisplay.{Then, Ends, HasUser, HasLogin, HasLast, HasOrder, HasAddress, HasAll, AtCustomer, FollowsDisplay}
+
+-- one read more, behind what holds of those so far
+
+then_true : (opening : Tables) (log : List Entry) (before : List ReadOf → Type 0) (k : Key) (r : Row) (rest : List ReadOf) → ((all : List ReadOf) → before all → AreTrue opening log all) → Then before k r rest
+    → WasShown opening log k r × AreTrue opening log rest
+unfolding history
+then_true opening log before k r rest are is =
+    let both = are (is.read ∷ rest) is.has in
+    let then : Tables = tables opening (take is.read.version log) in
+    (record { front = is.read.version; is = ap (row_of then) (sym is.key_is) ∙ both.0.row_is ∙ is.row_is }, both.1)
+
+then_more : (before after : List ReadOf → Type 0) (k : Key) (r : Row) (rest more : List ReadOf) → ((all : List ReadOf) → before all → after (all ++ more)) → Then before k r rest → Then after k r (rest ++ more)
+then_more before after k r rest more each is = record { read = is.read; has = each (is.read ∷ rest) is.has; key_is = is.key_is; row_is = is.row_is }
+
+-- the reads go on
+
+module _ (asked : LoginAsked) (reads more : List ReadOf) where
+  user_more : (id : ℕ) (rest : List ReadOf) → HasUser asked.user id reads rest → HasUser asked.user id (reads ++ more) (rest ++ more)
+  user_more id rest is = then_more _ (λ all. reads ++ more ≡ all) _ _ rest more (λ all same. ap (λ (l : List ReadOf). l ++ more) same) is
+
+  login_more : (id : ℕ) (rest : List ReadOf) → HasLogin asked id reads rest → HasLogin asked id (reads ++ more) (rest ++ more)
+  login_more id rest has = record { customer = has.customer; passes = has.passes; is = then_more _ _ _ _ rest more (λ all. user_more id all) has.is }
+
+  last_more : (order : ℕ) (rest : List ReadOf) → HasLast asked order reads rest → HasLast asked order (reads ++ more) (rest ++ more)
+  last_more order rest has = record { id = has.id; is = then_more _ _ _ _ rest more (λ all. login_more has.id all) has.is }
+
+  order_more : (order : OrderRow) (rest : List ReadOf) → HasOrder asked order reads rest → HasOrder asked order (reads ++ more) (rest ++ more)
+  order_more order rest has = record { id = has.id; is = then_more _ _ _ _ rest more (λ all. last_more has.id all) has.is }
+
+-- what the log shows of them
+
+module _ (opening : Tables) (log : List Entry) (asked : LoginAsked) (reads : List ReadOf) (are : AreTrue opening log reads) where
+  -- rows were shown, and the rest of the reads are true
+  user_true : (id : ℕ) (rest : List ReadOf) → HasUser asked.user id reads rest → WasShown opening log (key.Name asked.user) (row.Id id) × AreTrue opening log rest
+  user_true id rest is = then_true opening log _ _ _ rest (λ all same. subst (AreTrue opening log) same are) is
+
+  login_true : (id : ℕ) (rest : List ReadOf) → HasLogin asked id reads rest → WasShown opening log (key.Name asked.user) (row.Id id) × AreTrue opening log rest
+  login_true id rest has =
+      let user = user_true id (has.is.read ∷ rest) has.is.has in
+      (user.0, user.1.1)
+
+  -- the ids of a customer and of its last order were shown
+  record LastShown (order : ℕ) (rest : List ReadOf) : Type 0 where
+    pub id : ℕ
+    pub named : WasShown opening log (key.Name asked.user) (row.Id id)
+    pub last : WasShown opening log (key.LastOrder id) (row.Id order)
+    pub behind : AreTrue opening log rest
+
+  last_true : (order : ℕ) (rest : List ReadOf) → HasLast asked order reads rest → LastShown order rest
+  last_true order rest has =
+      let login = login_true has.id (has.is.read ∷ rest) has.is.has in
+      let last = then_true opening log (HasLogin asked has.id reads) _ _ rest (λ all is. (login_true has.id all is).1) has.is in
+      record { id = has.id; named = login.0; last = last.0; behind = last.1 }
+
+-- what is asked for next
+
+one_key : (k : Key) (after : List ReadOf → Type 0) (more : List ReadOf) → after more → keys_of more ≡ k ∷ [] → Ends after k
+one_key k after [] has are = absurd cc
+one_key k after (read ∷ []) has are = record { read = read; has = has; key_is = cc }
+one_key k after (read ∷ other ∷ more) has are = absurd cc
+
+module _ (asked : asked_for.OrderDisplay) (ask : Ask) (reads : List ReadOf) where
+  -- a row that an order's request is about
+  one_may : (opening : Tables) (log : List Entry) (k : Key) → IsOfOrder opening log asked.login.user k → All (InFootprint opening log (OrderDisplay asked) ask.draw) (k ∷ [])
+  one_may opening log k is =
+      let P : Key → Type 0 = InFootprint opening log (OrderDisplay asked) ask.draw in
+      All-cons P k [] (inl (inr is)) (All-nil P)
+
+  at_customer : (id : ℕ) (more : List ReadOf) → HasUser asked.login.user id reads [] → keys_of more ≡ key.Customer id ∷ key.LastOrder id ∷ [] → AtCustomer asked.login.user (reads ++ more)
+  at_customer id [] has are = absurd cc
+  at_customer id (customer ∷ []) has are = absurd cc
+  at_customer id (customer ∷ last ∷ []) has are =
+      record { id = id; customer = customer; last = last; is = user_more asked.login reads (customer ∷ last ∷ []) id [] has; customer_is = cc; last_is = cc }
+  at_customer id (customer ∷ last ∷ other ∷ more) has are = absurd cc
+
+  pub asks_customer : (id : ℕ) (keys : List Key) → HasUser asked.login.user id reads [] → keys ≡ key.Customer id ∷ key.LastOrder id ∷ [] → AsksFor (FollowsDisplay asked) (OrderDisplay asked) ask 1 reads keys
+  asks_customer id keys has are = record {
+    few = omega arith;
+    goes_on = λ more of. at_customer id more has (of ∙ are);
+    may = λ opening log were.
+        let P : Key → Type 0 = InFootprint opening log (OrderDisplay asked) ask.draw in
+        let named = (user_true opening log asked.login reads were.are id [] has).0 in
+        subst (All P) (sym are) (All-cons P (key.Customer id) (key.LastOrder id ∷ []) (inl (inl (inr (id, named, refl))))
+        (one_may opening log (key.LastOrder id) (inl (id, named, inl refl))));
+  }
+
+  pub asks_order : (order : ℕ) → HasLast asked.login order reads [] → AsksFor (FollowsDisplay asked) (OrderDisplay asked) ask 2 reads (key.Order order ∷ [])
+  asks_order order has = record {
+    few = omega arith;
+    goes_on = λ more of. (order, one_key (key.Order order) (HasLast asked.login order (reads ++ more)) more (last_more asked.login reads more order [] has) of);
+    may = λ opening log were.
+        let last = last_true opening log asked.login reads were.are order [] has in
+        one_may opening log (key.Order order) (inl (last.id, last.named, inr (order, last.last, inl refl)));
+  }
+
+  pub asks_address : (order : OrderRow) → HasOrder asked.login order reads [] → AsksFor (FollowsDisplay asked) (OrderDisplay asked) ask 3 reads (key.Address order.ship_address ∷ [])
+  asks_address order has = record {
+    few = omega arith;
+    goes_on = λ more of. (order, one_key (key.Address order.ship_address) (HasOrder asked.login order (reads ++ more)) more (order_more asked.login reads more order [] has) of);
+    may = λ opening log were.
+        let last = last_true opening log asked.login reads were.are has.id (has.is.read ∷ []) has.is.has in
+        let was = (then_true opening log (HasLast asked.login has.id reads) _ _ [] (λ all is. (last_true opening log asked.login reads were.are has.id all is).behind) has.is).0 in
+        one_may opening log (key.Address order.ship_address) (inl (last.id, last.named, inr (has.id, last.last, inr (order, was, refl))));
+  }
+
+  -- the country and the labels, which may be read where the items of the lines are there
+  at_labels : (order : OrderRow) (address : Address) (more : List ReadOf) → HasAddress asked.login order address reads [] → keys_of more ≡ key.Country address.text.country ∷ map (λ (l : LineRow). key.Label l.item) order.lines
+      → HasAll asked.login (reads ++ more)
+  at_labels order address [] has are = absurd cc
+  at_labels order address (country ∷ labels) has are = record {
+    order = order;
+    address = address;
+    country = country;
+    labels = labels;
+    is = then_more _ _ _ _ [] (country ∷ labels) (λ all. order_more asked.login reads (country ∷ labels) order all) has;
+    country_is = cc;
+    labels_are = cc are;
+  }
+
+  pub asks_labels : (order : OrderRow) (address : Address) (keys : List Key) → HasAddress asked.login order address reads [] → All (λ l. Has (length ask.index.now.items) l.item) order.lines
+      → keys ≡ key.Country address.text.country ∷ map (λ (l : LineRow). key.Label l.item) order.lines → AsksFor (FollowsDisplay asked) (OrderDisplay asked) ask 4 reads keys
+  asks_labels order address keys has there are = record {
+    few = omega arith;
+    goes_on = λ more of. at_labels order address more has (of ∙ are);
+    may = λ opening log were.
+        let P : Key → Type 0 = InFootprint opening log (OrderDisplay asked) ask.draw in
+        subst (All P) (sym are) (All-cons P (key.Country address.text.country) (map (λ (l : LineRow). key.Label l.item) order.lines) (inl (inr (inr (address.text.country, refl))))
+        (subst (All P) (map-map key.Label (λ (l : LineRow). l.item) order.lines)
+        (labels_may ask.index.now opening log (OrderDisplay asked) ask.draw (map (λ (l : LineRow). l.item) order.lines) were.named
+        (All-map (Has (length ask.index.now.items)) (λ (l : LineRow). l.item) order.lines there))));
+  }

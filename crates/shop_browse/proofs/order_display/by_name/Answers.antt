@@ -1,0 +1,20 @@
+use Rattle.shop_model.specs.declared.refusal.Refusal.TheVariants.{NoUserName}
+use Rattle.shop_model.specs.declared.requests.Request.TheVariants.{OrderDisplay}
+use Rattle.shop_model.specs.asked.Refusals.{page_of}
+use Rattle.shop_browse.proofs.cited.Reads.{shows_page}
+use Rattle.shop_browse.proofs.OrderDisplayLemmas.{has_user, user_missing}
+use Rattle.shop_browse.proofs.OrderReads.{asks_customer}
+use Rattle.shop_browse.proofs.order_display.by_name.Goals as goal
+
+pub returns-in_ok-customer_keys-in-Id : goal.returns-in_ok-customer_keys-in-Id
+returns-in_ok-customer_keys-in-Id c ask =
+    let asked = c.args.asked.now in
+    let reads = c.args.reads.now in
+    asks_customer asked ask reads c.in-Id.id c.in_ok-customer_keys-in-Id.field-0
+    (has_user asked reads _ c.requires c.in-Id.id c.in-Id.is) c.in_ok-customer_keys-in-Id.ensures
+
+pub returns-in_ok-refusal-in-Absent : goal.returns-in_ok-refusal-in-Absent
+returns-in_ok-refusal-in-Absent c ask t fits =
+    let asked = c.args.asked.now in
+    shows_page t (OrderDisplay asked) ask.draw _ (page_of NoUserName)
+    (user_missing asked c.args.reads.now _ c.requires t ask.draw c.in-Absent.is fits.shows) c.in_ok-refusal-in-Absent.ensures

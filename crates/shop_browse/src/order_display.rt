@@ -1,0 +1,200 @@
+ghost use Rattle.std.specs.Prelude.{◌≡◌, ◌∷◌, [], ◌↔◌, ℕ, IfOk, IsTrue, map};
+ghost use Rattle.shop_model.specs.rows.Rows.{LineRow};
+ghost use Rattle.shop_history.specs.declared.keys.Key.TheVariants as key_kinds;
+ghost use Rattle.shop_attempt.specs.Marks.{Looks};
+ghost use Rattle.shop_draft.specs.declared.draft.Draft.{Draft};
+ghost use Rattle.shop_browse.specs.declared.attempted.Ask.{Ask};
+ghost use Rattle.shop_browse.specs.Attempts.{AttemptedAs, Suits, asking_of};
+ghost use Rattle.shop_browse.specs.Driver.{AreSeen, IsNext};
+ghost use Rattle.shop_browse.specs.OrderDisplay.{FollowsDisplay, AtLast, DisplaysNext};
+
+use crate::driver::{Interaction, Next, attempt_by};
+use crate::order_page::{no_order_page, order_page};
+use crate::{Ask, Attempted};
+use shop_attempt::{ReadOf, Store};
+use shop_draft::{Draft, PageIds, refusal};
+use shop_history::{Key, Row};
+use shop_model::{Customer, Line, OrderDisplay, Refusal, Request};
+use shop_text::{Listed, Memory, Text, is_digsyl_lower};
+use std::alloc::Global;
+
+/// Whether this is the password of a customer.
+fn is_password(customer: &Customer, pass: &Text) -> bool
+    ensures { IsTrue result ↔ (pass.now ≡ customer.now.password) }
+{
+    is_digsyl_lower(pass.bytes(), customer.id)
+}
+
+/// The key of the user name.
+fn name_key(alloc: Global, asked: &OrderDisplay) -> Result<Key, Memory>
+    ensures { IfOk result (λ key. key ≡ key_kinds.Name asked.now.login.user) }
+{
+    Ok(Key::Name(Text::copy(alloc, asked.login.user.bytes())?))
+}
+
+/// The keys of a customer and of its last order.
+fn customer_keys(alloc: Global, id: u32) -> Result<Listed<Key>, Memory>
+    ensures { IfOk result (λ keys. keys ≡ key_kinds.Customer id ∷ key_kinds.LastOrder id ∷ []) }
+{
+    let mut keys = Listed::with_capacity(alloc, 2)?;
+    keys.push(Key::Customer(id))?;
+    keys.push(Key::LastOrder(id))?;
+    Ok(keys)
+}
+
+/// The keys of a country, and of the labels of the items of lines.
+fn last_keys(alloc: Global, country: u32, lines: &[Line]) -> Result<Listed<Key>, Memory>
+    ensures { IfOk result (λ keys. keys ≡ key_kinds.Country country ∷ map (λ (l : LineRow). key_kinds.Label l.item) lines.now) }
+{
+    let mut keys = Listed::with_capacity(alloc, lines.len().saturating_add(1))?;
+    keys.push(Key::Country(country))?;
+    for line in lines {
+        keys.push(Key::Label(line.item))?;
+    }
+    Ok(keys)
+}
+
+/// What is done next by what was read of the user name.
+fn by_name(
+    alloc: Global,
+    asked: &OrderDisplay,
+    reads: &[ReadOf],
+    draft: &mut Draft,
+) -> Result<Next, Memory>
+    requires { FollowsDisplay asked.now 1 reads.now }
+    ensures { IfOk result (DisplaysNext asked.now 1 reads.now draft.new) }
+{
+    match &reads[0].row {
+        Row::Absent => {
+            refusal(draft, Refusal::NoUserName)?;
+            Ok(Next::Show)
+        }
+        Row::Id(id) => Ok(Next::Read(customer_keys(alloc, *id)?)),
+        _ => Ok(Next::Never),
+    }
+}
+
+/// What is done next for a customer who logs in, by what was read of its last order's id.
+fn by_last(asked: &OrderDisplay, reads: &[ReadOf], draft: &mut Draft) -> Result<Next, Memory>
+    requires { AtLast asked.now.login reads.now }
+    ensures { IfOk result (DisplaysNext asked.now 2 reads.now draft.new) }
+{
+    match &reads[2].row {
+        Row::Absent => {
+            no_order_page(draft, PageIds::of(asked.ids))?;
+            Ok(Next::Show)
+        }
+        Row::Id(order) => Ok(Next::ReadOne(Key::Order(*order))),
+        _ => Ok(Next::Never),
+    }
+}
+
+/// What is done next by what was read of the customer and of its last order's id.
+fn by_customer(asked: &OrderDisplay, reads: &[ReadOf], draft: &mut Draft) -> Result<Next, Memory>
+    requires { FollowsDisplay asked.now 2 reads.now }
+    ensures { IfOk result (DisplaysNext asked.now 2 reads.now draft.new) }
+{
+    match &reads[1].row {
+        Row::Customer(customer) => {
+            if is_password(customer, &asked.login.pass) {
+                by_last(asked, reads, draft)
+            } else {
+                refusal(draft, Refusal::WrongPassword)?;
+                Ok(Next::Show)
+            }
+        }
+        _ => Ok(Next::Never),
+    }
+}
+
+/// What is done next by what was read of the order.
+fn by_order(asked: &OrderDisplay, reads: &[ReadOf]) -> Next
+    requires { FollowsDisplay asked.now 3 reads.now }
+    ensures { (draft : Draft) → DisplaysNext asked.now 3 reads.now draft result }
+{
+    match &reads[3].row {
+        Row::Order(order) => Next::ReadOne(Key::Address(order.get().ship_address)),
+        _ => Next::Never,
+    }
+}
+
+/// What is done next by what was read of the order and of its address.
+fn by_address(alloc: Global, asked: &OrderDisplay, reads: &[ReadOf]) -> Result<Next, Memory>
+    requires { FollowsDisplay asked.now 4 reads.now }
+    ensures { IfOk result (λ next. (ask : Ask) (draft : Draft) → AreSeen ask.index.now reads.now
+        → IsNext (FollowsDisplay asked.now) (Request.OrderDisplay asked.now) ask 4 reads.now draft next) }
+{
+    match (&reads[3].row, &reads[4].row) {
+        (Row::Order(order), Row::Address(address)) => {
+            let country = address.get().text.country;
+            Ok(Next::Read(last_keys(alloc, country, order.get().lines.as_slice())?))
+        }
+        _ => Ok(Next::Never),
+    }
+}
+
+/// What is done by all that was read.
+fn by_all(asked: &OrderDisplay, reads: &[ReadOf], draft: &mut Draft) -> Result<Next, Memory>
+    requires { FollowsDisplay asked.now 5 reads.now }
+    ensures { IfOk result (λ next. (round : ℕ) → DisplaysNext asked.now round reads.now draft.new next) }
+{
+    match (&reads[3].row, &reads[4].row, &reads[5].row) {
+        (Row::Order(order), Row::Address(address), Row::Country(country)) => {
+            let city = address.get().text.city.bytes();
+            let country = country.get().name.bytes();
+            order_page(
+                draft,
+                PageIds::of(asked.ids),
+                order.get(),
+                city,
+                country,
+                &reads[6..],
+            )?;
+            Ok(Next::Show)
+        }
+        _ => Ok(Next::Never),
+    }
+}
+
+impl<'a> Interaction for &'a OrderDisplay {
+    ghost use Rattle.shop_model.specs.declared.requests.Request.TheVariants as request_kinds;
+
+    ghost request = { λ asked. request_kinds.OrderDisplay asked.now };
+
+    ghost follows = { λ asked ask. FollowsDisplay asked.now };
+
+    fn next(
+        &mut self,
+        alloc: Global,
+        ask: &Ask,
+        round: u32,
+        reads: &[ReadOf],
+        draft: &mut Draft,
+    ) -> Result<Next, Memory> {
+        let _ = ask;
+        match round {
+            0 => Ok(Next::ReadOne(name_key(alloc, *self)?)),
+            1 => by_name(alloc, *self, reads, draft),
+            2 => by_customer(*self, reads, draft),
+            3 => Ok(by_order(*self, reads)),
+            4 => by_address(alloc, *self, reads),
+            _ => by_all(*self, reads, draft),
+        }
+    }
+}
+
+/// The last order of the customer who logs in.
+#[inline(never)]
+pub fn order_display<St: Store>(
+    alloc: Global,
+    store: &mut St,
+    ask: &Ask,
+    asked: &OrderDisplay,
+    draft: &mut Draft,
+) -> Attempted
+    requires suits { Suits ask.now (St.seat store.old) }
+    ensures looks { Looks St.seat St.marked store.old store.new }
+    ensures attempted { AttemptedAs (St.seat store.old) (St.seat store.new) (asking_of ask.now (Request.OrderDisplay asked.now)) draft.new result }
+{
+    attempt_by(alloc, store, ask, asked, draft)
+}

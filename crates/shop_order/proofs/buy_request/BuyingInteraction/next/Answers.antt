@@ -1,0 +1,51 @@
+use Rattle.std.proofs.Common.{[], ◌∷◌, sym, ◌∙◌, subst}
+use Rattle.std.proofs.lemmas.Result.{IfOk-weaker}
+use Rattle.shop_attempt.specs.declared.attempts.ReadOf.{ReadOf}
+use Rattle.shop_attempt.specs.Reads.{Shows}
+use Rattle.shop_browse.specs.Driver.{Fits}
+use Rattle.shop_order.specs.BuyRequest.{IsStop}
+use Rattle.shop_order.specs.ShoppingCart.{IsFitRow}
+use Rattle.shop_order.proofs.BuyRequestLemmas.{has_first, fit_first, shows_first, stop_weaker, stopped_next, has_second, has_all, at_cart, begun_first, asks_second}
+use Rattle.shop_order.proofs.buy_request.BuyingInteraction.next.Goals as goal
+
+pub begin-requires-clause-fit : goal.begin-requires-clause-fit
+begin-requires-clause-fit c =
+    let asked = c.args.self.now.asked.now in
+    let reads = c.args.reads.now in
+    let has = has_first asked c.args.round reads c.if-round-eq0.false c.requires.follows in
+    subst (λ (r : ReadOf). IsFitRow r.row) (sym (c.index-reads-0.is ∙ at_cart asked reads c.index-reads-0.result has)) (fit_first asked c.args.ask.now reads has c.requires.seen)
+
+pub returns-in-Err-clause-next : goal.returns-in-Err-clause-next
+returns-in-Err-clause-next c =
+    let asked = c.args.self.now.asked.now in
+    let ask = c.args.ask.now in
+    let reads = c.args.reads.now in
+    let cart = c.index-reads-0.result in
+    let found = c.index-reads-1.result in
+    let stop = c.in-Err.stop in
+    let has = has_first asked c.args.round reads c.if-round-eq0.false c.requires.follows in
+    let stops : IsStop (λ t. Shows t (cart ∷ found ∷ [])) asked stop = c.in-Err.ensures.err in
+    let fits : IsStop (λ t. Fits ask.index.now t reads) asked stop
+    = stop_weaker (λ t. Shows t (cart ∷ found ∷ [])) (λ t. Fits ask.index.now t reads) asked stop
+    (λ t fits. shows_first asked reads cart found t has c.index-reads-0.is c.index-reads-1.is fits.shows) stops in
+    IfOk-weaker c.stopped.result _ _ (λ next done. stopped_next asked ask reads c.stopped.new.draft stop next fits done c.args.round) c.stopped.ensures
+
+pub returns-then-round-eq1-clause-next : goal.returns-then-round-eq1-clause-next
+returns-then-round-eq1-clause-next c =
+    let asked = c.args.self.now.asked.now in
+    let reads = c.args.reads.now in
+    let has = has_first asked c.args.round reads c.if-round-eq0.false c.requires.follows in
+    asks_second asked c.args.ask.now c.args.round reads c.in_ok-second_keys.field-0 c.in-Ok.begun c.if-round-eq1.true c.requires.follows has
+    (begun_first asked reads c.index-reads-0.result c.index-reads-1.result c.in-Ok.begun has c.index-reads-0.is c.index-reads-1.is c.in-Ok.ensures.ok)
+    c.in_ok-second_keys.ensures
+
+pub by_all-requires : goal.by_all-requires
+by_all-requires c =
+    let asked = c.args.self.now.asked.now in
+    let reads = c.args.reads.now in
+    let has = has_second asked c.args.round reads c.if-round-eq0.false c.if-round-eq1.false c.requires.follows in
+    has_all asked reads c.in-Ok.begun has
+    (begun_first asked reads c.index-reads-0.result c.index-reads-1.result c.in-Ok.begun has.first c.index-reads-0.is c.index-reads-1.is c.in-Ok.ensures.ok)
+
+pub returns-clause-next : goal.returns-clause-next
+returns-clause-next c = IfOk-weaker c.by_all.result _ _ (λ next done. done c.args.round) c.by_all.ensures

@@ -1,0 +1,263 @@
+//! Buy Request: who buys a cart logs in, or is entered.
+ghost use Rattle.std.specs.Prelude.{◌≡◌, ◌∷◌, [], IfOk, IfErr};
+ghost use Rattle.shop_model.specs.declared.buying.Buyer.TheVariants as buyers;
+ghost use Rattle.shop_model.specs.declared.requests.Request.TheVariants as request_kinds;
+ghost use Rattle.shop_model.specs.trade.Buyers.{check_bought, check_password};
+ghost use Rattle.shop_history.specs.declared.keys.Key.TheVariants as key_kinds;
+ghost use Rattle.shop_history.specs.declared.keys.Row.TheVariants as row_kinds;
+ghost use Rattle.shop_attempt.specs.Marks.{Looks};
+ghost use Rattle.shop_attempt.specs.Reads.{Shows};
+ghost use Rattle.shop_browse.specs.Attempts.{AttemptedAs, Suits, asking_of};
+ghost use Rattle.shop_order.specs.BuyRequest as spec;
+ghost use Rattle.shop_order.specs.ShoppingCart.{IsFitRow};
+
+use crate::buyer_page::{Shopper, write_page};
+use crate::entries::{act, login_writes, newcomer_writes};
+use crate::shopping_cart::add_item_keys;
+use shop_attempt::{ReadOf, Store};
+use shop_browse::{Ask, Attempted, Interaction, Next, attempt_by};
+use shop_draft::{Draft, refusal as write_refusal};
+use shop_history::{Key, Row};
+use shop_model::{BuyRequest, Buyer, Customer, Login, Newcomer, Refusal, Request};
+use shop_text::{Boxed, Listed, Memory, Text, is_digsyl_lower};
+use std::alloc::Global;
+
+/// Why a request changes nothing.
+#[derive(Clone, Copy)]
+pub(crate) enum Stop {
+    Refused(Refusal),
+    /// No shop shows what was read.
+    Never,
+}
+
+/// What is bought, and who was found: the customer of the user name, or the address that says the same.
+#[derive(Clone, Copy)]
+pub(crate) struct Begun<'a> {
+    lines: &'a [(u32, u32)],
+    found: Option<u32>,
+}
+
+/// The lines of the cart in a row.
+fn lines_in(row: &Row) -> Result<&[(u32, u32)], Stop>
+    requires { IsFitRow row.now }
+    ensures ok { IfOk result (λ lines. spec.AreBought row.now lines.now) }
+    ensures err { IfErr result (spec.StopsBy row_kinds.Cart check_bought row.now) }
+{
+    match row {
+        Row::Absent => Err(Stop::Refused(Refusal::NoCart)),
+        Row::Cart(cart) => {
+            let lines = cart.lines.get().as_slice();
+            if lines.is_empty() {
+                return Err(Stop::Refused(Refusal::EmptyCart));
+            }
+            Ok(lines)
+        }
+        _ => Err(Stop::Never),
+    }
+}
+
+/// The id in a row that tells of a buyer.
+fn found_in(buyer: &Buyer, row: &Row) -> Result<Option<u32>, Stop>
+    ensures ok { IfOk result (spec.IsFound buyer.now row.now) }
+    ensures err { IfErr result (spec.StopsBy row_kinds.Id (spec.check_found buyer.now) row.now) }
+{
+    match (row, buyer) {
+        (Row::Id(id), _) => Ok(Some(*id)),
+        (Row::Absent, Buyer::Newcomer(_)) => Ok(None),
+        (Row::Absent, Buyer::Returning(_)) => Err(Stop::Refused(Refusal::NoUserName)),
+        _ => Err(Stop::Never),
+    }
+}
+
+/// What the first two reads come to.
+fn begin<'a>(asked: &BuyRequest, cart: &'a ReadOf, found: &ReadOf) -> Result<Begun<'a>, Stop>
+    requires cart { cart.now.key ≡ key_kinds.Cart asked.now.cart }
+    requires found { found.now.key ≡ spec.buyer_key asked.now.buyer }
+    requires fit { IsFitRow cart.now.row }
+    ensures ok { IfOk result (spec.Begins asked.now.buyer cart.now.row found.now.row) }
+    ensures err { IfErr result (spec.IsStop (λ t. Shows t (cart.now ∷ found.now ∷ [])) asked.now) }
+{
+    let lines = lines_in(&cart.row)?;
+    let found = found_in(&asked.buyer, &found.row)?;
+    Ok(Begun { lines, found })
+}
+
+/// The customer in a row, whose password this is.
+fn customer_in<'a>(pass: &Text, row: &'a Row) -> Result<&'a Customer, Stop>
+    ensures ok { IfOk result (λ customer. spec.IsCustomerIn pass.now row.now customer.now) }
+    ensures err { IfErr result (spec.StopsBy row_kinds.Customer (check_password pass.now) row.now) }
+{
+    match row {
+        Row::Absent => Err(Stop::Refused(Refusal::NoUserName)),
+        Row::Customer(customer) => {
+            if !is_digsyl_lower(pass.bytes(), customer.id) {
+                return Err(Stop::Refused(Refusal::WrongPassword));
+            }
+            Ok(customer)
+        }
+        _ => Err(Stop::Never),
+    }
+}
+
+/// What is done where a request stops.
+fn stopped(draft: &mut Draft, stop: Stop) -> Result<Next, Memory>
+    ensures { IfOk result (spec.IsStopped stop draft.new) }
+{
+    match stop {
+        Stop::Refused(refusal) => {
+            write_refusal(draft, refusal)?;
+            Ok(Next::Show)
+        }
+        Stop::Never => Ok(Next::Never),
+    }
+}
+
+/// The key that tells of a buyer.
+fn buyer_key(alloc: Global, buyer: &Buyer) -> Result<Key, Memory>
+    ensures { IfOk result (λ key. key ≡ spec.buyer_key buyer.now) }
+{
+    match buyer {
+        Buyer::Returning(login) => Ok(Key::Name(Text::copy(alloc, login.user.bytes())?)),
+        Buyer::Newcomer(newcomer) => {
+            let text = newcomer.get().address.copy(alloc)?;
+            Ok(Key::SameAddress(Boxed::new(alloc, text)?))
+        }
+    }
+}
+
+fn first_keys(alloc: Global, asked: &BuyRequest) -> Result<Listed<Key>, Memory>
+    ensures { IfOk result (λ keys. keys ≡ spec.first_keys asked.now) }
+{
+    let mut keys = Listed::with_capacity(alloc, 2)?;
+    keys.push(Key::Cart(asked.cart))?;
+    keys.push(buyer_key(alloc, &asked.buyer)?)?;
+    Ok(keys)
+}
+
+/// The customer who returns comes first, and then the items of the lines.
+fn second_keys(alloc: Global, buyer: &Buyer, begun: &Begun) -> Result<Listed<Key>, Memory>
+    ensures { IfOk result (λ keys. keys ≡ spec.second_keys buyer.now begun.now.found begun.now.lines.now) }
+{
+    let mut keys = Listed::with_capacity(alloc, begun.lines.len().saturating_add(1))?;
+    if let (Buyer::Returning(_), Some(id)) = (buyer, begun.found) {
+        keys.push(Key::Customer(id))?;
+    }
+    add_item_keys(&mut keys, begun.lines)?;
+    Ok(keys)
+}
+
+/// What is done for a customer who returns, where all is read.
+fn by_login(
+    alloc: Global,
+    ask: &Ask,
+    asked: &BuyRequest,
+    login: &Login,
+    begun: &Begun,
+    reads: &[ReadOf],
+    draft: &mut Draft,
+) -> Result<Next, Memory>
+    requires buyer { asked.now.buyer ≡ buyers.Returning login.now }
+    requires all { spec.HasAll asked.now begun.now reads.now }
+    ensures { IfOk result (spec.IsEnd asked.now ask.now reads.now draft.new) }
+{
+    let customer = match customer_in(&login.pass, &reads[2].row) {
+        Ok(customer) => customer,
+        Err(stop) => return stopped(draft, stop),
+    };
+    let shopper = Shopper::known(customer);
+    write_page(alloc, draft, &shopper, asked.cart, begun.lines, &reads[3..])?;
+    let writes = login_writes(alloc, customer.id)?;
+    Ok(Next::Change(act(alloc, asked, ask.draw)?, writes))
+}
+
+/// What is done for who is new, where all is read.
+fn by_newcomer(
+    alloc: Global,
+    ask: &Ask,
+    asked: &BuyRequest,
+    newcomer: &Newcomer,
+    begun: &Begun,
+    reads: &[ReadOf],
+    draft: &mut Draft,
+) -> Result<Next, Memory>
+    requires buyer { asked.now.buyer ≡ buyers.Newcomer newcomer.now }
+    requires all { spec.HasAll asked.now begun.now reads.now }
+    ensures { IfOk result (spec.IsEnd asked.now ask.now reads.now draft.new) }
+{
+    let shopper = Shopper::newcomer(newcomer, ask.draw);
+    write_page(alloc, draft, &shopper, asked.cart, begun.lines, &reads[2..])?;
+    let writes = newcomer_writes(alloc, newcomer, begun.found, ask.draw)?;
+    Ok(Next::Change(act(alloc, asked, ask.draw)?, writes))
+}
+
+/// What is done where all is read.
+fn by_all(
+    alloc: Global,
+    ask: &Ask,
+    asked: &BuyRequest,
+    begun: &Begun,
+    reads: &[ReadOf],
+    draft: &mut Draft,
+) -> Result<Next, Memory>
+    requires { spec.HasAll asked.now begun.now reads.now }
+    ensures { IfOk result (spec.IsEnd asked.now ask.now reads.now draft.new) }
+{
+    match &asked.buyer {
+        Buyer::Returning(login) => by_login(alloc, ask, asked, login, begun, reads, draft),
+        Buyer::Newcomer(newcomer) => {
+            by_newcomer(alloc, ask, asked, newcomer.get(), begun, reads, draft)
+        }
+    }
+}
+
+/// A request to buy a cart.
+#[derive(Drop)]
+struct Buying<'a> {
+    asked: &'a BuyRequest,
+}
+
+impl<'a> Interaction for Buying<'a> {
+    ghost use Rattle.shop_model.specs.declared.requests.Request.TheVariants as request_kinds;
+
+    ghost request = { λ buying. request_kinds.BuyRequest buying.asked.now };
+
+    ghost follows = { λ buying ask. spec.FollowsBuy buying.asked.now };
+
+    fn next(
+        &mut self,
+        alloc: Global,
+        ask: &Ask,
+        round: u32,
+        reads: &[ReadOf],
+        draft: &mut Draft,
+    ) -> Result<Next, Memory> {
+        let asked = self.asked;
+        if round == 0 {
+            return Ok(Next::Read(first_keys(alloc, asked)?));
+        }
+        let begun = match begin(asked, &reads[0], &reads[1]) {
+            Ok(begun) => begun,
+            Err(stop) => return stopped(draft, stop),
+        };
+        if round == 1 {
+            return Ok(Next::Read(second_keys(alloc, &asked.buyer, &begun)?));
+        }
+        by_all(alloc, ask, asked, &begun, reads, draft)
+    }
+}
+
+/// An attempt at buying a cart, for a customer who logs in or for one who is new.
+#[inline(never)]
+pub fn buy_request<St: Store>(
+    alloc: Global,
+    store: &mut St,
+    ask: &Ask,
+    asked: &BuyRequest,
+    draft: &mut Draft,
+) -> Attempted
+    requires suits { Suits ask.now (St.seat store.old) }
+    ensures looks { Looks St.seat St.marked store.old store.new }
+    ensures attempted { AttemptedAs (St.seat store.old) (St.seat store.new) (asking_of ask.now (Request.BuyRequest asked.now)) draft.new result }
+{
+    attempt_by(alloc, store, ask, Buying { asked }, draft)
+}
