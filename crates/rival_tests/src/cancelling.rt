@@ -39,6 +39,7 @@ pub(crate) fn one_unit<St: Store>(
     };
     match shopping_cart(alloc, store, ask, &asked, draft) {
         Attempted::Ready(attempt) => Ok(attempt),
+        Attempted::Pay(_) => Err("a payment".into()),
         Attempted::Contradiction(_) => Err("a contradiction".into()),
         Attempted::Memory => Err("no memory".into()),
     }
@@ -166,7 +167,7 @@ fn book_after(alloc: Global) -> Result<(Book, Result<[u64; 3], Fail>), Fail> {
 }
 
 /// The version of a cart, and whether it has one unit of item 46 and nothing else.
-fn version_of(book: &Book, id: u32) -> Option<(u64, bool)> {
+fn version_of(book: &mut Book, id: u32) -> Option<(u64, bool)> {
     let (row, version) = book.read(&Key::Cart(id)).ok()?;
     let Row::Cart(cart) = &row else {
         return None;
@@ -185,9 +186,9 @@ struct Told {
 }
 
 fn told_after(alloc: Global) -> Result<Told, Fail> {
-    let (book, fronts) = book_after(alloc)?;
+    let (mut book, fronts) = book_after(alloc)?;
     let changes = book.count_of(1);
-    let carts = [version_of(&book, 1), version_of(&book, 2)];
+    let carts = [version_of(&mut book, 1), version_of(&mut book, 2)];
     drop(book);
     Ok(Told {
         fronts: fronts?,

@@ -61,6 +61,7 @@ fn buying<St: Store>(
 {
     match buy_request(alloc, store, ask, asked, draft) {
         Attempted::Ready(attempt) => Ok(attempt),
+        Attempted::Pay(_) => Err("a payment".into()),
         Attempted::Contradiction(_) => Err("a contradiction".into()),
         Attempted::Memory => Err("no memory".into()),
     }
@@ -181,7 +182,7 @@ fn book_after(alloc: Global, country: u32) -> Result<(Book, Result<[Answer; 3], 
 }
 
 /// The id of a customer's address, and the customer's version.
-fn address_of(book: &Book, customer: u32) -> Option<(u32, u64)> {
+fn address_of(book: &mut Book, customer: u32) -> Option<(u32, u64)> {
     let (row, version) = book.read(&Key::Customer(customer)).ok()?;
     let Row::Customer(customer) = &row else {
         return None;
@@ -199,11 +200,11 @@ struct Outcome {
 fn outcome_of(alloc: Global, country: u32) -> Result<Outcome, Fail>
     requires { Has 92 country }
 {
-    let (book, told) = book_after(alloc, country)?;
+    let (mut book, told) = book_after(alloc, country)?;
     let addresses = [
-        address_of(&book, 41),
-        address_of(&book, 42),
-        address_of(&book, 43),
+        address_of(&mut book, 41),
+        address_of(&mut book, 42),
+        address_of(&mut book, 43),
     ];
     drop(book);
     Ok(Outcome {

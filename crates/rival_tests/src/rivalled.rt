@@ -156,6 +156,7 @@ fn add_unit<St: Store>(alloc: Global, store: &mut St, ask: &Ask, draft: &mut Dra
             let changes = attempt.act.is_some();
             settles(store, attempt) && changes
         }
+        Attempted::Pay(_) => false,
         Attempted::Contradiction(_) => false,
         Attempted::Memory => false,
     }

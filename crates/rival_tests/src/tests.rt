@@ -9,6 +9,7 @@ use shop_book::Book;
 use shop_draft::{Draft, Template};
 use shop_edges::{BytesIn, BytesOut, ListClock};
 use shop_engine::{Ended, Point, PointKind, Report, Worker, serve_connection};
+use shop_gateway::Emulator;
 use shop_history::Key;
 use shop_model::Scale;
 use shop_populate::populate;
@@ -76,7 +77,15 @@ fn served(alloc: Global, changes: u32) -> Result<(Report, BytesOut), Fail> {
     let mut worker = worker_among(alloc, changes)?;
     let mut source = BytesIn::new(input, 1_000_000, Listed::new(alloc));
     let mut sink = BytesOut::new(alloc, 1_000_000, Listed::new(alloc));
-    let report = serve_connection(alloc, &mut worker, &mut source, &mut sink, &mut clock);
+    let mut gateway = Emulator::new(alloc);
+    let report = serve_connection(
+        alloc,
+        &mut worker,
+        &mut source,
+        &mut sink,
+        &mut clock,
+        &mut gateway,
+    );
     Ok((report, sink))
 }
 

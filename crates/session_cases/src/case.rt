@@ -18,6 +18,8 @@ pub struct Case<'a> {
     pub status: u8,
     /// The readings of the clock, in milliseconds.
     readings: &'a str,
+    /// The calls of the gateway that fail, counted from 1.
+    fails: &'a str,
 }
 
 impl<'a> Case<'a> {
@@ -32,6 +34,7 @@ impl<'a> Case<'a> {
             told: columns.next()?,
             status: columns.next()?.parse().ok()?,
             readings: columns.next()?,
+            fails: columns.next()?,
         };
         match columns.next() {
             None => Some(case),
@@ -52,10 +55,19 @@ impl<'a> Case<'a> {
     }
 
     pub fn readings(&self, alloc: Global) -> Result<Listed<u64>> {
-        let mut readings = Vec::new(alloc);
-        for reading in self.readings.split_whitespace() {
-            readings.push(reading.parse::<u64>()?)?;
-        }
-        Ok(Listed::from_vec(readings))
+        numbers(alloc, self.readings)
     }
+
+    pub fn fails(&self, alloc: Global) -> Result<Listed<u64>> {
+        numbers(alloc, self.fails)
+    }
+}
+
+/// Numbers between blanks.
+fn numbers(alloc: Global, text: &str) -> Result<Listed<u64>> {
+    let mut numbers = Vec::new(alloc);
+    for number in text.split_whitespace() {
+        numbers.push(number.parse::<u64>()?)?;
+    }
+    Ok(Listed::from_vec(numbers))
 }

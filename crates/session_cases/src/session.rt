@@ -4,6 +4,7 @@ use crate::difference::{Difference, first_place};
 use anyhow::{Context, Result};
 use shop_app::run_alone;
 use shop_edges::{BytesIn, BytesOut, ListClock};
+use shop_gateway::{Emulator, ScriptGateway};
 use shop_text::{Listed, Text};
 use std::alloc::Global;
 use std::rt::Files;
@@ -103,6 +104,7 @@ pub fn differs(
     let mut source = BytesIn::new(input, pieces.read.max(1), Listed::new(alloc));
     let mut sink = BytesOut::new(alloc, pieces.write, Listed::new(alloc));
     let mut faults = BytesOut::new(alloc, pieces.write, Listed::new(alloc));
+    let mut gateway = ScriptGateway::new(Emulator::new(alloc), case.fails(alloc)?);
     let status = run_alone(
         alloc,
         &words,
@@ -110,6 +112,7 @@ pub fn differs(
         &mut sink,
         &mut faults,
         &mut clock,
+        &mut gateway,
     );
     Ok(difference(case, streams, sink.bytes(), faults.bytes(), status.code()))
 }

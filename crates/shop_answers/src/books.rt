@@ -10,12 +10,15 @@ use shop_populate::populate;
 use shop_text::Memory;
 use std::alloc::Global;
 
-/// Prints what a key shows, the ids or the names in it, and its version.
-pub fn print_row(rt: &impl Print, book: &Book, key: &Key) -> Result<()> {
+/// Prints what a key shows, ids or names, or the stock and the restocks of an item, and its version.
+pub fn print_row(rt: &impl Print, book: &mut Book, key: &Key) -> Result<()> {
     let (row, version) = done(book.read(key))?;
     match &row {
         Row::Absent => answer(rt, key, &("absent", version)),
         Row::Items(ids) => answer(rt, key, &(ids.get().as_slice(), version)),
+        Row::Customers(ids) => answer(rt, key, &(ids.as_slice(), version)),
+        Row::Totals(totals) => answer(rt, key, &(totals.as_slice(), version)),
+        Row::Item(item) => answer(rt, key, &((item.stock, item.restocks), version)),
         Row::Label(label) => {
             let author = (
                 text_of(label.first().bytes()),
@@ -39,7 +42,7 @@ fn opened(alloc: Global, scale: &Scale) -> Result<(Book, Option<AuthId>), Memory
 }
 
 /// Prints what rows of the book of the desk show.
-fn print_rows(rt: &impl Print, book: &Book, auth: Option<AuthId>) -> Result<()> {
+fn print_rows(rt: &impl Print, book: &mut Book, auth: Option<AuthId>) -> Result<()> {
     let auth = auth.context("no order 1")?;
     let known = (book.has_auth(&auth), book.has_auth(&AuthId::of(0)));
     answer(rt, &"authorisations of order 1 and of none", &known)?;
@@ -60,7 +63,7 @@ fn print_rows(rt: &impl Print, book: &Book, auth: Option<AuthId>) -> Result<()> 
 }
 
 /// Prints how many items of Arts are new and best sold, the first and the last.
-fn print_ends(rt: &impl Print, book: &Book) -> Result<()> {
+fn print_ends(rt: &impl Print, book: &mut Book) -> Result<()> {
     for key in [Key::NewIn(Subject::Arts), Key::BestIn(Subject::Arts)] {
         let (row, version) = done(book.read(&key))?;
         if let Row::Items(list) = &row {
@@ -72,15 +75,15 @@ fn print_ends(rt: &impl Print, book: &Book) -> Result<()> {
 }
 
 fn print_desk(rt: &(impl Print + AllocGlobal)) -> Result<()> {
-    let (book, auth) = done(opened(rt.alloc(), &Scale::desk()))?;
-    print_rows(rt, &book, auth)
+    let (mut book, auth) = done(opened(rt.alloc(), &Scale::desk()))?;
+    print_rows(rt, &mut book, auth)
 }
 
 /// Among 10,000 items some subjects have more than fifty.
 fn print_larger(rt: &(impl Print + AllocGlobal)) -> Result<()> {
     let scale = Scale::of(10_000, 1).context("no scale")?;
-    let (book, _) = done(opened(rt.alloc(), &scale))?;
-    print_ends(rt, &book)
+    let (mut book, _) = done(opened(rt.alloc(), &scale))?;
+    print_ends(rt, &mut book)
 }
 
 pub fn print(rt: &(impl Print + AllocGlobal)) -> Result<()> {

@@ -9,8 +9,9 @@ use crate::done;
 use anyhow::{Result, anyhow};
 use http::Method;
 use shop_book::{Book, Solo};
-use shop_edges::{BytesIn, BytesOut, ListClock};
+use shop_edges::{BytesIn, BytesOut, Gateway, ListClock};
 use shop_engine::{Answered, Point, Report, Worker, serve_connection, serve_message};
+use shop_gateway::Emulator;
 use shop_history::Key;
 use shop_message::Message;
 use shop_model::{Scale, Tables};
@@ -112,12 +113,13 @@ fn clock(alloc: Global, readings: [u64; 4]) -> Result<ListClock, Memory> {
 
 /// What comes of a connection over these tables, and the book behind it. The log may have so many
 /// changes.
-pub fn served(
+pub fn served<G: Gateway>(
     alloc: Global,
     tables: Tables,
     input: &[u8],
     readings: [u64; 4],
     limit: u8,
+    gateway: &mut G,
 ) -> Result<(Report, Book), Memory>
     requires { IsDesk tables }
 {
@@ -125,7 +127,14 @@ pub fn served(
     let mut sink = BytesOut::new(alloc, 1_000, Listed::new(alloc));
     let mut clock = clock(alloc, readings)?;
     let mut worker = worker(alloc, tables, u64::from(limit))?;
-    let report = serve_connection(alloc, &mut worker, &mut source, &mut sink, &mut clock);
+    let report = serve_connection(
+        alloc,
+        &mut worker,
+        &mut source,
+        &mut sink,
+        &mut clock,
+        gateway,
+    );
     Ok((report, worker.into_store().into_book()))
 }
 
@@ -151,7 +160,7 @@ pub fn print_report(rt: &impl Print, name: &str, report: &Report) -> Result<()> 
 }
 
 /// Prints the end, the points, what the log has come to, and the versions of three rows.
-fn print_served(rt: &impl Print, name: &str, report: &Report, book: &Book) -> Result<()> {
+fn print_served(rt: &impl Print, name: &str, report: &Report, book: &mut Book) -> Result<()> {
     print_report(rt, name, report)?;
     answer(rt, &"changes of caller 1", &book.count_of(1))?;
     answer(rt, &"all changes", &book.summary())?;
@@ -164,12 +173,20 @@ fn print_served(rt: &impl Print, name: &str, report: &Report, book: &Book) -> Re
 /// What comes of a case at the desk's shop, and the book behind it.
 fn served_case(alloc: Global, case: Case) -> Result<(Report, Book), Memory> {
     let tables = desk(alloc)?;
-    served(alloc, tables, case.input, case.readings, case.limit)
+    let mut gateway = Emulator::new(alloc);
+    served(
+        alloc,
+        tables,
+        case.input,
+        case.readings,
+        case.limit,
+        &mut gateway,
+    )
 }
 
 fn print_case(rt: &(impl Print + AllocGlobal), case: Case) -> Result<()> {
-    let (report, book) = done(served_case(rt.alloc(), case))?;
-    print_served(rt, case.name, &report, &book)
+    let (report, mut book) = done(served_case(rt.alloc(), case))?;
+    print_served(rt, case.name, &report, &mut book)
 }
 
 pub fn print(rt: &(impl Print + AllocGlobal)) -> Result<()> {
@@ -190,7 +207,8 @@ fn answered(alloc: Global, target: &str, last: bool) -> Result<Answered, Memory>
     };
     let tables = desk(alloc)?;
     let mut worker = worker(alloc, tables, 10)?;
-    Ok(serve_message(alloc, &mut worker, &message, last, &mut clock))
+    let mut gateway = Emulator::new(alloc);
+    Ok(serve_message(alloc, &mut worker, &message, last, &mut clock, &mut gateway))
 }
 
 pub fn print_messages(rt: &(impl Print + AllocGlobal)) -> Result<()> {

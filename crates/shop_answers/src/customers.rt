@@ -10,6 +10,7 @@ use crate::twins::with_twins;
 use anyhow::Result;
 use shop_book::Book;
 use shop_engine::Report;
+use shop_gateway::Emulator;
 use shop_model::Tables;
 use shop_text::{Memory, Text};
 use std::alloc::Global;
@@ -164,7 +165,7 @@ fn print_served(
     rt: &(impl Print + AllocGlobal),
     case: Case,
     report: &Report,
-    book: &Book,
+    book: &mut Book,
 ) -> Result<()> {
     print_report(rt, case.name, report)?;
     for lookup in case.lookups {
@@ -188,12 +189,20 @@ fn tables_for(alloc: Global, twins: bool) -> Result<Tables, Memory>
 fn served_case(alloc: Global, case: Case, twins: bool) -> Result<(Report, Book), Memory> {
     let input = messages(alloc, case.targets)?;
     let tables = tables_for(alloc, twins)?;
-    served(alloc, tables, input.bytes(), case.readings, 10)
+    let mut gateway = Emulator::new(alloc);
+    served(
+        alloc,
+        tables,
+        input.bytes(),
+        case.readings,
+        10,
+        &mut gateway,
+    )
 }
 
 fn print_case(rt: &(impl Print + AllocGlobal), case: Case, twins: bool) -> Result<()> {
-    let (report, book) = done(served_case(rt.alloc(), case, twins))?;
-    print_served(rt, case, &report, &book)
+    let (report, mut book) = done(served_case(rt.alloc(), case, twins))?;
+    print_served(rt, case, &report, &mut book)
 }
 
 pub fn print(rt: &(impl Print + AllocGlobal)) -> Result<()> {

@@ -4,6 +4,7 @@ use shop_app::first_worker;
 use shop_book::Solo;
 use shop_edges::{BytesIn, BytesOut, ListClock};
 use shop_engine::{Ended, Worker, serve_connection};
+use shop_gateway::Emulator;
 use shop_model::Scale;
 use shop_text::{Listed, Memory, Text};
 use shop_words::Session;
@@ -54,7 +55,15 @@ fn served(alloc: Global, input: &[u8], reads: Calls, writes: Calls) -> Result<Ou
     let mut clock = ListClock::new(alloc, readings)?;
     let (scale, seed) = (Scale::desk(), 0);
     let mut worker = first_worker(alloc, Session { scale, seed })?;
-    let report = serve_connection(alloc, &mut worker, &mut source, &mut sink, &mut clock);
+    let mut gateway = Emulator::new(alloc);
+    let report = serve_connection(
+        alloc,
+        &mut worker,
+        &mut source,
+        &mut sink,
+        &mut clock,
+        &mut gateway,
+    );
     Ok(Outcome {
         end: report.end,
         sink,

@@ -24,7 +24,7 @@ pub enum Lookup {
 }
 
 /// The texts of an address.
-fn texts_of(alloc: Global, book: &Book, id: u32) -> Result<AddressText> {
+fn texts_of(alloc: Global, book: &mut Book, id: u32) -> Result<AddressText> {
     let (row, _) = done(book.read(&Key::Address(id)))?;
     match &row {
         Row::Address(address) => done(address.get().text.copy(alloc)),
@@ -32,7 +32,7 @@ fn texts_of(alloc: Global, book: &Book, id: u32) -> Result<AddressText> {
     }
 }
 
-fn key_of(alloc: Global, book: &Book, lookup: Lookup) -> Result<Key> {
+fn key_of(alloc: Global, book: &mut Book, lookup: Lookup) -> Result<Key> {
     match lookup {
         Lookup::Customer(id) => Ok(Key::Customer(id)),
         Lookup::Address(id) => Ok(Key::Address(id)),
@@ -117,7 +117,11 @@ fn print_read(
 }
 
 /// Prints a row, behind its version and what else fits there.
-pub fn print_record(rt: &(impl Print + AllocGlobal), book: &Book, lookup: Lookup) -> Result<()> {
+pub fn print_record(
+    rt: &(impl Print + AllocGlobal),
+    book: &mut Book,
+    lookup: Lookup,
+) -> Result<()> {
     let key = key_of(rt.alloc(), book, lookup)?;
     let (row, version) = done(book.read(&key))?;
     print_read(rt, lookup, &row, version)

@@ -4,6 +4,7 @@ use crate::done;
 use anyhow::Result;
 use shop_app::{Status, run_alone};
 use shop_edges::{BytesIn, BytesOut, ListClock};
+use shop_gateway::Emulator;
 use shop_text::{Listed, Memory, Text};
 use std::alloc::Global;
 
@@ -18,6 +19,7 @@ fn session(
     let mut sink = BytesOut::new(alloc, piece, Listed::from_vec(vec![in alloc; write; 1]?));
     let mut told = BytesOut::new(alloc, 1_000, Listed::new(alloc));
     let mut clock = ListClock::new(alloc, Listed::new(alloc))?;
+    let mut gateway = Emulator::new(alloc);
     let word = Text::copy(alloc, b"session")?;
     let status = run_alone(
         alloc,
@@ -26,6 +28,7 @@ fn session(
         &mut sink,
         &mut told,
         &mut clock,
+        &mut gateway,
     );
     Ok((status, sink, told))
 }

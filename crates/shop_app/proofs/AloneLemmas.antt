@@ -15,9 +15,9 @@ use Rattle.shop_engine.specs.declared.report.Ended.TheVariants as ended
 use Rattle.shop_engine.specs.declared.report.Point.{Point}
 use Rattle.shop_engine.specs.declared.report.PointKind.{PointKind}
 use Rattle.shop_engine.specs.declared.report.PointKind.TheVariants.{Plain, At, Change, Busy}
-use Rattle.shop_engine.specs.Decided.{CauseAs}
+use Rattle.shop_engine.specs.Decided.{CauseAs, tries_alone}
 use Rattle.shop_engine.specs.Served.{Served, Streams}
-use Rattle.shop_engine.specs.Steps.{Step, IsStepFor, AreSteps, GivesUp, plain_point}
+use Rattle.shop_engine.specs.Steps.{Step, IsStepFor, AreSteps, GivesUp, decision_of, plain_point}
 use Rattle.shop_engine.specs.Workers.{Standing}
 use Rattle.shop_app.specs.Session.{IsAtOnce, IsSettled, moment_as, moments_of}
 
@@ -41,11 +41,11 @@ alone_next form from to step (Err refusal) is alone = subst IsAlone (sym is.stan
 abbrev IsQuick : Point → Type 0
 IsQuick point = (point ≡ plain_point) ⊎ IsAtOnce point
 
-once : (from to : Standing) (step : Step) (request : Request) (kind : PointKind) → step.point.kind ≡ kind → step.point.tries ≡ 1
-    → CauseAs from.seat to.seat request step.point step.made kind → IsAtOnce step.point
+once : (from to : Standing) (step : Step) (request : Request) (kind : PointKind) → step.point.kind ≡ kind → step.point.tries ≡ tries_alone kind
+    → CauseAs from.seat to.seat request (decision_of step) kind → IsAtOnce step.point
 once from to step request (Busy conflicts) is tries cause = absurd (omega (arith, tries, cause.0.tries))
 once from to step request Plain is tries cause = absurd cause
-once from to step request _ is tries cause = record { settled = subst IsSettled (sym is) tt; tries = tries }
+once from to step request _ is tries cause = record { settled = subst IsSettled (sym is) tt; tries = tries ∙ ap tries_alone (sym is) }
 
 quick : (form : Form) (from to : Standing) (step : Step) (asks : Result Request Refusal) → IsStepFor form from step to asks → IsAlone from → IsQuick step.point
 quick form from to step (Ok request) is alone = inr (once from to step request step.point.kind refl (is.decided.alone (is_told from alone)) is.decided.cause)
@@ -64,13 +64,13 @@ told_once (Some refusal) = All-cons IsQuick plain_point [] (inl refl) (All-nil I
 -- the stamps of changes are their moments
 
 stamp_made : (from to : Standing) (step : Step) (request : Request) (kind : PointKind) → IsAlone from → from.progress.last ≤ step.point.moment
-    → CauseAs from.seat to.seat request step.point step.made kind → map (λ e. e.stamp) step.made ≡ moment_as step.point.moment kind
+    → CauseAs from.seat to.seat request (decision_of step) kind → map (λ e. e.stamp) step.made ≡ moment_as step.point.moment kind
 stamp_made from to step request Change alone later cause =
     let stamp : cause.0.entry.stamp ≡ step.point.moment = omega (arith, cause.0.exact alone.stamp alone.latest, alone.within, later) in
     ap (map (λ (e : Entry). e.stamp)) cause.0.made_is ∙ ap (λ n. n ∷ []) stamp
 stamp_made from to step request At alone later cause = ap (map (λ (e : Entry). e.stamp)) cause.0
 stamp_made from to step request Plain alone later cause = absurd cause
-stamp_made from to step request _ alone later cause = ap (map (λ (e : Entry). e.stamp)) cause.1
+stamp_made from to step request _ alone later cause = ap (map (λ (e : Entry). e.stamp)) cause.1.0
 
 stamps_of : (form : Form) (from to : Standing) (step : Step) (asks : Result Request Refusal) → IsStepFor form from step to asks → IsAlone from
     → map (λ e. e.stamp) step.made ≡ moment_as step.point.moment step.point.kind

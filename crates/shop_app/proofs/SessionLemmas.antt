@@ -1,8 +1,9 @@
 -- The status of a session by the end of its connection.
-use Rattle.std.proofs.Common.{◌≡◌, ℕ, inl, inr, List, [], length, map, Option, subst, refl, sym, ap, ◌∙◌, arith}
+use Rattle.std.proofs.Common.{◌≡◌, ℕ, ◌≤◌, inl, inr, List, [], length, map, Option, subst, refl, sym, ap, ◌∙◌, arith}
 use Rattle.std.specs.Prelude.{flat_map}
 use Rattle.std.proofs.lemmas.List.FromFn.{length-map-range_with_len}
 use Rattle.shop_edges.specs.Causes.{Rose}
+use Rattle.shop_edges.specs.declared.gateway.Answer.{Answer}
 use Rattle.shop_model.specs.declared.tables.Tables.{Tables}
 use Rattle.shop_model.specs.lists.Catalogues.{Catalogue, catalogue}
 use Rattle.shop_model.specs.population.Population.{populated, items_table, item_row}
@@ -15,6 +16,7 @@ use Rattle.shop_book.specs.Solos.{SoloValue, seated, seat_of}
 use Rattle.shop_engine.specs.declared.report.Ended.{Ended}
 use Rattle.shop_engine.specs.declared.report.Ended.TheVariants as ended
 use Rattle.shop_engine.specs.declared.report.Point.{Point}
+use Rattle.shop_engine.specs.Failures.{RoseBy, failures}
 use Rattle.shop_engine.specs.Served.{Served}
 use Rattle.shop_engine.specs.Steps.{Step}
 use Rattle.shop_engine.specs.Workers.{IsPosted, Standing, WorkerState, at_first, standing}
@@ -23,29 +25,34 @@ use Rattle.shop_app.specs.Session.{IsFirst, IsSession, ServedTo, Run, first_call
 use Rattle.shop_app.specs.Statuses.{status_of}
 use Rattle.shop_app.proofs.AloneLemmas.{IsAlone, all_at_once, log_made, opening_same, stamps_are}
 
-pub standing_first : (session : Session) (worker : WorkerState SoloValue) (clock : Option (List ℕ)) → IsFirst session worker → standing seat_of worker clock ≡ first_standing session clock
-standing_first session worker clock first =
-    ap (λ c. record { caller = c; progress = worker.progress; seat = seat_of worker.store; clock = clock }) first.caller
-    ∙ ap (λ p. record { caller = first_caller session; progress = p; seat = seat_of worker.store; clock = clock }) first.progress
-    ∙ ap (λ s. record { caller = first_caller session; progress = at_first; seat = s; clock = clock }) first.seat
+pub standing_first : (session : Session) (worker : WorkerState SoloValue) (clock : Option (List ℕ)) (told : Option (List Answer)) → IsFirst session worker
+    → standing seat_of worker clock told ≡ first_standing session clock told
+standing_first session worker clock told first =
+    ap (λ c. record { caller = c; progress = worker.progress; seat = seat_of worker.store; clock = clock; told = told }) first.caller
+    ∙ ap (λ p. record { caller = first_caller session; progress = p; seat = seat_of worker.store; clock = clock; told = told }) first.progress
+    ∙ ap (λ s. record { caller = first_caller session; progress = at_first; seat = s; clock = clock; told = told }) first.seat
 
 -- a session whose worker was the first one, and whose connection was served to an end
-module _ (session : Session) (before after : Standing) (old new : Run) (points : List Point) (is_first : before ≡ first_standing session old.clock) (clock : after.clock ≡ new.clock) (lawful : IsLawful after.seat.opening after.seat.seen) where
+module _ (session : Session) (before after : Standing) (old new : Run) (points : List Point) (is_first : before ≡ first_standing session old.clock old.told) (clock : after.clock ≡ new.clock)
+    (told : after.told ≡ new.told) (failed : RoseBy old.failures (failures points) new.failures) (kept : old.failures ≤ new.failures) (lawful : IsLawful after.seat.opening after.seat.seen) where
   served_to : (end : Ended) → Served before after old.streams new.streams end points → ServedTo session old new end
   unfolding first_seat
   served_to end given =
-      let served : Served (first_standing session old.clock) after old.streams new.streams end points = rw is_first at given in
-      let alone : IsAlone (first_standing session old.clock) = record { stamp = 0; latest = refl; within = omega arith } in
-      let log : after.seat.seen ≡ flat_map (λ (s : Step). s.made) served.steps = log_made (first_standing session old.clock) after old.streams new.streams end points served alone in
+      let served : Served (first_standing session old.clock old.told) after old.streams new.streams end points = rw is_first at given in
+      let alone : IsAlone (first_standing session old.clock old.told) = record { stamp = 0; latest = refl; within = omega arith } in
+      let log : after.seat.seen ≡ flat_map (λ (s : Step). s.made) served.steps = log_made (first_standing session old.clock old.told) after old.streams new.streams end points served alone in
       record {
         points = points;
         after = after;
         served = served;
         clock = clock;
-        alone = all_at_once (first_standing session old.clock) after old.streams new.streams end points served alone;
-        lawful = subst (λ (t : Tables). IsLawful t after.seat.seen) (opening_same (first_standing session old.clock) after old.streams new.streams end points served alone) lawful;
+        told = told;
+        failed = failed;
+        kept = kept;
+        alone = all_at_once (first_standing session old.clock old.told) after old.streams new.streams end points served alone;
+        lawful = subst (λ (t : Tables). IsLawful t after.seat.seen) (opening_same (first_standing session old.clock old.told) after old.streams new.streams end points served alone) lawful;
         log = log;
-        stamps = ap (map (λ (e : Entry). e.stamp)) log ∙ stamps_are (first_standing session old.clock) after old.streams new.streams end points served alone;
+        stamps = ap (map (λ (e : Entry). e.stamp)) log ∙ stamps_are (first_standing session old.clock old.told) after old.streams new.streams end points served alone;
       }
 
   pub session-by-end : (end : Ended) → Served before after old.streams new.streams end points

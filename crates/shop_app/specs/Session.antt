@@ -1,8 +1,9 @@
 -- What a session does, by its status.
-use Rattle.std.specs.Prelude.{◌≡◌, ◌⊎◌, ℕ, List, [], ◌∷◌, map, All, Option, Some}
+use Rattle.std.specs.Prelude.{◌≡◌, ◌⊎◌, ℕ, ◌≤◌, List, [], ◌∷◌, map, All, Option, Some}
 use Rattle.std.specs.List.{flat_map}
 use Rattle.std.specs.Io.KnownBytes.{Appends}
 use Rattle.shop_edges.specs.Causes.{Rose}
+use Rattle.shop_edges.specs.declared.gateway.Answer.{Answer}
 use Rattle.shop_model.specs.population.Population.{populated}
 use Rattle.shop_history.specs.Lawful.{IsLawful}
 use Rattle.shop_attempt.specs.Seats.{Seat}
@@ -11,7 +12,9 @@ use Rattle.shop_engine.specs.declared.report.Ended.{Ended}
 use Rattle.shop_engine.specs.declared.report.Ended.TheVariants as ended
 use Rattle.shop_engine.specs.declared.report.Point.{Point}
 use Rattle.shop_engine.specs.declared.report.PointKind.{PointKind}
-use Rattle.shop_engine.specs.declared.report.PointKind.TheVariants.{Plain, At, Change, Busy, Full}
+use Rattle.shop_engine.specs.declared.report.PointKind.TheVariants.{Plain, At, Change, Busy, Full, Denied, GatewayFailed}
+use Rattle.shop_engine.specs.Decided.{tries_alone}
+use Rattle.shop_engine.specs.Failures.{RoseBy, failures}
 use Rattle.shop_engine.specs.Served.{Served, Streams}
 use Rattle.shop_engine.specs.Steps.{plain_point}
 use Rattle.shop_engine.specs.Workers.{Caller, Standing, WorkerState, at_first}
@@ -50,21 +53,24 @@ pub record IsFirst (session : Session) (worker : WorkerState SoloValue) : Type 0
   pub seat : seat_of worker.store ≡ first_seat session
 
 -- where it stands before the session
-abbrev pub first_standing : Session → Option (List ℕ) → Standing
-first_standing session clock = record { caller = first_caller session; progress = at_first; seat = first_seat session; clock = clock }
+abbrev pub first_standing : Session → Option (List ℕ) → Option (List Answer) → Standing
+first_standing session clock told =
+    record { caller = first_caller session; progress = at_first; seat = first_seat session; clock = clock; told = told }
 
--- a settle decided the answer
+-- a settle decided the answer, or a gateway that failed
 abbrev pub IsSettled : PointKind → Type 0
 IsSettled At = Unit {0}
 IsSettled Change = Unit {0}
 IsSettled Full = Unit {0}
+IsSettled (Denied charge reason) = Unit {0}
+IsSettled GatewayFailed = Unit {0}
 IsSettled (Busy conflicts) = ⊥
 IsSettled Plain = ⊥
 
--- an answer was settled at the first try
+-- an answer was decided at the first try, by one settle, or by none where the gateway failed
 pub record IsAtOnce (point : Point) : Type 0 where
   pub settled : IsSettled point.kind
-  pub tries : point.tries ≡ 1
+  pub tries : point.tries ≡ tries_alone point.kind
 
 -- the moment of a change
 abbrev pub moment_as : ℕ → PointKind → List ℕ
@@ -75,20 +81,26 @@ moment_as moment _ = []
 abbrev pub moments_of : List Point → List ℕ
 moments_of points = flat_map (λ p. moment_as p.moment p.kind) points
 
--- what a session is run on: its streams and its clock, and how often the source and the sink have failed
+-- what a session is run on: its streams, its clock and what the gateway tells, and how often the source, the sink
+-- and the gateway have failed
 pub record Run : Type 0 where
   pub streams : Streams
   pub clock : Option (List ℕ)
+  pub told : Option (List Answer)
   pub reads : ℕ
   pub writes : ℕ
+  pub failures : ℕ
 
 -- its one connection was served to this end: no settle was stale, the log is lawful, and it is what the
--- changes made, each with its moment as its stamp
+-- changes made, each with its moment as its stamp; the gateway's count of faults never fell, and rose by each that is told
 pub record ServedTo (session : Session) (old new : Run) (end : Ended) : Type 0 where
   pub points : List Point
   pub after : Standing
-  pub served : Served (first_standing session old.clock) after old.streams new.streams end points
+  pub served : Served (first_standing session old.clock old.told) after old.streams new.streams end points
   pub clock : after.clock ≡ new.clock
+  pub told : after.told ≡ new.told
+  pub failed : RoseBy old.failures (failures points) new.failures
+  pub kept : old.failures ≤ new.failures
   pub alone : All (λ p. (p ≡ plain_point) ⊎ IsAtOnce p) points
   pub lawful : IsLawful (populated session.seed session.scale) after.seat.seen
   pub log : after.seat.seen ≡ flat_map (λ s. s.made) served.steps

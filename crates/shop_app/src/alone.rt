@@ -6,7 +6,7 @@ ghost use Rattle.shop_app.specs.Session.{IsFirst, IsSession, Obeys, IsRun, IsTol
 
 use crate::Status;
 use shop_book::{Book, Solo};
-use shop_edges::{Clock, Sink, Source, write_all};
+use shop_edges::{Clock, Gateway, Sink, Source, write_all};
 use shop_engine::{Ended, Worker, serve_connection};
 use shop_populate::populate;
 use shop_search::Index;
@@ -22,68 +22,71 @@ const CALLER: u32 = 1;
 const LIMIT: u64 = 1_000_000;
 
 /// Does what the words say, for one caller: `session` serves one connection from the source to the
-/// sink, over the shop that its options choose. Where that doesn't end well, a line on the faults sink
+/// sink, over the shop that its options choose, whose payments the gateway takes. Where that doesn't end well, a line on the faults sink
 /// tells it; a fault of that sink changes no status.
-pub fn run_alone<S: Source, K: Sink, C: Clock>(
+pub fn run_alone<S: Source, K: Sink, C: Clock, G: Gateway>(
     alloc: Global,
     words: &[Text],
     source: &mut S,
     sink: &mut K,
     faults: &mut K,
     clock: &mut C,
+    gateway: &mut G,
 ) -> Status
     ensures bad_words { result ≡ Status.BadWords → (command : Command) → ¬ (IsCommand words.now command) }
-    ensures untouched { result ≡ Status.BadWords → (source.new ≡ source.old) × (sink.new ≡ sink.old) × (clock.new ≡ clock.old) }
+    ensures untouched { result ≡ Status.BadWords → (source.new ≡ source.old) × (sink.new ≡ sink.old) × (clock.new ≡ clock.old) × (gateway.new ≡ gateway.old) }
     ensures run { result ≢ Status.BadWords → IsRun words.now
-        (record { streams = record { left = S.left source.old; held = K.held sink.old }; clock = C.readings clock.old; reads = S.faults source.old; writes = K.faults sink.old })
-        (record { streams = record { left = S.left source.new; held = K.held sink.new }; clock = C.readings clock.new; reads = S.faults source.new; writes = K.faults sink.new })
+        (record { streams = record { left = S.left source.old; held = K.held sink.old }; clock = C.readings clock.old; told = G.answers gateway.old; reads = S.faults source.old; writes = K.faults sink.old; failures = G.faults gateway.old })
+        (record { streams = record { left = S.left source.new; held = K.held sink.new }; clock = C.readings clock.new; told = G.answers gateway.new; reads = S.faults source.new; writes = K.faults sink.new; failures = G.faults gateway.new })
         result }
     ensures told { IsTold (K.held faults.old) (K.held faults.new) (K.faults faults.old) (K.faults faults.new) result }
     ensures later { K.faults faults.old ≤ K.faults faults.new }
 {
-    let status = run(alloc, words, source, sink, clock);
+    let status = run(alloc, words, source, sink, clock, gateway);
     let _ = write_all(faults, status.line());
     status
 }
 
 /// Does what the words say.
-fn run<S: Source, K: Sink, C: Clock>(
+fn run<S: Source, K: Sink, C: Clock, G: Gateway>(
     alloc: Global,
     words: &[Text],
     source: &mut S,
     sink: &mut K,
     clock: &mut C,
+    gateway: &mut G,
 ) -> Status
     ensures bad_words { result ≡ Status.BadWords → (command : Command) → ¬ (IsCommand words.now command) }
-    ensures untouched { result ≡ Status.BadWords → (source.new ≡ source.old) × (sink.new ≡ sink.old) × (clock.new ≡ clock.old) }
+    ensures untouched { result ≡ Status.BadWords → (source.new ≡ source.old) × (sink.new ≡ sink.old) × (clock.new ≡ clock.old) × (gateway.new ≡ gateway.old) }
     ensures run { result ≢ Status.BadWords → IsRun words.now
-        (record { streams = record { left = S.left source.old; held = K.held sink.old }; clock = C.readings clock.old; reads = S.faults source.old; writes = K.faults sink.old })
-        (record { streams = record { left = S.left source.new; held = K.held sink.new }; clock = C.readings clock.new; reads = S.faults source.new; writes = K.faults sink.new })
+        (record { streams = record { left = S.left source.old; held = K.held sink.old }; clock = C.readings clock.old; told = G.answers gateway.old; reads = S.faults source.old; writes = K.faults sink.old; failures = G.faults gateway.old })
+        (record { streams = record { left = S.left source.new; held = K.held sink.new }; clock = C.readings clock.new; told = G.answers gateway.new; reads = S.faults source.new; writes = K.faults sink.new; failures = G.faults gateway.new })
         result }
 {
     match command_of(alloc, words) {
-        Parsed::Command(command) => obey(alloc, command, source, sink, clock),
+        Parsed::Command(command) => obey(alloc, command, source, sink, clock, gateway),
         Parsed::Bad => Status::BadWords,
         Parsed::Memory => Status::Memory,
     }
 }
 
 /// Does what a command says.
-fn obey<S: Source, K: Sink, C: Clock>(
+fn obey<S: Source, K: Sink, C: Clock, G: Gateway>(
     alloc: Global,
     command: Command,
     source: &mut S,
     sink: &mut K,
     clock: &mut C,
+    gateway: &mut G,
 ) -> Status
     ensures obeyed { Obeys command
-        (record { streams = record { left = S.left source.old; held = K.held sink.old }; clock = C.readings clock.old; reads = S.faults source.old; writes = K.faults sink.old })
-        (record { streams = record { left = S.left source.new; held = K.held sink.new }; clock = C.readings clock.new; reads = S.faults source.new; writes = K.faults sink.new })
+        (record { streams = record { left = S.left source.old; held = K.held sink.old }; clock = C.readings clock.old; told = G.answers gateway.old; reads = S.faults source.old; writes = K.faults sink.old; failures = G.faults gateway.old })
+        (record { streams = record { left = S.left source.new; held = K.held sink.new }; clock = C.readings clock.new; told = G.answers gateway.new; reads = S.faults source.new; writes = K.faults sink.new; failures = G.faults gateway.new })
         result }
     ensures good_words { result ≢ Status.BadWords }
 {
     match command {
-        Command::Session(asked) => session(alloc, asked, source, sink, clock),
+        Command::Session(asked) => session(alloc, asked, source, sink, clock, gateway),
     }
 }
 
@@ -106,22 +109,23 @@ pub fn first_worker(alloc: Global, asked: Session) -> Result<Worker<Solo>, Memor
 }
 
 /// Serves one connection of the caller over a shop of its own.
-fn session<S: Source, K: Sink, C: Clock>(
+fn session<S: Source, K: Sink, C: Clock, G: Gateway>(
     alloc: Global,
     asked: Session,
     source: &mut S,
     sink: &mut K,
     clock: &mut C,
+    gateway: &mut G,
 ) -> Status
     ensures { IsSession asked
-        (record { streams = record { left = S.left source.old; held = K.held sink.old }; clock = C.readings clock.old; reads = S.faults source.old; writes = K.faults sink.old })
-        (record { streams = record { left = S.left source.new; held = K.held sink.new }; clock = C.readings clock.new; reads = S.faults source.new; writes = K.faults sink.new })
+        (record { streams = record { left = S.left source.old; held = K.held sink.old }; clock = C.readings clock.old; told = G.answers gateway.old; reads = S.faults source.old; writes = K.faults sink.old; failures = G.faults gateway.old })
+        (record { streams = record { left = S.left source.new; held = K.held sink.new }; clock = C.readings clock.new; told = G.answers gateway.new; reads = S.faults source.new; writes = K.faults sink.new; failures = G.faults gateway.new })
         result }
 {
     let Ok(mut worker) = first_worker(alloc, asked) else {
         return Status::Memory;
     };
-    let report = serve_connection(alloc, &mut worker, source, sink, clock);
+    let report = serve_connection(alloc, &mut worker, source, sink, clock, gateway);
     status_of(report.end)
 }
 

@@ -23,7 +23,11 @@ use Rattle.shop_book.specs.declared.lists.Lists.{Lists}
 use Rattle.shop_book.specs.declared.rows.Rows.{Rows}
 use Rattle.shop_book.specs.declared.versions.Versions.{Versions}
 use Rattle.shop_book.specs.Books.{BookValue, IsBook, tables_of}
+use Rattle.shop_book.specs.declared.plan.Plan.{Plan}
+use Rattle.shop_book.specs.Changing.{after, IsChange}
 use Rattle.shop_book.specs.Counted.{count_in, with_count}
+use Rattle.shop_book.specs.KeptLists.{AreLists}
+use Rattle.shop_book.specs.Planning.{IsPlanOf}
 use Rattle.shop_book.specs.Keeping.{IsKept}
 use Rattle.shop_book.specs.declared.puts.Put.{Put}
 use Rattle.shop_book.specs.Named.{AreNamed}
@@ -33,7 +37,6 @@ use Rattle.shop_book.specs.Watching.{MayCome}
 use Rattle.shop_book.specs.RowsNow.{tables_with, HasRoom}
 use Rattle.shop_book.specs.Settles.{IsNext}
 use Rattle.shop_book.specs.Stored.{stored, HasPlaces, MorePlaces}
-use Rattle.shop_book.proofs.KeptLists.{lists_later}
 use Rattle.shop_book.proofs.Callers.{entries_mine, entries_theirs}
 use Rattle.shop_book.proofs.Readiness.{are_ready}
 
@@ -44,6 +47,10 @@ with_entry b entry = record { opening = b.opening; log = b.log ++ entry ∷ []; 
 -- customers of sound tables are found by name
 pub sound_named : (t : Tables) → Sound t → AreNamed t.customers
 sound_named t sound = record { users = sound.users; ids = sound.ids.customers }
+
+-- rows that make of some tables others are the rows of these
+pub rows_again : (t u : Tables) (rows : Rows) → tables_with t rows ≡ u → tables_with u rows ≡ u
+rows_again t u rows is = ap (λ (v : Tables). tables_with v rows) (sym is) ∙ is
 
 module _ (b now : BookValue) (is_book : IsBook b) (entry : Entry) (writes : List Write) (same_now : b ≡ now) (comes : IsNext now entry writes) where
   pub next : IsNext b entry writes
@@ -58,6 +65,7 @@ module _ (b now : BookValue) (is_book : IsBook b) (entry : Entry) (writes : List
     carts = omega (arith, good_now.room_for.carts, ap (λ (t : Tables). length t.carts) are);
     customers = omega (arith, good_now.room_for.customers, ap (λ (t : Tables). length t.customers) are);
     addresses = omega (arith, good_now.room_for.addresses, ap (λ (t : Tables). length t.addresses) are);
+    orders = omega (arith, good_now.room_for.orders, ap (λ (t : Tables). length t.orders) are);
     named = subst AreNamed (sym (ap (λ (t : Tables). t.customers) are)) (sound_named (tables_of b) good_now.sound);
   }
 
@@ -68,10 +76,6 @@ module _ (b now : BookValue) (is_book : IsBook b) (entry : Entry) (writes : List
     -- the ids of the rows after the writes fit
     ids_fit : IdsFit (written (tables_of b) entry.stamp writes)
     ids_fit = let good = good_later in subst IdsFit (sym next.makes.tables_are) (grind (arith, good.room_for))
-
-    -- and customers are found by name
-    named_later : AreNamed (written (tables_of b) entry.stamp writes).customers
-    named_later = subst (λ (t : Tables). AreNamed t.customers) (sym next.makes.tables_are) (sound_named _ good_later.sound)
 
     follows : MayFollow b.opening.tables b.log entry
     follows = record {
@@ -117,51 +121,63 @@ module _ (b now : BookValue) (is_book : IsBook b) (entry : Entry) (writes : List
       pub are_fit : AreFit rows entry.stamp writes
       are_fit = record { tables = b.opening.tables; fits = fits_kept; bound = next.bound }
 
-      -- rows with room are the same rows, and prepared writes make what the writes make
-      module _ (roomy : Rows) (same : tables_with b.opening.tables roomy ≡ tables_with b.opening.tables rows)
-          (puts : List Put) (prepared : all_put (tables_with b.opening.tables rows) entry.stamp puts ≡ written (tables_with b.opening.tables rows) entry.stamp writes) where
-        puts_make : all_put (tables_with b.opening.tables roomy) entry.stamp puts ≡ written (tables_of b) entry.stamp writes
-        puts_make = ap (λ (t : Tables). all_put t entry.stamp puts) same ∙ prepared ∙ ap (λ (t : Tables). written t entry.stamp writes) kept.rows_are
+      -- rows and lists with room, what is kept of the act, and prepared writes
+      module _ (roomy : Rows) (same : (t : Tables) → tables_with t roomy ≡ tables_with t rows) (wide : Lists) (wide_are : (t : Tables) → AreLists t lists → AreLists t wide)
+          (plan : Plan) (planned : (t : Tables) → IsPlanOf (tables_with t rows) entry.act plan)
+          (puts : List Put) (prepared : (t : Tables) → all_put (tables_with t rows) entry.stamp puts ≡ written (tables_with t rows) entry.stamp writes) where
+        roomy_are : tables_with b.opening.tables roomy ≡ tables_of b
+        roomy_are = same b.opening.tables ∙ kept.rows_are
+
+        puts_make : all_put (tables_of b) entry.stamp puts ≡ written (tables_of b) entry.stamp writes
+        puts_make =
+            ap (λ (t : Tables). all_put t entry.stamp puts) (sym kept.rows_are) ∙ prepared b.opening.tables ∙ ap (λ (t : Tables). written t entry.stamp writes) kept.rows_are
 
         pub ready : HasRoom roomy (length puts) → All IsWhole puts → AreReady roomy entry.stamp puts
-        ready room whole = are_ready b.opening.tables roomy entry.stamp puts room whole (subst IdsFit (sym puts_make) ids_fit) next.bound
+        ready room whole =
+            are_ready b.opening.tables roomy entry.stamp puts room whole
+            (subst IdsFit (sym (ap (λ (t : Tables). all_put t entry.stamp puts) roomy_are ∙ puts_make)) ids_fit) next.bound
 
-        pub named : (t : Tables) × AreNamed (all_put (tables_with t roomy) entry.stamp puts).customers
-        named = (b.opening.tables, subst (λ (t : Tables). AreNamed t.customers) (sym puts_make) named_later)
+        pub is_change : IsChange (tables_of b) entry.act roomy wide plan entry.stamp puts
+        is_change = record {
+          rows_are = rows_again b.opening.tables (tables_of b) roomy roomy_are;
+          lists_are = wide_are (tables_of b) kept.lists_are;
+          sound = good_now.sound;
+          passes = next.makes.passes;
+          plan_is = subst (λ (t : Tables). IsPlanOf t entry.act plan) kept.rows_are (planned b.opening.tables);
+          made = puts_make ∙ next.makes.tables_are;
+          sound_after = good_later.sound;
+        }
 
         -- and what a change makes of them, and of the versions and counts with room
-        module _ (later : Rows) (wide raised : Versions) (counted : Counts)
-            (made : tables_with b.opening.tables later ≡ all_put (tables_with b.opening.tables roomy) entry.stamp puts) where
-          later_are : tables_with b.opening.tables later ≡ tables_of (with_entry b entry)
-          later_are = made ∙ puts_make ∙ tables_after
+        pub kept_after : (later : Rows) (wider raised : Versions) (counted : Counts) (moved : Lists)
+            → tables_with (tables_of b) later ≡ after (tables_of b) entry.stamp entry.act → HasPlaces raised later → ((key : Key) → stored wider key ≡ stored versions key)
+            → RaisedFor (tables_of b) (after (tables_of b) entry.stamp entry.act) (length b.log + 1) (may_change (tables_of b) entry.act) (stored wider) (stored raised)
+            → ((caller : ℕ) → count_in counted caller ≡ with_count (count_in counts) entry.caller entry.number caller) → AreLists (after (tables_of b) entry.stamp entry.act) moved
+            → IsKept (with_entry b entry) later raised counted moved
+        kept_after later wider raised counted moved made places same_versions rises counts_are lists_are =
+            let pushed : after (tables_of b) entry.stamp entry.act ≡ tables_of (with_entry b entry) = sym (tables_push b.opening.tables b.log entry) in
+            record {
+              is_book = book_after;
+              rows_are = ap (λ (t : Tables). tables_with t later) roomy_are ∙ made ∙ pushed;
+              places = places;
+              versions_are =
+                  versions_after b.opening.tables b.log entry (may_change (tables_of b) entry.act) (stored wider) (stored raised) (λ key. same_versions key ∙ kept.versions_are key)
+                  (subst (λ (t : Tables). RaisedFor (tables_of b) t (length b.log + 1) (may_change (tables_of b) entry.act) (stored wider) (stored raised)) pushed rises)
+                  stays;
+              counts_are = λ caller. counts_are caller ∙ counts_after (count_in counts) kept.counts_are caller;
+              lists_are = subst (λ (t : Tables). AreLists t moved) pushed lists_are;
+            }
 
-          pub kept_after : (keys : List Key) → keys ≡ may_change (tables_with b.opening.tables rows) entry.act → HasPlaces raised later → ((key : Key) → stored wide key ≡ stored versions key)
-              → RaisedFor (tables_with b.opening.tables roomy) (tables_with b.opening.tables later) (length b.log + 1) keys (stored wide) (stored raised)
-              → ((caller : ℕ) → count_in counted caller ≡ with_count (count_in counts) entry.caller entry.number caller)
-              → IsKept (with_entry b entry) later raised counted lists
-          kept_after keys are places same_versions rises counts_are = record {
-            is_book = book_after;
-            rows_are = later_are;
-            places = places;
-            versions_are =
-                versions_after b.opening.tables b.log entry (may_change (tables_of b) entry.act) (stored wide) (stored raised) (λ key. same_versions key ∙ kept.versions_are key)
-                (subst (λ (t : Tables). RaisedFor (tables_of b) t (length b.log + 1) (may_change (tables_of b) entry.act) (stored wide) (stored raised)) later_are
-                (subst (λ (t : Tables). RaisedFor t (tables_with b.opening.tables later) (length b.log + 1) (may_change (tables_of b) entry.act) (stored wide) (stored raised)) (same ∙ kept.rows_are)
-                (subst (λ (ks : List Key). RaisedFor (tables_with b.opening.tables roomy) (tables_with b.opening.tables later) (length b.log + 1) ks (stored wide) (stored raised)) (are ∙ ap (λ (t : Tables). may_change t entry.act) kept.rows_are) rises)))
-                stays;
-            counts_are = λ caller. counts_are caller ∙ counts_after (count_in counts) kept.counts_are caller;
-            lists_are = lists_later b entry lists kept.lists_are;
-          }
-
--- rows, versions and counts with more room are kept too
-pub kept_roomy : (b : BookValue) (rows roomy : Rows) (versions wide : Versions) (counts counted : Counts) (lists : Lists) → IsKept b rows versions counts lists → ((t : Tables) → tables_with t roomy ≡ tables_with t rows)
-    → ((key : Key) → stored wide key ≡ stored versions key) → MorePlaces versions wide → ((caller : ℕ) → count_in counted caller ≡ count_in counts caller) → IsKept b roomy wide counted lists
-kept_roomy b rows roomy versions wide counts counted lists kept same same_versions more same_counts =
+-- rows, versions, counts and lists with more room are kept too
+pub kept_roomy : (b : BookValue) (rows roomy : Rows) (versions wide : Versions) (counts counted : Counts) (lists more_lists : Lists) → IsKept b rows versions counts lists → ((t : Tables) → tables_with t roomy ≡ tables_with t rows)
+    → ((key : Key) → stored wide key ≡ stored versions key) → MorePlaces versions wide → ((caller : ℕ) → count_in counted caller ≡ count_in counts caller) → ((t : Tables) → AreLists t lists → AreLists t more_lists)
+    → IsKept b roomy wide counted more_lists
+kept_roomy b rows roomy versions wide counts counted lists more_lists kept same same_versions more same_counts same_lists =
     record {
       is_book = kept.is_book;
       rows_are = same b.opening.tables ∙ kept.rows_are;
       places = grind (arith, same b.opening.tables, kept.places, more);
       versions_are = λ key. same_versions key ∙ kept.versions_are key;
       counts_are = λ caller. same_counts caller ∙ kept.counts_are caller;
-      lists_are = kept.lists_are;
+      lists_are = same_lists (tables_of b) kept.lists_are;
     }

@@ -1,11 +1,7 @@
 -- What is kept of a log with no entries yet, and what the rows kept say of the tables now.
-use Rattle.std.proofs.Common.{◌≡◌, ℕ, ◌+◌, ◌-◌, ◌≤◌, Bool, List, [], length, sym, ◌∙◌, ap, subst, arith}
-use Rattle.std.specs.List.{list_any}
-use Rattle.std.specs.Str.{bytes_eq}
+use Rattle.std.proofs.Common.{◌≡◌, ℕ, ◌+◌, ◌-◌, ◌≤◌, Bool, List, [], length, sym, ◌∙◌, subst, arith}
 use Rattle.std.proofs.lemmas.List.Elements.{All-nil}
 use Rattle.shop_log.specs.Histories.Legal.{nothing}
-use Rattle.shop_model.specs.declared.tables.Tables.{Tables}
-use Rattle.shop_model.specs.rows.Rows.{OrderRow}
 use Rattle.shop_model.specs.rows.Sound.{Sound}
 use Rattle.shop_history.specs.declared.acts.Entry.{Entry}
 use Rattle.shop_history.specs.declared.keys.Key.{Key}
@@ -19,6 +15,7 @@ use Rattle.shop_book.specs.declared.rows.Rows.{Rows}
 use Rattle.shop_book.specs.declared.versions.Versions.{Versions}
 use Rattle.shop_book.specs.Books.{BookValue, IsBook, tables_of}
 use Rattle.shop_book.specs.Counted.{count_in}
+use Rattle.shop_book.specs.Auths.{has_in}
 use Rattle.shop_book.specs.KeptLists.{AreLists}
 use Rattle.shop_book.specs.Keeping.{IsKept}
 use Rattle.shop_book.specs.Openings.{IsOpening}
@@ -44,6 +41,6 @@ module _ (b : BookValue) (rows : Rows) (is_book : IsBook b) (rows_are : tables_w
   pub sound_now : Sound (tables_with b.opening.tables rows)
   sound_now = subst Sound (sym rows_are) good_now.sound
 
-  pub auth_is : (auth : List ℕ) (orders : List OrderRow) (found : Bool) → orders ≡ rows.orders.items → found ≡ list_any (λ o. bytes_eq o.card.auth auth) orders → found ≡ has_auth (tables_of b) auth
-  unfolding has_auth
-  auth_is auth orders found all is = is ∙ ap (list_any (λ (o : OrderRow). bytes_eq o.card.auth auth)) (all ∙ ap (λ (t : Tables). t.orders) rows_are)
+pub auth_is : (b : BookValue) (lists : Lists) → AreLists (tables_of b) lists → (auth : List ℕ) (found : Bool) → found ≡ has_in lists.auths auth → found ≡ has_auth (tables_of b) auth
+unfolding has_auth
+auth_is b lists are auth found is = is ∙ are.auths auth

@@ -1,5 +1,5 @@
 -- The latest orders as they come one by one, and lists of units and of subjects.
-use Rattle.std.proofs.Common.{◌≡◌, ℕ, zero, suc, ◌+◌, ◌-◌, ◌≤◌, ◌<◌, ◌==◌, Bool, true, false, cond, List, [], ◌∷◌, ◌++◌, length, map, take, drop, set, get_or, All, refl, sym, ◌∙◌, ap, arith, length-append}
+use Rattle.std.proofs.Common.{◌≡◌, ℕ, zero, suc, ◌+◌, ◌-◌, ◌≤◌, ◌<◌, ◌==◌, Bool, true, false, cond, List, [], ◌∷◌, ◌++◌, length, map, take, drop, set, get_or, All, refl, sym, ◌∙◌, ap, subst, arith, length-append}
 use Rattle.std.specs.Prelude.{filter, sum_by, slice_get, Some}
 use Rattle.std.proofs.lemmas.List.{length-drop, length-map, drop-append-le, drop-drop, map-append, take_all, take_more, take_more_set}
 use Rattle.std.proofs.lemmas.List.Sums.{sum_by-cons}
@@ -11,11 +11,15 @@ use Rattle.shop_model.specs.rows.Limits.{counted_orders, recent_orders}
 use Rattle.shop_model.specs.rows.Rows.{ItemRow, LineRow, OrderRow}
 use Rattle.shop_model.specs.rows.Sound.{Sound, units_in}
 use Rattle.shop_model.specs.rows.Subjects.{subjects}
-use Rattle.shop_history.specs.declared.acts.Entry.{Entry}
-use Rattle.shop_history.specs.Logs.{tables}
-use Rattle.shop_history.proofs.cited.KeptTables.{kept}
+use Rattle.shop_model.specs.declared.buying.Buyer.{Buyer}
+use Rattle.shop_model.specs.declared.buying.Buyer.TheVariants.{Returning, Newcomer}
+use Rattle.shop_model.specs.trade.Buyers.{tables_entered}
+use Rattle.shop_history.specs.declared.acts.Act.{Act}
+use Rattle.shop_history.specs.declared.acts.Act.TheVariants as act
+use Rattle.shop_history.specs.Acts.{play}
 use Rattle.shop_book.specs.declared.lists.Lists.{Lists}
-use Rattle.shop_book.specs.Books.{BookValue, tables_of}
+use Rattle.shop_book.specs.Planning.{SellsNothing}
+use Rattle.shop_book.specs.Auths.{AreAuths}
 use Rattle.shop_book.specs.KeptLists.{IsAdmitted, AreLists}
 
 -- the latest
@@ -62,7 +66,7 @@ orders_admitted t sound = λ k d within. record { few = (sound.lines k d within)
 
 -- the units of an item
 
-units_of_lines : (item : ℕ) (lines : List LineRow) → units_in_lines item (map (λ l. (l.item, l.quantity)) lines) ≡ units_in item lines
+pub units_of_lines : (item : ℕ) (lines : List LineRow) → units_in_lines item (map (λ l. (l.item, l.quantity)) lines) ≡ units_in item lines
 units_of_lines item [] = refl
 units_of_lines item (line ∷ lines) = one_more (line.item == item) (units_of_lines item lines)
   where
@@ -114,18 +118,20 @@ module _ (t u : Tables) (items : u.items ≡ t.items) (orders : u.orders ≡ t.o
   unfolding sold_lately
   sold_same item = ap (λ (os : List OrderRow). sum_by (λ o. units_in item o.lines) (latest_orders os)) orders
 
-  best_same : (subject : Subject) → best u subject ≡ best t subject
+  pub best_same : (subject : Subject) → best u subject ≡ best t subject
   unfolding best sold_lately
   best_same subject =
       ap (λ (is : List ItemRow). best (record t { items = is; orders = u.orders }) subject) items
       ∙ ap (λ (os : List OrderRow). best (record t { orders = os }) subject) orders
 
-  newest_same : (subject : Subject) → newest u subject ≡ newest t subject
+  pub newest_same : (subject : Subject) → newest u subject ≡ newest t subject
   unfolding newest
   newest_same subject = ap (λ (is : List ItemRow). newest (record t { items = is }) subject) items
 
   pub lists_same : (lists : Lists) → AreLists t lists → AreLists u lists
   lists_same lists are = record {
+    sold_items = are.sold_items ∙ ap length (sym items);
+    recent_items = are.recent_items ∙ ap length (sym items);
     sold = are.sold ∙ ap (λ (os : List OrderRow). map sold_of (last counted_orders os)) (sym orders);
     recent = are.recent ∙ ap (λ (os : List OrderRow). map sold_of (last recent_orders os)) (sym orders);
     units = record {
@@ -139,11 +145,21 @@ module _ (t u : Tables) (items : u.items ≡ t.items) (orders : u.orders ≡ t.o
     };
     newest_rows = are.newest_rows ∙ ap (λ (f : Subject → List ℕ). map f subjects) (λ i subject. sym (newest_same subject) i);
     best_rows = are.best_rows ∙ ap (λ (f : Subject → List ℕ). map f subjects) (λ i subject. sym (best_same subject) i);
+    auths = subst (λ (os : List OrderRow). AreAuths os lists.auths) (sym orders) are.auths;
   }
 
--- no act changes items or orders yet
-pub lists_later : (b : BookValue) (entry : Entry) (lists : Lists) → AreLists (tables_of b) lists → AreLists (tables b.opening.tables (b.log ++ entry ∷ [])) lists
-lists_later b entry lists =
-    let before = kept b.opening.tables b.log in
-    let after = kept b.opening.tables (b.log ++ entry ∷ []) in
-    lists_same (tables_of b) (tables b.opening.tables (b.log ++ entry ∷ [])) (after.items ∙ sym before.items) (after.orders ∙ sym before.orders) lists
+-- an act that sells nothing leaves items and orders as they are
+
+enter_items : (t : Tables) (stamp draw : ℕ) (buyer : Buyer) → (tables_entered t stamp draw buyer).items ≡ t.items
+enter_items t stamp draw (Returning asked) = refl
+enter_items t stamp draw (Newcomer asked) = refl
+
+enter_orders : (t : Tables) (stamp draw : ℕ) (buyer : Buyer) → (tables_entered t stamp draw buyer).orders ≡ t.orders
+enter_orders t stamp draw (Returning asked) = refl
+enter_orders t stamp draw (Newcomer asked) = refl
+
+pub lists_kept : (t : Tables) (stamp : ℕ) (a : Act) (lists : Lists) → SellsNothing a → AreLists t lists → AreLists (play t stamp a).tables lists
+lists_kept t stamp (act.Cart asked draw) lists nothing are = lists_same t (play t stamp (act.Cart asked draw)).tables refl refl lists are
+lists_kept t stamp (act.Enter asked draw) lists nothing are =
+    lists_same t (tables_entered t stamp draw asked.buyer) (enter_items t stamp draw asked.buyer) (enter_orders t stamp draw asked.buyer) lists are
+lists_kept t stamp (act.Confirm asked draw auth) lists nothing are = absurd nothing

@@ -15,7 +15,7 @@ use Rattle.shop_history.proofs.cited.Places.{is_there, some_row, all_numbered, i
 use Rattle.shop_book.specs.Named.{AreNamed, named_id}
 
 -- where a row passes the test, one is found
-some_found : {A : Type 0} (p : A → Bool) (xs : List A) (i : ℕ) (x : A) → slice_get xs i ≡ Some x → p x ≡ true → find p xs ≡ None → ⊥
+pub some_found : {A : Type 0} (p : A → Bool) (xs : List A) (i : ℕ) (x : A) → slice_get xs i ≡ Some x → p x ≡ true → find p xs ≡ None → ⊥
 some_found p [] i x at passes none = absurd cc
 some_found {A} p (y ∷ ys) zero x at passes none =
     let here : p y ≡ true = (let same : y ≡ x = cc in ap p same ∙ passes) in

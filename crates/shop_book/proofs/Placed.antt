@@ -16,11 +16,11 @@ use Rattle.shop_history.specs.Same.{same}
 use Rattle.shop_history.proofs.cited.Places.{IsThere, is_there}
 use Rattle.shop_book.specs.declared.rows.Rows.{Rows}
 use Rattle.shop_book.specs.declared.versions.Versions.{Versions}
-use Rattle.shop_book.specs.Stored.{HasPlace, HasPlaces, MorePlaces}
+use Rattle.shop_book.specs.Stored.{HasPlace, HasPlaces, MorePlaces, subject_id}
 use Rattle.shop_book.specs.RowsNow.{tables_with}
 use Rattle.shop_book.specs.Watching.{CanWatch, IsWatchable}
 
-has_row : {A : Type 0} (rows : List A) (id : ℕ) (x : A) → row_numbered rows id ≡ Some x → Has (length rows) id
+pub has_row : {A : Type 0} (rows : List A) (id : ℕ) (x : A) → row_numbered rows id ≡ Some x → Has (length rows) id
 has_row rows id x is =
     let there : IsThere rows id x = is_there rows id x is in
     record { first = there.above; last = omega (arith, slice_get_within rows (id - 1) x there.at, there.above) }
@@ -35,15 +35,15 @@ more_place old new (key.TheVariants.Label id) more has = absurd has
 more_place old new (key.TheVariants.Customer id) more has = more_places _ _ id more.customers has
 more_place old new (key.TheVariants.Cart id) more has = more_places _ _ id more.carts has
 more_place old new (key.TheVariants.NewIn subject) more has = absurd has
-more_place old new (key.TheVariants.BestIn subject) more has = absurd has
-more_place old new (key.TheVariants.Buyers item) more has = absurd has
-more_place old new (key.TheVariants.Bought customer) more has = absurd has
+more_place old new (key.TheVariants.BestIn subject) more has = more_places _ _ (subject_id subject) (omega (arith, more.best_in)) has
+more_place old new (key.TheVariants.Buyers item) more has = more_places _ _ item more.buyers has
+more_place old new (key.TheVariants.Bought customer) more has = more_places _ _ customer more.bought has
 more_place old new (key.TheVariants.Name user) more has = tt
 more_place old new (key.TheVariants.Address id) more has = more_places _ _ id more.addresses has
 more_place old new (key.TheVariants.SameAddress text) more has = tt
 more_place old new (key.TheVariants.Country id) more has = absurd has
 more_place old new (key.TheVariants.Order id) more has = more_places _ _ id more.orders has
-more_place old new (key.TheVariants.LastOrder customer) more has = absurd has
+more_place old new (key.TheVariants.LastOrder customer) more has = more_places _ _ customer more.last_orders has
 
 -- a row that is shown is one of so many
 shown_has : {A : Type 0} (make : A → Row) (rows : List A) (id size : ℕ) → length rows ≤ size → shown make (row_numbered rows id) ≢ row.Absent → Has size id

@@ -1,8 +1,8 @@
 -- What raising the version of a watched key does to the versions of all keys.
-use Rattle.std.proofs.Common.{◌≡◌, ◌≢◌, ℕ, ◌+◌, List, [], ◌∷◌, ◌++◌, length, Contains, ◌⊎◌, inl, inr, ⊎_elim, sym, ◌∙◌, ap, subst}
+use Rattle.std.proofs.Common.{◌≡◌, ◌≢◌, ℕ, ◌+◌, List, [], ◌∷◌, ◌++◌, length, arith, Contains, ◌⊎◌, inl, inr, ⊎_elim, sym, ◌∙◌, ap, subst}
 use Rattle.std.proofs.lemmas.List.{map-append}
 use Rattle.std.specs.Prelude.{All, Option, Some, None}
-use Rattle.std.proofs.lemmas.List.Elements.{All-nil, All-cons, Contains-push_cases}
+use Rattle.std.proofs.lemmas.List.Elements.{All-nil, All-cons, Contains-push, Contains-append_left, Contains-push_cases}
 use Rattle.shop_model.specs.declared.address.Address.{Address}
 use Rattle.shop_model.specs.declared.address.AddressText.{AddressText}
 use Rattle.shop_model.specs.declared.buying.Buyer.{Buyer}
@@ -23,12 +23,14 @@ use Rattle.shop_history.proofs.cited.Versions.{RaisedFor}
 use Rattle.shop_history.specs.Same.{same}
 use Rattle.shop_book.specs.declared.rows.Rows.{Rows}
 use Rattle.shop_book.specs.declared.versions.Versions.{Versions}
+use Rattle.shop_book.specs.Planning.{SellsNothing}
 use Rattle.shop_book.specs.RowsNow.{tables_with}
-use Rattle.shop_book.specs.Stored.{stored}
+use Rattle.shop_book.specs.Changing.{RaisesAll}
+use Rattle.shop_book.specs.Stored.{stored, HasSpare, SpareFor, SparesFor, SparesOne}
 use Rattle.shop_book.specs.Watching.{IsWatchable, keys_of, RaisesOne}
 use Rattle.shop_log.proofs.cited.Codes.{decided_by}
 
-key_cases : (one other : Key) → (one ≡ other) ⊎ (one ≢ other)
+pub key_cases : (one other : Key) → (one ≡ other) ⊎ (one ≢ other)
 key_cases one other =
     elim (decided_by the_field.row.coded the_field.into the_field.into_one one other) as (λ _. (one ≡ other) ⊎ (one ≢ other)) [ yes is ↦ inl is | no apart ↦ inr apart ]
 
@@ -68,14 +70,59 @@ module _ (before t : Tables) (rows : Rows) (number : ℕ) (keys : List Key) (old
         (key_cases key kept.key);
   }
 
+-- one key more that is raised whatever it shows
+pub all_more : (number : ℕ) (keys : List Key) (key : Key) (old mid next : Key → ℕ) → RaisesAll keys number old mid → next key ≡ number → ((other : Key) → other ≢ key → next other ≡ mid other)
+    → RaisesAll (keys ++ key ∷ []) number old next
+all_more number keys key old mid next raised here others = record {
+  each = λ k.
+      ⊎_elim
+      (λ (is : k ≡ key). inr (subst (Contains (keys ++ key ∷ [])) (sym is) (Contains-push keys key), ap next is ∙ here))
+      (λ (apart : k ≢ key).
+      ⊎_elim (λ (same : mid k ≡ old k). inl (others k apart ∙ same)) (λ (rose : Contains keys k × (mid k ≡ number)). inr (Contains-append_left keys (key ∷ []) k rose.0, others k apart ∙ rose.1)) (raised.each k))
+      (key_cases k key);
+  all = λ k has.
+      ⊎_elim
+      (λ (is : k ≡ key). ap next is ∙ here)
+      (λ (apart : k ≢ key).
+      ⊎_elim (λ (before : Contains keys k). others k apart ∙ raised.all k before) (λ (is : key ≡ k). absurd (apart (sym is))) (Contains-push_cases keys key k has))
+      (key_cases k key);
+}
+
+-- room for one key more that is a text
+
+pub spare_one : (k : Key) (v : Versions) → HasSpare v 1 → SpareFor k v
+spare_one (key.Name user) v spare = spare
+spare_one (key.SameAddress text) v spare = spare
+spare_one _ v spare = tt
+
+less_spare : (v : Versions) (more : ℕ) → HasSpare v (more + 1) → HasSpare v more
+less_spare v more spare = grind (arith, spare)
+
+pub spares_one : (k : Key) (old new : Versions) → SparesFor k old new → SparesOne old new
+spares_one (key.Name user) old new spares = spares
+spares_one (key.SameAddress text) old new spares = spares
+spares_one (key.Item id) old new spares = λ more room. spares more (less_spare old more room)
+spares_one (key.Label id) old new spares = λ more room. spares more (less_spare old more room)
+spares_one (key.Customer id) old new spares = λ more room. spares more (less_spare old more room)
+spares_one (key.Cart id) old new spares = λ more room. spares more (less_spare old more room)
+spares_one (key.NewIn subject) old new spares = λ more room. spares more (less_spare old more room)
+spares_one (key.BestIn subject) old new spares = λ more room. spares more (less_spare old more room)
+spares_one (key.Buyers item) old new spares = λ more room. spares more (less_spare old more room)
+spares_one (key.Bought customer) old new spares = λ more room. spares more (less_spare old more room)
+spares_one (key.Address id) old new spares = λ more room. spares more (less_spare old more room)
+spares_one (key.Country id) old new spares = λ more room. spares more (less_spare old more room)
+spares_one (key.Order id) old new spares = λ more room. spares more (less_spare old more room)
+spares_one (key.LastOrder customer) old new spares = λ more room. spares more (less_spare old more room)
+
 -- the keys of one more
 pub keys_more : (watched : List Watched) (kept : Watched) → keys_of (watched ++ kept ∷ []) ≡ keys_of watched ++ kept.key ∷ []
 keys_more watched kept = map-append (λ (w : Watched). w.key) watched (kept ∷ [])
 
--- the keys that an act may change are watched
-pub may_change_watchable : (t : Tables) (a : Act) → All IsWatchable (may_change t a)
-may_change_watchable t (act.Cart asked draw) = All-cons IsWatchable _ [] tt (All-nil IsWatchable)
-may_change_watchable t (act.Enter asked draw) = of asked.buyer
+-- the keys that an act may change that sells nothing are watched
+pub may_change_watchable : (t : Tables) (a : Act) → SellsNothing a → All IsWatchable (may_change t a)
+may_change_watchable t (act.Confirm asked draw auth) nothing = absurd nothing
+may_change_watchable t (act.Cart asked draw) nothing = All-cons IsWatchable _ [] tt (All-nil IsWatchable)
+may_change_watchable t (act.Enter asked draw) nothing = of asked.buyer
   where
     login : (customer : Option CustomerRow) → All IsWatchable (login_changes customer)
     login None = All-nil IsWatchable

@@ -11,7 +11,12 @@ pub mod Sizes
 pub mod Stored
 pub mod Counted
 pub mod Watching
+pub mod Auths
+pub mod Listings
 pub mod KeptLists
+pub mod Sales
+pub mod Planning
+pub mod Changing
 pub mod Keeping
 pub mod Settles
 pub mod Summaries

@@ -7,6 +7,10 @@ use Rattle.shop_model.specs.rows.Rows.{OrderRow}
 use Rattle.shop_book.specs.Books.{BookValue, tables_of}
 use Rattle.shop_book.specs.declared.summary.Summary.{Summary}
 
+-- more than an order is charged, in cents: it has a hundred lines at most, of 999 units at 9,999.99 each
+abbrev pub charge_limit : ℕ
+charge_limit = 300_000_000_000
+
 -- the orders that came after the opening
 abbrev pub new_orders : Tables → List OrderRow
 new_orders t = filter (λ o. nat_lt t.born_orders o.id) t.orders

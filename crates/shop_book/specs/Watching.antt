@@ -26,6 +26,7 @@ pub record MayCome (rows : Rows) : Type 0 where
   pub carts : length rows.carts.items + 1 < 2 ^ 32
   pub customers : length rows.customers.items + 1 < 2 ^ 32
   pub addresses : length rows.addresses.rows + 1 < 2 ^ 32
+  pub orders : length rows.orders.items + 1 < 2 ^ 32
   pub named : AreNamed rows.customers.items
 
 -- a watched key, which has a place for a version where it showed a row

@@ -16,12 +16,12 @@ ghost use Rattle.shop_book.specs.Summaries as spec;
 use crate::changes::{change_rows, make_room};
 use crate::counts::Counts;
 use crate::lists::Lists;
-use crate::orders::some_auth;
+use crate::orders::cents_of;
+use crate::plan::Plan;
 use crate::puts::puts_of;
 use crate::rows::Rows;
 use crate::shown::shown;
 use crate::versions::Versions;
-use crate::watching::watch;
 use crate::{Opening, Summary};
 use shop_attempt::{Attempt, Conflict, ReadOf, Settle, Write};
 use shop_history::{Drawn, Entry, Ids, Key, Row};
@@ -80,14 +80,15 @@ impl Book {
     }
 
     /// What a key shows, and its version.
-    pub fn read(&self, key: &Key) -> Result<(Row, u64), Memory>
-        ensures row { IfOk result (λ read. read.0 ≡ keys.row_of (tables_of self.now) key.now) }
-        ensures version { IfOk result (λ read. read.1 ≡ version_of self.now.opening.tables self.now.log key.now) }
-        ensures shortest { IfOk result (λ read. IsShortest self.now.opening.tables self.now.log key.now read.1) }
-        ensures kept { IsBook self.now }
-        ensures sound { IsGoodThroughout self.now }
+    pub fn read(&mut self, key: &Key) -> Result<(Row, u64), Memory>
+        ensures row { IfOk result (λ read. read.0 ≡ keys.row_of (tables_of self.old) key.now) }
+        ensures version { IfOk result (λ read. read.1 ≡ version_of self.old.opening.tables self.old.log key.now) }
+        ensures shortest { IfOk result (λ read. IsShortest self.old.opening.tables self.old.log key.now read.1) }
+        ensures same { self.new ≡ self.old }
+        ensures kept { IsBook self.old }
+        ensures sound { IsGoodThroughout self.old }
     {
-        let row = shown(&self.opening.tables, &self.rows, &self.lists, key)?;
+        let row = shown(&self.opening.tables, &self.rows, &mut self.lists, key)?;
         Ok((row, self.versions.of(key)))
     }
 
@@ -134,15 +135,16 @@ impl Book {
         self.latest
     }
 
-    /// What the book has come to. No act makes an order yet.
+    /// What the book has come to.
     pub fn summary(&self) -> Summary
         ensures value { result ≡ spec.summary_of self.now }
         ensures kept { IsBook self.now }
     {
+        let orders = &self.rows.orders[self.opening.tables.born_orders as usize..];
         Summary {
             entries: self.log.len() as u64,
-            orders: 0,
-            cents: 0,
+            orders: orders.len() as u64,
+            cents: cents_of(orders),
         }
     }
 
@@ -151,7 +153,7 @@ impl Book {
         ensures value { result ≡ spec.has_auth (tables_of self.now) auth.now }
         ensures kept { IsBook self.now }
     {
-        some_auth(&self.rows.orders, auth)
+        self.lists.auths.has(auth)
     }
 
     /// The latest 3,333 orders, which best sold items are counted over.
@@ -251,18 +253,19 @@ impl Book {
         ensures kept { IsBook self.new }
     {
         let alloc = *self.log.allocator();
-        let Ok(watched) = watch(alloc, &self.rows, &entry.act) else {
+        let Ok(plan) = Plan::of(alloc, &self.rows, &entry.act) else {
             return Settle::Memory;
         };
         let Ok(puts) = puts_of(alloc, &self.rows, entry.stamp, writes) else {
             return Settle::Memory;
         };
-        let (more, keys) = (puts.len(), watched.len());
+        let (more, keys) = (puts.len(), plan.len());
         if !make_room(
             &mut self.log,
             &mut self.rows,
             &mut self.versions,
             &mut self.counts,
+            &mut self.lists,
             more,
             keys,
         ) {
@@ -272,7 +275,8 @@ impl Book {
         let ids = change_rows(
             &mut self.rows,
             &mut self.versions,
-            watched,
+            &mut self.lists,
+            plan,
             stamp,
             front,
             puts,

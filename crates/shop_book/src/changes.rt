@@ -1,26 +1,30 @@
 ghost use Rattle.std.specs.Prelude.{◌≡◌, ℕ, ◌+◌, ◌<◌, ◌≤◌, All, length, vec_len, vec_capacity};
 ghost use Rattle.std.specs.Bool.{OnTrue};
 ghost use Rattle.shop_model.specs.declared.tables.Tables.{Tables};
+ghost use Rattle.shop_history.specs.declared.acts.Act.{Act};
 ghost use Rattle.shop_history.specs.declared.keys.Key.{Key};
+ghost use Rattle.shop_history.specs.MayChange.{may_change};
 ghost use Rattle.shop_history.specs.Drawing as drawing;
 ghost use Rattle.shop_history.proofs.cited.Versions.{RaisedFor};
 ghost use Rattle.shop_book.specs.Counted as counted;
-ghost use Rattle.shop_book.specs.Named.{AreNamed};
-ghost use Rattle.shop_book.specs.Puts.{all_put};
+ghost use Rattle.shop_book.specs.Changing.{after, IsChange, IsDone, AreWatchable, RaisesAll};
+ghost use Rattle.shop_book.specs.KeptLists.{AreLists, HasRoom};
+ghost use Rattle.shop_book.specs.Planning.{keys_in};
 ghost use Rattle.shop_book.specs.Readiness.{AreReady};
 ghost use Rattle.shop_book.specs.RowsNow as now;
 ghost use Rattle.shop_book.specs.RowsNow.{tables_with};
 ghost use Rattle.shop_book.specs.Stored as versioned;
 ghost use Rattle.shop_book.specs.Stored.{stored, HasPlaces};
-ghost use Rattle.shop_book.specs.Watching.{AreOf, IsWatchable, keys_of};
 
 use crate::counts::Counts;
 use crate::ids::Sizes;
+use crate::lists::Lists;
+use crate::plan::Plan;
 use crate::puts::Put;
 use crate::rows::Rows;
 use crate::versions::Versions;
-use crate::watching::{Watched, raise_changed};
-use shop_history::{Entry, Ids};
+use crate::watching::raise_changed;
+use shop_history::{Entry, Ids, Key};
 
 /// Makes room for an entry, for as many rows with their versions, and for those of as many keys; answers
 /// whether there is.
@@ -29,6 +33,7 @@ pub(crate) fn make_room(
     rows: &mut Rows,
     versions: &mut Versions,
     counts: &mut Counts,
+    lists: &mut Lists,
     more: usize,
     keys: usize,
 ) -> bool
@@ -42,39 +47,78 @@ pub(crate) fn make_room(
     ensures versions_room { OnTrue result (versioned.HasRoom versions.new more) }
     ensures versions_spare { OnTrue result (versioned.HasSpare versions.new keys) }
     ensures counts_room { OnTrue result (counted.HasRoom counts.new) }
+    ensures lists { (t : Tables) → AreLists t lists.old → AreLists t lists.new }
+    ensures lists_room { OnTrue result (HasRoom lists.new) }
 {
     let log_room = log.reserve(1).is_ok();
     let rows_room = rows.make_room(more);
     let versions_room = versions.make_room(more, keys);
     let counts_room = counts.make_room();
-    log_room && rows_room && versions_room && counts_room
+    let lists_room = lists.make_room();
+    log_room && rows_room && versions_room && counts_room && lists_room
 }
 
-/// Makes the writes of an act whose keys are watched, and gives those that show another row then this
-/// number as their version. The ids of the new rows.
+/// Gives each of these keys this number as its version.
+fn raise_all(versions: &mut Versions, keys: Vec<Key>, number: u64)
+    requires places { All (versioned.HasPlace versions.old) keys.items }
+    requires spare { versioned.HasSpare versions.old (length keys.items) }
+    ensures raised { RaisesAll keys.items number (stored versions.old) (stored versions.new) }
+    ensures places { versioned.MorePlaces versions.old versions.new }
+{
+    for key in keys {
+        versions.raise(key, number);
+    }
+}
+
+/// Gives the keys that show something else than before a change this number as their version, and moves
+/// the lists on.
+fn carry_out(rows: &Rows, versions: &mut Versions, lists: &mut Lists, plan: Plan, number: u64)
+    requires done { (t : Tables) × (act : Act) × (stamp : ℕ) × IsDone t act stamp rows.now lists.old plan }
+    requires places { HasPlaces versions.old rows.now }
+    requires spare { versioned.HasSpare versions.old (keys_in plan) }
+    requires room { HasRoom lists.old }
+    requires watchable { AreWatchable versions.old plan }
+    ensures lists { (t : Tables) → (act : Act) → (stamp : ℕ) → IsDone t act stamp rows.now lists.old plan → AreLists (after t stamp act) lists.new }
+    ensures raised { (t : Tables) → (act : Act) → (stamp : ℕ) → IsDone t act stamp rows.now lists.old plan
+        → RaisedFor t (after t stamp act) number (may_change t act) (stored versions.old) (stored versions.new) }
+    ensures places { HasPlaces versions.new rows.now }
+{
+    match plan {
+        Plan::Compare(watched) => raise_changed(versions, rows, watched, number),
+        Plan::Sell(keys) => {
+            raise_all(versions, keys, number);
+            lists.sell(rows, versions, number);
+        }
+    }
+}
+
+/// Makes the writes of an act. Keys that show something else then get this number as their version. The
+/// ids of the new rows.
 pub(crate) fn change_rows(
     rows: &mut Rows,
     versions: &mut Versions,
-    watched: Vec<Watched>,
+    lists: &mut Lists,
+    plan: Plan,
     stamp: u64,
     number: u64,
     puts: Vec<Put>,
 ) -> Ids
+    requires change { (t : Tables) × (act : Act) × IsChange t act rows.old lists.old plan stamp puts.items }
     requires ready { AreReady rows.old stamp puts.items }
     requires places { HasPlaces versions.old rows.old }
     requires room { versioned.HasRoom versions.old (length puts.items) }
-    requires spare { versioned.HasSpare versions.old (length watched.items) }
-    requires named { (t : Tables) × AreNamed (all_put (tables_with t rows.old) stamp puts.items).customers }
-    requires rows { (t : Tables) → AreOf (tables_with t rows.old) watched.items }
-    requires kinds { All (λ w. IsWatchable w.key) watched.items }
-    ensures made { (t : Tables) → tables_with t rows.new ≡ all_put (tables_with t rows.old) stamp puts.items }
+    requires spare { versioned.HasSpare versions.old (keys_in plan) }
+    requires lists_room { HasRoom lists.old }
+    ensures made { (t : Tables) → (act : Act) → IsChange t act rows.old lists.old plan stamp puts.items → tables_with t rows.new ≡ after t stamp act }
+    ensures lists { (t : Tables) → (act : Act) → IsChange t act rows.old lists.old plan stamp puts.items → AreLists (after t stamp act) lists.new }
+    ensures raised { (t : Tables) → (act : Act) → IsChange t act rows.old lists.old plan stamp puts.items
+        → RaisedFor t (after t stamp act) number (may_change t act) (stored versions.old) (stored versions.new) }
+    ensures ids { (t : Tables) → (act : Act) → IsChange t act rows.old lists.old plan stamp puts.items → result ≡ drawing.new_ids t (after t stamp act) }
     ensures places { HasPlaces versions.new rows.new }
-    ensures raised { (t : Tables) → RaisedFor (tables_with t rows.old) (tables_with t rows.new) number (keys_of watched.items) (stored versions.old) (stored versions.new) }
-    ensures ids { (t : Tables) → result ≡ drawing.new_ids (tables_with t rows.old) (tables_with t rows.new) }
 {
     let before = Sizes::of(rows);
     rows.put_all(stamp, puts);
     versions.grow(rows);
-    raise_changed(versions, rows, watched, number);
+    carry_out(rows, versions, lists, plan, number);
     before.new_ids(rows)
 }

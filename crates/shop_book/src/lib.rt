@@ -3,17 +3,23 @@
 #![tactic(auto)]
 
 mod addresses;
+mod auths;
 mod book;
+mod buyers;
 mod changes;
 mod copies;
 mod counts;
 mod ids;
+mod listing;
 mod lists;
 mod may_change;
 mod opening;
 mod orders;
+mod plan;
 mod puts;
+mod ranks;
 mod rows;
+mod sales;
 mod same_rows;
 mod shown;
 mod solo;

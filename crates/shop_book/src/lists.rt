@@ -8,8 +8,11 @@ ghost use Rattle.shop_model.specs.rows.Sound.{Sound, Runs};
 ghost use Rattle.shop_model.specs.rows.Subjects.{subjects};
 ghost use Rattle.shop_ranking.specs.StandingBest.{standing_best};
 ghost use Rattle.shop_ranking.specs.StandingNewest.{standing_newest};
-ghost use Rattle.shop_book.specs.KeptLists.{AreLists, IsAdmitted, UnitsAre};
+ghost use Rattle.std.specs.Bool.{OnTrue};
+ghost use Rattle.shop_book.specs.KeptLists.{AreLists, HasRoom, IsAdmitted, UnitsAre};
 
+use crate::auths::Auths;
+use crate::listing::Listing;
 use shop_history::Row;
 use shop_model::{Item, Order, Subject, Tables};
 use shop_ranking::{Best, Newest};
@@ -27,9 +30,10 @@ pub(crate) struct Lists {
     pub(crate) best: Best,
     pub(crate) newest: Newest,
     /// The best sold items of each subject, by its number, as they are shown.
-    best_rows: Vec<Shared<Listed<u32>>>,
+    pub(crate) best_rows: Vec<Listing>,
     /// The newest ones.
     newest_rows: Vec<Shared<Listed<u32>>>,
+    pub(crate) auths: Auths,
 }
 
 /// The latest of these orders.
@@ -41,7 +45,8 @@ fn window_of<const N: usize>(
     requires some { 1 ≤ N }
     requires few { N ≤ recent_orders }
     requires orders { All (IsAdmitted items) orders.now }
-    ensures { IfOk result (λ window. window.kept ≡ map sold_of (last N orders.now)) }
+    ensures items { IfOk result (λ window. window.items ≡ items) }
+    ensures kept { IfOk result (λ window. window.kept ≡ map sold_of (last N orders.now)) }
 {
     let mut window = OrderWindow::new(alloc, items)?;
     for order in orders {
@@ -63,12 +68,13 @@ fn best_of(alloc: Global, items: &[Item], sold: &OrderWindow<3_333>) -> Result<B
 }
 
 /// The best sold items of each subject, by its number.
-fn best_rows(alloc: Global, best: &Best) -> Result<Vec<Shared<Listed<u32>>>, Memory>
+fn best_rows(alloc: Global, best: &Best) -> Result<Vec<Listing>, Memory>
     ensures { IfOk result (λ rows. rows.items ≡ map (standing_best best.now) subjects) }
 {
     let mut rows = Vec::with_capacity(alloc, 24)?;
     for subject in &Subject::all() {
-        let list = Shared::new(alloc, best.top50(alloc, *subject)?)?;
+        let mut list = Listing::new(alloc)?;
+        list.renew(best, *subject);
         rows.push(list)?;
     }
     Ok(rows)
@@ -97,6 +103,7 @@ impl Lists {
         let recent = window_of(alloc, orders, items.len() as u32)?;
         let best = best_of(alloc, items, &sold)?;
         let newest = Newest::new(alloc, items)?;
+        let auths = Auths::of(alloc, orders)?;
         Ok(Lists {
             best_rows: best_rows(alloc, &best)?,
             newest_rows: newest_rows(alloc, &newest)?,
@@ -104,6 +111,7 @@ impl Lists {
             recent,
             best,
             newest,
+            auths,
         })
     }
 
@@ -115,11 +123,25 @@ impl Lists {
         Ok(Row::Items(self.newest_rows[subject.number() as usize].share()?))
     }
 
-    /// What the key of a subject's best sold items shows; takes no memory.
-    pub(crate) fn best_row(&self, subject: Subject) -> Result<Row, Memory>
-        requires { length self.now.best_rows.items ≡ length subjects }
-        ensures { (t : Tables) → AreLists t self.now → IfOk result (λ row. row ≡ Row.Items (spec.best t subject)) }
+    /// What the key of a subject's best sold items shows.
+    pub(crate) fn best_row(&mut self, subject: Subject) -> Result<Row, Memory>
+        requires { length self.old.best_rows.items ≡ length subjects }
+        ensures row { (t : Tables) → AreLists t self.old → IfOk result (λ row. row ≡ Row.Items (spec.best t subject)) }
+        ensures lists { (t : Tables) → AreLists t self.old → AreLists t self.new }
+        ensures size { length self.new.best_rows.items ≡ length self.old.best_rows.items }
     {
-        Ok(Row::Items(self.best_rows[subject.number() as usize].share()?))
+        let list = &mut self.best_rows[subject.number() as usize];
+        Ok(Row::Items(list.row()?))
+    }
+
+    /// Makes room for one order more; answers whether there is.
+    pub(crate) fn make_room(&mut self) -> bool
+        ensures lists { (t : Tables) → AreLists t self.old → AreLists t self.new }
+        ensures room { OnTrue result (HasRoom self.new) }
+    {
+        let sold = self.sold.reserve(1).is_ok();
+        let recent = self.recent.reserve(1).is_ok();
+        let auths = self.auths.make_room(1);
+        sold && recent && auths
     }
 }

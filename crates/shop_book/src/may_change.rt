@@ -1,19 +1,25 @@
 //! The keys that an act may change.
-ghost use Rattle.std.specs.Prelude.{◌≡◌, ◌+◌, ◌^◌, ◌<◌, length, IfOk};
+ghost use Rattle.std.specs.Prelude.{◌≡◌, ◌+◌, ◌^◌, ◌<◌, ◌∷◌, [], Some, length, unwrap_or, IfOk};
 ghost use Rattle.shop_text.specs.Texts.{digsyl};
 ghost use Rattle.shop_model.specs.asked.CustomersAsked.{IsLoginAsked, IsNewcomerAsked};
 ghost use Rattle.shop_model.specs.declared.tables.Tables.{Tables};
 ghost use Rattle.shop_model.specs.trade.Buyers.{customer_named, address_saying};
 ghost use Rattle.shop_model.specs.trade.Carts as shopping;
-ghost use Rattle.shop_history.specs.Acts.{IsInForm, IsBuyer};
+ghost use Rattle.shop_model.specs.asked.CartAsked.{IsCartAsked};
+ghost use Rattle.shop_model.specs.asked.PurchaseAsked.{IsPurchaseAsked};
+ghost use Rattle.shop_history.specs.declared.keys.Key.TheVariants as key;
+ghost use Rattle.shop_history.specs.Acts.{IsBuyer};
 ghost use Rattle.shop_history.specs.MayChange as spec;
 ghost use Rattle.shop_book.specs.Named.{AreNamed};
+ghost use Rattle.shop_book.specs.Planning.{certain_changes};
 ghost use Rattle.shop_book.specs.RowsNow.{tables_with};
 ghost use Rattle.shop_book.specs.Watching.{MayCome};
 
 use crate::rows::Rows;
-use shop_history::{Act, Key};
-use shop_model::{AddressText, Buyer, Cart, Login, Newcomer};
+use shop_history::Key;
+use shop_model::{
+    AddressText, BuyConfirm, Buyer, Cart, CartRequest, Login, Newcomer, row_numbered,
+};
 use shop_text::{Boxed, Memory, digsyl};
 use std::alloc::Global;
 
@@ -70,7 +76,7 @@ fn newcomer_changes(alloc: Global, rows: &Rows, newcomer: &Newcomer) -> Result<V
 }
 
 /// Those of a buyer.
-fn buyer_changes(alloc: Global, rows: &Rows, buyer: &Buyer) -> Result<Vec<Key>, Memory>
+pub(crate) fn buyer_changes(alloc: Global, rows: &Rows, buyer: &Buyer) -> Result<Vec<Key>, Memory>
     requires { MayCome rows.now }
     ensures form { IfOk result (λ keys. IsBuyer buyer.now) }
     ensures keys { IfOk result (λ keys. (t : Tables) → keys.items ≡ spec.buyer_changes (tables_with t rows.now) buyer.now) }
@@ -81,17 +87,64 @@ fn buyer_changes(alloc: Global, rows: &Rows, buyer: &Buyer) -> Result<Vec<Key>, 
     }
 }
 
-/// The keys that an act may change.
-pub(crate) fn may_change(alloc: Global, rows: &Rows, act: &Act) -> Result<Vec<Key>, Memory>
+/// That of the cart that a request is about.
+pub(crate) fn cart_changes(
+    alloc: Global,
+    rows: &Rows,
+    asked: &CartRequest,
+) -> Result<Vec<Key>, Memory>
     requires { MayCome rows.now }
-    ensures form { IfOk result (λ keys. IsInForm act.now) }
-    ensures keys { IfOk result (λ keys. (t : Tables) → keys.items ≡ spec.may_change (tables_with t rows.now) act.now) }
+    ensures form { IfOk result (λ keys. IsCartAsked asked.now) }
+    ensures keys { IfOk result (λ keys. keys.items ≡ key.Cart (shopping.cart_meant rows.now.carts.items asked.now.ids.cart) ∷ []) }
 {
-    match act {
-        Act::Cart(asked, _) => {
-            let id = cart_meant(&rows.carts, asked.ids.cart);
-            Ok(vec![in alloc; Key::Cart(id)]?)
-        }
-        Act::Enter(asked, _) => buyer_changes(alloc, rows, &asked.buyer),
+    let id = cart_meant(&rows.carts, asked.ids.cart);
+    Ok(vec![in alloc; Key::Cart(id)]?)
+}
+
+/// The lines of the cart with an id; none where there is no such cart.
+fn lines_in(carts: &[Cart], id: u32) -> &[(u32, u32)]
+    ensures { result.now ≡ unwrap_or (shopping.lines_named carts.now (Some id)) [] }
+{
+    match row_numbered(carts, id) {
+        Some(cart) => cart.lines.get().as_slice(),
+        None => &[],
     }
+}
+
+/// Those of an address that an order ships to, if it is new.
+fn ship_changes(
+    alloc: Global,
+    rows: &Rows,
+    address: &Option<AddressText>,
+) -> Result<Vec<Key>, Memory>
+    requires { MayCome rows.now }
+    ensures { IfOk result (λ keys. (t : Tables) → keys.items ≡ spec.ship_changes (tables_with t rows.now) address.now) }
+{
+    match address {
+        Some(text) => address_changes(alloc, rows, text),
+        None => Ok(Vec::new(alloc)),
+    }
+}
+
+/// Those that a purchase changes for certain, beside the lists.
+pub(crate) fn certain_changes(
+    alloc: Global,
+    rows: &Rows,
+    asked: &BuyConfirm,
+) -> Result<Vec<Key>, Memory>
+    requires { MayCome rows.now }
+    ensures form { IfOk result (λ keys. IsPurchaseAsked asked.now) }
+    ensures keys { IfOk result (λ keys. (t : Tables) → keys.items ≡ certain_changes (tables_with t rows.now) asked.now) }
+{
+    let lines = lines_in(&rows.carts, asked.cart);
+    let mut ship = ship_changes(alloc, rows, &asked.address)?;
+    let mut keys = Vec::with_capacity(alloc, lines.len().saturating_add(5))?;
+    keys.push(Key::Cart(asked.cart))?;
+    keys.push(Key::Order(rows.orders.len() as u32 + 1))?;
+    keys.push(Key::LastOrder(asked.c))?;
+    for line in lines {
+        keys.push(Key::Item(line.0))?;
+    }
+    keys.append(&mut ship)?;
+    Ok(keys)
 }

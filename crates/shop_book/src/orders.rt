@@ -1,18 +1,20 @@
-ghost use Rattle.std.specs.Prelude.{◌≡◌};
-ghost use Rattle.std.specs.List.{list_any};
-ghost use Rattle.std.specs.Str.{bytes_eq};
+ghost use Rattle.std.specs.Prelude.{◌≡◌, ◌≤◌, length, All};
+ghost use Rattle.std.specs.List.{sum_by};
+ghost use Rattle.shop_book.specs.Openings.{most_entries};
+ghost use Rattle.shop_book.specs.Summaries.{charge_limit};
 
-use shop_model::{AuthId, Order};
+use shop_model::Order;
 use shop_text::Shared;
 
-/// Whether one of these orders has this authorisation.
-pub(crate) fn some_auth(orders: &[Shared<Order>], auth: &AuthId) -> bool
-    ensures { result ≡ list_any (λ o. bytes_eq o.card.auth auth.now) orders.now }
+/// What these orders were charged together, in cents.
+pub(crate) fn cents_of(orders: &[Shared<Order>]) -> u64
+    requires few { length orders.now ≤ most_entries }
+    requires charges { All (λ o. o.total ≤ charge_limit) orders.now }
+    ensures { result ≡ sum_by (λ o. o.total) orders.now }
 {
+    let mut cents = 0;
     for order in orders {
-        if order.get().card.auth.bytes() == auth.bytes() {
-            return true;
-        }
+        cents += order.get().total;
     }
-    false
+    cents
 }

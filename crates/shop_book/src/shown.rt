@@ -11,10 +11,16 @@ use shop_model::Tables;
 use shop_text::Memory;
 
 /// What a key shows in the tables with these rows and lists.
-pub(crate) fn shown(tables: &Tables, rows: &Rows, lists: &Lists, key: &Key) -> Result<Row, Memory>
+pub(crate) fn shown(
+    tables: &Tables,
+    rows: &Rows,
+    lists: &mut Lists,
+    key: &Key,
+) -> Result<Row, Memory>
     requires sound { Sound (tables_with tables.now rows.now) }
-    requires lists { AreLists (tables_with tables.now rows.now) lists.now }
-    ensures { IfOk result (λ row. row ≡ row_of (tables_with tables.now rows.now) key.now) }
+    requires lists { AreLists (tables_with tables.now rows.now) lists.old }
+    ensures row { IfOk result (λ row. row ≡ row_of (tables_with tables.now rows.now) key.now) }
+    ensures lists { AreLists (tables_with tables.now rows.now) lists.new }
 {
     match key {
         Key::Item(id) => rows.item_row(*id),

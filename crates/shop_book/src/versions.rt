@@ -13,6 +13,9 @@ use std::alloc::Global;
 use std::collections::HashMap;
 use std::hash::Hash;
 
+/// How many subjects there are.
+const SUBJECTS: usize = 24;
+
 /// The versions of all keys. One that has no place here has version 0.
 #[derive(Debug, Drop)]
 pub(crate) struct Versions {
@@ -21,6 +24,14 @@ pub(crate) struct Versions {
     carts: Vec<u64>,
     addresses: Vec<u64>,
     orders: Vec<u64>,
+    /// By the ids of customers.
+    last_orders: Vec<u64>,
+    /// Of the best sold items of each subject, by its number.
+    best_in: Vec<u64>,
+    /// By the ids of items.
+    buyers: Vec<u64>,
+    /// By the ids of customers.
+    bought: Vec<u64>,
     /// Of the user names that came since the opening.
     names: HashMap<Text, u64>,
     /// Of the texts that addresses came to say since.
@@ -87,6 +98,18 @@ fn grow_column(numbers: &mut Vec<u64>, count: usize)
     }
 }
 
+/// Makes room for so many more numbers in each of two columns; answers whether there is.
+fn make_room_in(column: &mut Vec<u64>, other: &mut Vec<u64>, more: usize) -> bool
+    ensures same { column.new.items ≡ column.old.items }
+    ensures other { other.new.items ≡ other.old.items }
+    ensures room { OnTrue result (vec_len column.new + more ≤ vec_capacity column.new) }
+    ensures other_room { OnTrue result (vec_len other.new + more ≤ vec_capacity other.new) }
+{
+    let room = column.reserve(more).is_ok();
+    let other_room = other.reserve(more).is_ok();
+    room && other_room
+}
+
 impl Versions {
     /// Version 0 for each row.
     pub(crate) fn new(alloc: Global, rows: &Rows) -> Result<Versions, Memory>
@@ -99,6 +122,10 @@ impl Versions {
             carts: zeros(alloc, rows.carts.len())?,
             addresses: zeros(alloc, rows.addresses.len())?,
             orders: zeros(alloc, rows.orders.len())?,
+            last_orders: zeros(alloc, rows.customers.len())?,
+            best_in: zeros(alloc, SUBJECTS)?,
+            buyers: zeros(alloc, rows.items.len())?,
+            bought: zeros(alloc, rows.customers.len())?,
             names: HashMap::new(alloc),
             said: HashMap::new(alloc),
         })
@@ -114,15 +141,15 @@ impl Versions {
             Key::Customer(id) => at(&self.customers, *id),
             Key::Cart(id) => at(&self.carts, *id),
             Key::NewIn(_) => 0,
-            Key::BestIn(_) => 0,
-            Key::Buyers(_) => 0,
-            Key::Bought(_) => 0,
+            Key::BestIn(subject) => at(&self.best_in, u32::from(subject.number()) + 1),
+            Key::Buyers(item) => at(&self.buyers, *item),
+            Key::Bought(customer) => at(&self.bought, *customer),
             Key::Name(user) => version_at(&self.names, user),
             Key::Address(id) => at(&self.addresses, *id),
             Key::SameAddress(text) => version_at(&self.said, text.get()),
             Key::Country(_) => 0,
             Key::Order(id) => at(&self.orders, *id),
-            Key::LastOrder(_) => 0,
+            Key::LastOrder(customer) => at(&self.last_orders, *customer),
         }
     }
 
@@ -132,11 +159,11 @@ impl Versions {
         ensures places { spec.MorePlaces self.old self.new }
         ensures room { OnTrue result (spec.HasRoom self.new more) }
     {
-        self.items.reserve(more).is_ok()
+        self.carts.reserve(more).is_ok()
+            && make_room_in(&mut self.items, &mut self.buyers, more)
+            && make_room_in(&mut self.addresses, &mut self.orders, more)
+            && make_room_in(&mut self.last_orders, &mut self.bought, more)
             && self.customers.reserve(more).is_ok()
-            && self.carts.reserve(more).is_ok()
-            && self.addresses.reserve(more).is_ok()
-            && self.orders.reserve(more).is_ok()
     }
 
     /// Makes room for so many more keys that are texts; answers whether there is.
@@ -177,16 +204,19 @@ impl Versions {
         grow_column(&mut self.carts, rows.carts.len());
         grow_column(&mut self.addresses, rows.addresses.len());
         grow_column(&mut self.orders, rows.orders.len());
+        grow_column(&mut self.last_orders, rows.customers.len());
+        grow_column(&mut self.buyers, rows.items.len());
+        grow_column(&mut self.bought, rows.customers.len());
     }
 
     /// Gives a key this version, and leaves all others; takes no memory.
     pub(crate) fn raise(&mut self, key: Key, version: u64)
         requires place { spec.HasPlace self.old key }
-        requires spare { spec.HasSpare self.old 1 }
+        requires spare { spec.SpareFor key self.old }
         ensures here { spec.stored self.new key ≡ version }
         ensures others { (other : Key) → other ≢ key → spec.stored self.new other ≡ spec.stored self.old other }
         ensures places { spec.MorePlaces self.old self.new }
-        ensures spare { spec.SparesOne self.old self.new }
+        ensures spare { spec.SparesFor key self.old self.new }
     {
         match key {
             Key::Item(id) => set_at(&mut self.items, id, version),
@@ -194,15 +224,17 @@ impl Versions {
             Key::Customer(id) => set_at(&mut self.customers, id, version),
             Key::Cart(id) => set_at(&mut self.carts, id, version),
             Key::NewIn(_) => unreachable!(),
-            Key::BestIn(_) => unreachable!(),
-            Key::Buyers(_) => unreachable!(),
-            Key::Bought(_) => unreachable!(),
+            Key::BestIn(subject) => {
+                set_at(&mut self.best_in, u32::from(subject.number()) + 1, version);
+            }
+            Key::Buyers(item) => set_at(&mut self.buyers, item, version),
+            Key::Bought(customer) => set_at(&mut self.bought, customer, version),
             Key::Name(user) => set_version(&mut self.names, user, version),
             Key::Address(id) => set_at(&mut self.addresses, id, version),
             Key::SameAddress(text) => set_version(&mut self.said, text.into_inner(), version),
             Key::Country(_) => unreachable!(),
             Key::Order(id) => set_at(&mut self.orders, id, version),
-            Key::LastOrder(_) => unreachable!(),
+            Key::LastOrder(customer) => set_at(&mut self.last_orders, customer, version),
         }
     }
 }

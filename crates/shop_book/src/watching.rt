@@ -1,19 +1,16 @@
 ghost use Rattle.std.specs.Prelude.{◌≡◌, ◌↔◌, IsTrue, All, IfOk, length};
 ghost use Rattle.shop_model.specs.declared.tables.Tables.{Tables};
-ghost use Rattle.shop_history.specs.Acts.{IsInForm};
 ghost use Rattle.shop_history.specs.Keys.{row_of};
-ghost use Rattle.shop_history.specs.MayChange.{may_change};
 ghost use Rattle.shop_history.proofs.cited.Versions.{RaisedFor};
 ghost use Rattle.shop_book.specs.RowsNow.{tables_with};
 ghost use Rattle.shop_book.specs.Named.{AreNamed};
 ghost use Rattle.shop_book.specs.Stored.{stored, HasPlaces, MorePlaces, HasSpare, SparesOne};
 ghost use Rattle.shop_book.specs.Watching as spec;
 
-use crate::may_change::may_change;
 use crate::rows::{Rows, id_row};
 use crate::same_rows::{shows_address, shows_cart, shows_customer, shows_id};
 use crate::versions::Versions;
-use shop_history::{Act, Key, Row};
+use shop_history::{Key, Row};
 use shop_text::Memory;
 use std::alloc::Global;
 
@@ -40,15 +37,14 @@ fn row_now(rows: &Rows, key: &Key) -> Result<Row, Memory>
     }
 }
 
-/// The keys that an act may change, with what they show.
-pub(crate) fn watch(alloc: Global, rows: &Rows, act: &Act) -> Result<Vec<Watched>, Memory>
-    requires { spec.MayCome rows.now }
-    ensures form { IfOk result (λ watched. IsInForm act.now) }
-    ensures keys { IfOk result (λ watched. (t : Tables) → spec.keys_of watched.items ≡ may_change (tables_with t rows.now) act.now) }
+/// These keys, with what they show.
+pub(crate) fn watch(alloc: Global, rows: &Rows, keys: Vec<Key>) -> Result<Vec<Watched>, Memory>
+    requires kinds { All spec.IsWatchable keys.items }
+    requires named { AreNamed rows.now.customers.items }
+    ensures keys { IfOk result (λ watched. spec.keys_of watched.items ≡ keys.items) }
     ensures rows { IfOk result (λ watched. (t : Tables) → spec.AreOf (tables_with t rows.now) watched.items) }
     ensures kinds { IfOk result (λ watched. All (λ w. spec.IsWatchable w.key) watched.items) }
 {
-    let keys = may_change(alloc, rows, act)?;
     let mut watched = Vec::with_capacity(alloc, keys.len())?;
     for key in keys {
         let row = row_now(rows, &key)?;

@@ -25,8 +25,8 @@ use Rattle.shop_attempt.proofs.cited.Marks.{looks_then}
 use Rattle.shop_attempt.proofs.cited.Looks.{since_now, all_since_later, all_since_earlier, are_true}
 use Rattle.shop_browse.specs.declared.attempted.Ask.{Ask}
 use Rattle.shop_browse.specs.declared.driver.Next.{Next}
-use Rattle.shop_browse.specs.declared.driver.Next.TheVariants.{Show, Change, Never}
-use Rattle.shop_browse.specs.declared.attempted.Attempted.TheVariants.{Ready, Contradiction}
+use Rattle.shop_browse.specs.declared.driver.Next.TheVariants.{Show, Change, Pay, Never}
+use Rattle.shop_browse.specs.declared.attempted.Attempted.TheVariants as attempted
 use Rattle.shop_history.specs.declared.acts.Act.{Act}
 use Rattle.shop_attempt.specs.declared.attempts.Write.{Write}
 use Rattle.shop_browse.specs.Attempts.{AreReadFor, IsAttempt, AttemptedAs, Suits, asking_of}
@@ -215,30 +215,44 @@ looks_only start now request ask reads has = record {
 }
 
 pub showed : (start now : Seat) (follows : ℕ → List ReadOf → Type 0) (request : Request) (ask : Ask) (round : ℕ) (reads : List ReadOf) (draft : Draft) → HasRead start now request ask reads
-    → IsNext follows request ask round reads draft Show → AttemptedAs start now (asking_of ask request) draft (Ready (attempt_with ask reads None None))
-showed start now follows request ask round reads draft has is = record {
-  attempts = looks_only start now request ask reads has;
-  drafts = λ t agrees. is t (fits ask.index.now now.opening t reads has.same agrees);
-}
+    → IsNext follows request ask round reads draft Show → AttemptedAs start now (asking_of ask request) draft (attempted.Ready (attempt_with ask reads None None))
+showed start now follows request ask round reads draft has is = (
+  record {
+    attempts = looks_only start now request ask reads has;
+    drafts = λ t agrees. is t (fits ask.index.now now.opening t reads has.same agrees);
+  },
+  tt,
+)
 
 pub changed : (start now : Seat) (follows : ℕ → List ReadOf → Type 0) (request : Request) (ask : Ask) (round : ℕ) (reads : List ReadOf) (draft : Draft) (act : Act) (writes : List Write)
     → HasRead start now request ask reads → IsNext follows request ask round reads draft (Change act writes)
-    → AttemptedAs start now (asking_of ask request) draft (Ready (attempt_with ask reads (Some writes) (Some act)))
-changed start now follows request ask round reads draft act writes has is = record {
-  attempts = record {
-    at = refl;
-    drew = refl;
-    reads = reads_for start now request ask reads has;
-    faithful = record {
-      reads_are = are_true start now reads has.since;
-      makes = λ t stamp agrees bound. is.makes t stamp (fits ask.index.now now.opening t reads has.same agrees) bound;
+    → AttemptedAs start now (asking_of ask request) draft (attempted.Ready (attempt_with ask reads (Some writes) (Some act)))
+changed start now follows request ask round reads draft act writes has is = (
+  record {
+    attempts = record {
+      at = refl;
+      drew = refl;
+      reads = reads_for start now request ask reads has;
+      faithful = record {
+        reads_are = are_true start now reads has.since;
+        makes = λ t stamp agrees bound. is.makes t stamp (fits ask.index.now now.opening t reads has.same agrees) bound;
+      };
     };
-  };
-  drafts = (is.does, λ t stamp agrees bound. is.becomes t stamp (fits ask.index.now now.opening t reads has.same agrees) bound);
+    drafts = (is.does, λ t stamp agrees bound. is.becomes t stamp (fits ask.index.now now.opening t reads has.same agrees) bound);
+  },
+  is.free,
+)
+
+pub payable : (start now : Seat) (follows : ℕ → List ReadOf → Type 0) (request : Request) (ask : Ask) (round : ℕ) (reads : List ReadOf) (draft : Draft) → HasRead start now request ask reads
+    → IsNext follows request ask round reads draft Pay → AttemptedAs start now (asking_of ask request) draft (attempted.Pay (attempt_with ask reads None None))
+payable start now follows request ask round reads draft has is = record {
+  attempts = looks_only start now request ask reads has;
+  reading = refl;
+  basket = record { basket = is; seen = subst (λ c. AreSeen c reads) has.same has.seen };
 }
 
 pub never_shown : (start now : Seat) (follows : ℕ → List ReadOf → Type 0) (request : Request) (ask : Ask) (round : ℕ) (reads : List ReadOf) (draft : Draft) → HasRead start now request ask reads
-    → IsNext follows request ask round reads draft Never → AttemptedAs start now (asking_of ask request) draft (Contradiction (attempt_with ask reads None None))
+    → IsNext follows request ask round reads draft Never → AttemptedAs start now (asking_of ask request) draft (attempted.Contradiction (attempt_with ask reads None None))
 never_shown start now follows request ask round reads draft has is = record {
   attempts = looks_only start now request ask reads has;
   reading = refl;

@@ -34,7 +34,7 @@ use Rattle.shop_attempt.specs.declared.attempts.ReadOf.{ReadOf}
 use Rattle.shop_attempt.specs.Reads.{Shows}
 use Rattle.shop_browse.specs.declared.attempted.Ask.{Ask}
 use Rattle.shop_browse.specs.declared.driver.Next.{Next}
-use Rattle.shop_browse.specs.declared.driver.Next.TheVariants.{ReadOne, Read, Show, Change, Never}
+use Rattle.shop_browse.specs.declared.driver.Next.TheVariants.{ReadOne, Read, Show, Change, Pay, Never}
 use Rattle.shop_browse.specs.Driver.{keys_of, Fits, AreSeen, IsNext}
 use Rattle.shop_browse.specs.Footprints.{drawn_item, InFootprint, IsAbout}
 use Rattle.shop_browse.specs.Labels.{ids_in, HaveLabels, FollowsLabels, AsksLabels, title_in, promoted_in}
@@ -157,6 +157,7 @@ asks_next k ask round reads request draft (ReadOne one) about asks = asks reques
 asks_next k ask round reads request draft (Read keys) about asks = asks request about
 asks_next k ask round reads request draft Show about asks = absurd asks
 asks_next k ask round reads request draft (Change act writes) about asks = absurd asks
+asks_next k ask round reads request draft Pay about asks = absurd asks
 asks_next k ask round reads request draft Never about asks = absurd asks
 
 -- what tables show of the labels

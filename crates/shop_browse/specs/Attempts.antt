@@ -7,6 +7,7 @@ use Rattle.shop_model.specs.lists.Catalogues.{catalogue}
 use Rattle.shop_model.specs.rows.Limits.{stamp_limit}
 use Rattle.shop_model.specs.pages.Show.{show}
 use Rattle.shop_history.specs.declared.acts.Act.{Act}
+use Rattle.shop_history.specs.declared.acts.Act.TheVariants.{Confirm}
 use Rattle.shop_history.specs.Acts.{play, IsActOf}
 use Rattle.shop_history.specs.Drawing.{new_ids}
 use Rattle.shop_draft.specs.declared.draft.Draft.{Draft}
@@ -18,7 +19,8 @@ use Rattle.shop_attempt.specs.Reads.{Agrees, IsReadSince}
 use Rattle.shop_attempt.specs.Seats.{Seat}
 use Rattle.shop_browse.specs.declared.attempted.Ask.{Ask}
 use Rattle.shop_browse.specs.declared.attempted.Attempted.{Attempted}
-use Rattle.shop_browse.specs.declared.attempted.Attempted.TheVariants.{Ready, Contradiction, Memory}
+use Rattle.shop_browse.specs.declared.attempted.Attempted.TheVariants.{Ready, Pay, Contradiction, Memory}
+use Rattle.shop_browse.specs.Baskets.{HasBasket}
 use Rattle.shop_browse.specs.Footprints.{InFootprint}
 
 -- an ask of the opening tables: its index is of their catalogue, and its scale has as many items
@@ -77,6 +79,17 @@ pub record IsReady (start now : Seat) (asking : Asking) (draft : Draft) (attempt
   pub attempts : IsAttempt start now asking attempt
   pub drafts : IsDraftOf now.opening asking attempt.reads draft attempt.act
 
+-- an act, if any, for which nothing is to be paid
+abbrev pub IsFree : Option Act → Type 0
+IsFree (Some (Confirm asked draw auth)) = ⊥
+IsFree _ = Unit {0}
+
+-- a purchase whose rows are read, by an attempt that changes nothing yet
+pub record IsPayable (start now : Seat) (asking : Asking) (attempt : Attempt) : Type 0 where
+  pub attempts : IsAttempt start now asking attempt
+  pub reading : attempt.act ≡ None
+  pub basket : HasBasket (catalogue now.opening) asking.request attempt.reads
+
 -- no tables agree with the reads
 pub record IsContradiction (start now : Seat) (asking : Asking) (attempt : Attempt) : Type 0 where
   pub attempts : IsAttempt start now asking attempt
@@ -85,6 +98,7 @@ pub record IsContradiction (start now : Seat) (asking : Asking) (attempt : Attem
 
 -- what is answered, with the draft as the call leaves it
 abbrev pub AttemptedAs : Seat → Seat → Asking → Draft → Attempted → Type 0
-AttemptedAs start now asking draft (Ready attempt) = IsReady start now asking draft attempt
+AttemptedAs start now asking draft (Ready attempt) = IsReady start now asking draft attempt × IsFree attempt.act
+AttemptedAs start now asking draft (Pay attempt) = IsPayable start now asking attempt
 AttemptedAs start now asking draft (Contradiction attempt) = IsContradiction start now asking attempt
 AttemptedAs start now asking draft Memory = Unit {0}

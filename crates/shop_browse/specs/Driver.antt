@@ -1,10 +1,9 @@
 -- The driver of interactions: what one may do next by what it has read, and the attempt of what it decides.
-use Rattle.std.specs.Prelude.{◌≡◌, ℕ, suc, ◌≤◌, List, [], ◌∷◌, ◌++◌, length, map, All, Option}
+use Rattle.std.specs.Prelude.{◌≡◌, ℕ, suc, ◌≤◌, List, [], ◌∷◌, ◌++◌, length, All, Option, Some}
 use Rattle.shop_model.specs.declared.requests.Request.{Request}
 use Rattle.shop_model.specs.declared.tables.Tables.{Tables}
 use Rattle.shop_model.specs.lists.Catalogues.{Catalogue, catalogue}
 use Rattle.shop_model.specs.rows.Limits.{stamp_limit}
-use Rattle.shop_model.specs.rows.Sound.{Sound}
 use Rattle.shop_history.specs.declared.acts.Act.{Act}
 use Rattle.shop_history.specs.declared.acts.Entry.{Entry}
 use Rattle.shop_history.specs.declared.keys.Key.{Key}
@@ -14,28 +13,15 @@ use Rattle.shop_attempt.specs.declared.attempts.Attempt.{Attempt}
 use Rattle.shop_attempt.specs.declared.attempts.ReadOf.{ReadOf}
 use Rattle.shop_attempt.specs.declared.attempts.Write.{Write}
 use Rattle.shop_attempt.specs.Faithful.{Makes}
-use Rattle.shop_attempt.specs.Reads.{Shows, AreTrue, AreReadSince}
+use Rattle.shop_attempt.specs.Reads.{AreTrue, AreReadSince}
 use Rattle.shop_attempt.specs.Seats.{Seat}
 use Rattle.shop_browse.specs.declared.attempted.Ask.{Ask}
 use Rattle.shop_browse.specs.declared.driver.Next.{Next}
-use Rattle.shop_browse.specs.declared.driver.Next.TheVariants.{ReadOne, Read, Show, Change, Never}
-use Rattle.shop_browse.specs.Attempts.{Becomes, IsShownBy}
+use Rattle.shop_browse.specs.declared.driver.Next.TheVariants.{ReadOne, Read, Show, Change, Pay, Never}
+use Rattle.shop_browse.specs.Attempts.{Becomes, IsShownBy, IsFree}
+use Rattle.shop_browse.specs.Baskets.{IsBasketFor}
+pub use Rattle.shop_browse.specs.Fitting.{keys_of, Fits, AreSeen}
 use Rattle.shop_browse.specs.Footprints.{InFootprint}
-
--- the keys that were read, in order
-abbrev pub keys_of : List ReadOf → List Key
-keys_of reads = map (λ r. r.key) reads
-
--- sound tables of this catalogue that show what was read
-pub record Fits (c : Catalogue) (t : Tables) (reads : List ReadOf) : Type 0 where
-  pub sound : Sound t
-  pub named : catalogue t ≡ c
-  pub shows : Shows t reads
-
--- each of these rows was shown by some sound tables of the catalogue
-abbrev pub AreSeen : Catalogue → List ReadOf → Type 0
-AreSeen c [] = Unit {0}
-AreSeen c (read ∷ reads) = ((t : Tables) × Fits c t (read ∷ [])) × AreSeen c reads
 
 -- the scale of an ask has as many items as its catalogue
 abbrev pub IsWhole : Ask → Type 0
@@ -61,9 +47,10 @@ pub record AsksFor (follows : ℕ → List ReadOf → Type 0) (request : Request
   pub goes_on : (more : List ReadOf) → keys_of more ≡ keys → follows (suc round) (reads ++ more)
   pub may : MayRead request ask reads keys
 
--- the act does the request, and the writes and the draft are those of the act in these tables, at any stamp
+-- the act does the request, nothing is to be paid for it, and the writes and the draft are those of the act in these tables, at any stamp
 pub record IsChange (request : Request) (ask : Ask) (reads : List ReadOf) (draft : Draft) (act : Act) (writes : List Write) : Type 0 where
   pub does : IsActOf request ask.draw act
+  pub free : IsFree (Some act)
   pub makes : (t : Tables) (stamp : ℕ) → Fits ask.index.now t reads → stamp ≤ stamp_limit → Makes t stamp act writes
   pub becomes : (t : Tables) (stamp : ℕ) → Fits ask.index.now t reads → stamp ≤ stamp_limit → Becomes t stamp act draft
 
@@ -74,6 +61,7 @@ IsNext follows request ask round reads draft (Read keys) = AsksFor follows reque
 IsNext follows request ask round reads draft Show =
     (t : Tables) → Fits ask.index.now t reads → IsShownBy t request ask.draw draft
 IsNext follows request ask round reads draft (Change act writes) = IsChange request ask reads draft act writes
+IsNext follows request ask round reads draft Pay = IsBasketFor request reads
 IsNext follows request ask round reads draft Never = (t : Tables) → Fits ask.index.now t reads → ⊥
 
 -- these rows were read one after another, behind others, and each was shown by sound tables

@@ -1,3 +1,5 @@
+pub mod Fitting
+pub mod Baskets
 pub mod Footprints
 pub mod Attempts
 pub mod Driver

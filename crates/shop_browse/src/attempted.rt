@@ -17,6 +17,8 @@ pub struct Ask<'a> {
 pub enum Attempted {
     /// The page is written.
     Ready(Attempt),
+    /// What a purchase needs is read, and nothing is written: a payment decides.
+    Pay(Attempt),
     /// What was read can't be so in any one shop: it was read while rows changed.
     Contradiction(Attempt),
     Memory,

@@ -32,6 +32,8 @@ pub enum Next {
     Show,
     /// It does an act, by these writes; the page that it has written waits for what the settle draws.
     Change(Act, Listed<Write>),
+    /// A payment is asked for; nothing is written yet.
+    Pay,
     /// No shop shows what was read.
     Never,
 }
@@ -126,6 +128,7 @@ fn drive<St: Store, I: Interaction + Drop>(
                     ..looked(ask, reads)
                 }));
             }
+            Next::Pay => return Ok(Attempted::Pay(looked(ask, reads))),
             Next::Never => return Ok(Attempted::Contradiction(looked(ask, reads))),
         }
     }

@@ -6,3 +6,7 @@ pub mod BytesInView
 pub mod BytesOutView
 pub mod ListClockView
 pub mod Adapters
+pub mod Charges
+pub mod ChargeView
+pub mod Gateways
+pub mod Payments

@@ -8,7 +8,10 @@ use Rattle.std.proofs.lemmas.List.{map-append, length-map}
 use Rattle.std.proofs.lemmas.List.Elements.{All-nil, All-pop, All-push}
 use Rattle.std.proofs.lemmas.List.Folds.{concat-append}
 use Rattle.std.proofs.lemmas.List.Sums.{sum_by-cons}
+use Rattle.shop_edges.specs.Gateways.{Answered}
 use Rattle.shop_edges.specs.Streams.{AppendsFront}
+use Rattle.shop_edges.specs.declared.gateway.Answer.{Answer}
+use Rattle.shop_edges.proofs.cited.Answering.{answered_nothing, answered_more}
 use Rattle.shop_edges.proofs.cited.Known.{Appends-nothing, Appends-more, Consumes-nothing, Consumes-more}
 use Rattle.shop_message.specs.declared.messages.Message.{Message}
 use Rattle.shop_message.specs.Messages.{Between, Inside, Refusing}
@@ -53,7 +56,7 @@ last_grows : (answers : ℕ) (from to : Standing) (steps : List Step) → AreSte
 last_grows answers from to [] same = omega (arith, ap (λ (s : Standing). s.progress.last) same)
 last_grows answers from to (step ∷ steps) (next, is, are) = omega (arith, last_kept _ from step next (asked step.message) is, last_grows (answers + 1) next to steps are)
 
-stays_of : (answers : ℕ) (from to : Standing) (steps : List Step) → AreSteps answers from steps to
+pub stays_of : (answers : ℕ) (from to : Standing) (steps : List Step) → AreSteps answers from steps to
     → Stays from.seat to.seat (flat_map (λ s. s.made) steps) (sum_by (λ s. s.point.tries) steps) to.progress.last
 stays_of answers from to [] same = subst (λ (s : Standing). Stays from.seat s.seat [] 0 s.progress.last) (sym same) (stays_same from.seat from.progress.last)
 stays_of answers from to (step ∷ steps) (next, is, are) =
@@ -62,17 +65,37 @@ stays_of answers from to (step ∷ steps) (next, is, are) =
     (stays_later from.seat next.seat step.made step.point.tries next.progress.last to.progress.last (step_stays _ from step next (asked step.message) is) (last_grows (answers + 1) next to steps are))
     (stays_of (answers + 1) next to steps are))
 
+-- what the gateway tells of a step, and of steps
+
+step_told : (form : Form) (from : Standing) (step : Step) (to : Standing) (asks : Result Request Refusal) → IsStepFor form from step to asks → Answered from.told to.told step.answers
+step_told form from step to (Ok request) is = is.told
+step_told form from step to (Err refusal) is = rw (is.stands, is.answers) (answered_nothing from.told)
+
+told_of : (answers : ℕ) (from to : Standing) (steps : List Step) → AreSteps answers from steps to → Answered from.told to.told (flat_map (λ s. s.answers) steps)
+told_of answers from to [] same = subst (λ (s : Standing). Answered from.told s.told []) (sym same) (answered_nothing from.told)
+told_of answers from to (step ∷ steps) (next, is, are) =
+    answered_more from.told next.told to.told step.answers (flat_map (λ (s : Step). s.answers) steps) (step_told _ from step next (asked step.message) is)
+    (told_of (answers + 1) next to steps are)
+
 -- memory ran out before anything was done
 
 pub nothing_begun : (now : Standing) → GivesUp now now
-nothing_begun now = record { accepts = inr refl; settles = 0; few = omega arith; stays = stays_same now.seat now.progress.last }
+nothing_begun now = record {
+  accepts = inr refl;
+  settles = 0;
+  few = omega arith;
+  stays = stays_same now.seat now.progress.last;
+  answers = [];
+  few_answers = omega arith;
+  told = answered_nothing now.told;
+}
 
 pub left_alone : (from to : Standing) → to ≡ from → GivesUp from to
 left_alone from to same = subst (GivesUp from) (sym same) (nothing_begun from)
 
-pub still_standing : {St : Type 0} (seat_of : St → Seat) (old new : WorkerState St) (clock : Option (List ℕ)) → new ≡ record { store = old.store; caller = old.caller; progress = old.progress; reply = new.reply }
-    → standing seat_of new clock ≡ standing seat_of old clock
-still_standing {St} seat_of old new clock is = ap (λ (w : WorkerState St). standing seat_of w clock) is
+pub still_standing : {St : Type 0} (seat_of : St → Seat) (old new : WorkerState St) (clock : Option (List ℕ)) (told : Option (List Answer))
+    → new ≡ record { store = old.store; caller = old.caller; progress = old.progress; reply = new.reply } → standing seat_of new clock told ≡ standing seat_of old clock told
+still_standing {St} seat_of old new clock told is = ap (λ (w : WorkerState St). standing seat_of w clock told) is
 
 -- nothing was met yet
 pub nothing_met : (old : Standing) (streams : Streams) (unread : List ℕ) (points : List Point) → unread ≡ [] → points ≡ [] → SoFar old old streams streams unread points
@@ -142,6 +165,7 @@ module _ (old now : Standing) (streams streams' : Streams) (unread : List ℕ) (
     ends = ends;
     run = so_far.run;
     stays = stays_of 0 old now so_far.steps so_far.run;
+    asked = told_of 0 old now so_far.steps so_far.run;
     after = after;
     all = added ∙ ap (λ (l : List Point). l ++ option_to_list (option_map (λ _. plain_point) told)) so_far.all;
     written = Wrote-more end streams.held streams'.held held' (replies_of so_far.steps) (option_to_list (option_map told_page told)) so_far.written written;
@@ -267,6 +291,7 @@ module _ (old now next : Standing) (streams streams' : Streams) (unread rest : L
     ends = ends;
     run = run;
     stays = stays_of 0 old next (so_far.steps ++ step ∷ []) run;
+    asked = told_of 0 old next (so_far.steps ++ step ∷ []) run;
     after = inl refl;
     all = all ∙ sym (append-nil (points_of (so_far.steps ++ step ∷ [])));
     written =

@@ -1,12 +1,13 @@
 -- What a request may read, it may read after a longer log.
-use Rattle.std.proofs.Common.{◌≡◌, ℕ, ◌+◌, ◌%◌, ◌<◌, ◌≤◌, List, length, take, Some, sym, ◌∙◌, ap, subst, arith, ⊎_elim, inl, inr, ◌⊎◌}
+use Rattle.std.proofs.Common.{◌≡◌, ℕ, ◌+◌, ◌%◌, ◌<◌, ◌≤◌, List, length, take, Option, Some, None, sym, ◌∙◌, ap, subst, arith, ⊎_elim, inl, inr, ◌⊎◌}
 use Rattle.std.proofs.lemmas.Bool.{cases_lt}
 use Rattle.std.proofs.lemmas.List.{take-append-le, take_all}
 use Rattle.shop_log.specs.Histories.{Extends}
+use Rattle.shop_model.specs.declared.address.AddressText.{AddressText}
 use Rattle.shop_model.specs.declared.buying.Buyer.{Buyer}
 use Rattle.shop_model.specs.declared.buying.Buyer.TheVariants.{Returning, Newcomer}
 use Rattle.shop_model.specs.declared.requests.Request.{Request}
-use Rattle.shop_model.specs.declared.requests.Request.TheVariants.{Home, NewProducts, BestSellers, ProductDetail, SearchRequest, SearchResults, CartRequest, CustomerRegistration, BuyRequest, OrderInquiry, OrderDisplay, AdminRequest}
+use Rattle.shop_model.specs.declared.requests.Request.TheVariants.{Home, NewProducts, BestSellers, ProductDetail, SearchRequest, SearchResults, CartRequest, CustomerRegistration, BuyRequest, BuyConfirm, OrderInquiry, OrderDisplay, AdminRequest}
 use Rattle.shop_model.specs.declared.tables.Tables.{Tables}
 use Rattle.shop_model.specs.asked.CartAsked.{CartAsked}
 use Rattle.shop_model.specs.trade.Carts.{lines_named}
@@ -20,7 +21,7 @@ use Rattle.shop_history.specs.declared.keys.Row.TheVariants as rows
 use Rattle.shop_history.specs.Keys.{row_of}
 use Rattle.shop_history.specs.Logs.{tables}
 use Rattle.shop_attempt.specs.Seats.{Seat, Follows}
-use Rattle.shop_browse.specs.Footprints.{IsAmong, WasOnCart, LeavesNoLine, IsCartItem, WasShown, IsShipAddress, IsLastOrder, IsUser, IsOfOrder, IsBuyer, drawn_item, IsAbout, InFootprint, IsLabel}
+use Rattle.shop_browse.specs.Footprints.{IsAmong, WasOnCart, LeavesNoLine, IsCartItem, WasShown, IsShipAddress, IsLastOrder, IsUser, IsOfOrder, IsBuyer, IsShippedTo, drawn_item, IsAbout, InFootprint, IsLabel}
 use Rattle.shop_browse.proofs.cited.Sizes.{same_size}
 
 drawn_later : (t : Tables) (log longer : List Entry) (draw : ℕ) → drawn_item (tables t log) draw ≡ drawn_item (tables t longer) draw
@@ -94,6 +95,14 @@ module _ (t : Tables) (log longer : List Entry) (extends : Extends log longer) w
   buyer_later (Returning asked) key is = user_later asked.user key is
   buyer_later (Newcomer asked) key is = is
 
+  shipped_later : (c : ℕ) (address : Option AddressText) (key : Key) → IsShippedTo t log c address key → IsShippedTo t longer c address key
+  shipped_later c None key is = (is.0, shown_later (keys.Customer c) (rows.Customer is.0) is.1, is.2)
+  shipped_later c (Some text) key is = is
+
+bought_later : (t : Tables) (log longer : List Entry) (cart : ℕ) (key : Key) → Extends log longer → (item : ℕ) × WasOnCart t log cart item × (key ≡ keys.Item item)
+    → (item : ℕ) × WasOnCart t longer cart item × (key ≡ keys.Item item)
+bought_later t log longer cart key extends item = (item.0, on_cart_later t log longer cart item.0 extends item.1, item.2)
+
 about_later : (t : Tables) (log longer : List Entry) (request : Request) (draw : ℕ) (key : Key) → Extends log longer → IsAbout t log request draw key → IsAbout t longer request draw key
 about_later t log longer (Home asked) draw key extends may =
     subst (λ n. ((c : ℕ) × (asked.ids.c ≡ Some c) × (key ≡ keys.Customer c)) ⊎ (key ≡ keys.Item n)) (drawn_later t log longer draw) may
@@ -110,9 +119,16 @@ about_later t log longer (CustomerRegistration asked) draw key extends may = may
 about_later t log longer (BuyRequest asked) draw key extends may = ⊎_elim
     (λ (bought : (key ≡ keys.Cart asked.cart) ⊎ ((item : ℕ) × WasOnCart t log asked.cart item × (key ≡ keys.Item item))). inl (⊎_elim
     (λ (cart : key ≡ keys.Cart asked.cart). inl cart)
-    (λ (item : (id : ℕ) × WasOnCart t log asked.cart id × (key ≡ keys.Item id)). inr (item.0, on_cart_later t log longer asked.cart item.0 extends item.1, item.2))
+    (λ (item : (id : ℕ) × WasOnCart t log asked.cart id × (key ≡ keys.Item id)). inr (bought_later t log longer asked.cart key extends item))
     bought))
     (λ (buyer : IsBuyer t log asked.buyer key). inr (buyer_later t log longer extends asked.buyer key buyer))
+    may
+about_later t log longer (BuyConfirm asked) draw key extends may = ⊎_elim
+    (λ (named : (key ≡ keys.Customer asked.c) ⊎ (key ≡ keys.Cart asked.cart)). inl named)
+    (λ (other : IsShippedTo t log asked.c asked.address key ⊎ ((item : ℕ) × WasOnCart t log asked.cart item × (key ≡ keys.Item item))). inr (⊎_elim
+    (λ (ship : IsShippedTo t log asked.c asked.address key). inl (shipped_later t log longer extends asked.c asked.address key ship))
+    (λ (item : (id : ℕ) × WasOnCart t log asked.cart id × (key ≡ keys.Item id)). inr (bought_later t log longer asked.cart key extends item))
+    other))
     may
 about_later t log longer (OrderInquiry asked) draw key extends may = may
 about_later t log longer (OrderDisplay asked) draw key extends may = ⊎_elim

@@ -1,256 +1,34 @@
--- One try: what its settle shows.
-use Rattle.std.proofs.Common.{◌≡◌, ◌≢◌, ℕ, ◌+◌, ◌-◌, ◌≤◌, max, true, false, eqb, List, [], ◌∷◌, ◌++◌, length, Option, Some, None, IsSome, is_some, slice_get, refl, sym, ◌∙◌, ap, subst, arith, append-nil, append_assoc, length-append}
-use Rattle.std.proofs.lemmas.Bool.{eq-eqb, cond-true}
-use Rattle.std.proofs.lemmas.List.{take-append-le, take_all}
-use Rattle.std.proofs.lemmas.List.Elements.{filter-append}
+-- One try: what its settle shows where it decides nothing.
+use Rattle.std.proofs.Common.{◌≡◌, ◌≢◌, ℕ, ◌≤◌, List, [], ◌∷◌, ◌++◌, length, append-nil, Option, Some, None, IsSome, refl, sym, ◌∙◌, ap, subst, arith}
 use Rattle.shop_log.specs.Histories.{Extends}
-use Rattle.shop_log.proofs.cited.Extends.{extends_self, extends_trans}
-use Rattle.shop_log.proofs.cited.Legality.{legal_shorter, legal_last}
-use Rattle.shop_model.specs.declared.page.Page.{Page}
-use Rattle.shop_model.specs.declared.refusal.Refusal.TheVariants.{FullLog}
+use Rattle.shop_log.proofs.cited.Extends.{extends_self}
+use Rattle.shop_model.specs.declared.requests.Request.TheVariants.{BuyConfirm}
 use Rattle.shop_model.specs.declared.tables.Tables.{Tables}
-use Rattle.shop_model.specs.rows.Limits.{stamp_limit}
-use Rattle.shop_model.specs.rows.Lookups.{row_numbered}
-use Rattle.shop_model.specs.pages.Show.{is_changing, check}
-use Rattle.shop_model.specs.asked.Refusals.{page_of}
+use Rattle.shop_model.specs.asked.PurchaseAsked.{PurchaseAsked}
+use Rattle.shop_edges.specs.declared.gateway.Answer.{Answer}
+use Rattle.shop_edges.specs.Payments.{AsksOnce}
 use Rattle.shop_history.specs.declared.acts.Act.{Act}
-use Rattle.shop_history.specs.declared.acts.Act.TheVariants.{Cart, Enter}
-use Rattle.shop_history.specs.declared.acts.Drawn.{Drawn}
 use Rattle.shop_history.specs.declared.acts.Entry.{Entry}
-use Rattle.shop_history.specs.declared.acts.Ids.{Ids}
-use Rattle.shop_history.specs.Acts.{play, request_of, IsActOf}
-use Rattle.shop_history.specs.Drawing.{new_ids}
-use Rattle.shop_history.specs.Logs.{tables, version_of, entries_of, page_at, Legal, MayFollow}
-use Rattle.shop_history.proofs.cited.Places.{push_here, row_there}
-use Rattle.shop_history.proofs.cited.Rows.{tables_push}
-use Rattle.shop_draft.specs.declared.draft.Draft.{Draft}
-use Rattle.shop_draft.specs.Pages.{IsPage}
+use Rattle.shop_history.specs.Logs.{tables, version_of}
 use Rattle.shop_attempt.specs.declared.attempts.Attempt.{Attempt}
 use Rattle.shop_attempt.specs.declared.attempts.Conflict.{Conflict}
 use Rattle.shop_attempt.specs.declared.attempts.ReadOf.{ReadOf}
 use Rattle.shop_attempt.specs.declared.attempts.Settle.{Settle}
 use Rattle.shop_attempt.specs.declared.attempts.Settle.TheVariants as settle
-use Rattle.shop_attempt.specs.declared.attempts.Write.{Write}
-use Rattle.shop_attempt.specs.Faithful.{Faithful, MakesAct}
-use Rattle.shop_attempt.specs.Reads.{Agrees, AreTrue, AreReadSince, first_stale}
+use Rattle.shop_attempt.specs.Reads.{AreReadSince, first_stale}
 use Rattle.shop_attempt.specs.Seats.{Seat, IsSeat, Follows, Looked, RoseOnce}
-use Rattle.shop_attempt.specs.Settles.{Found, Refused, Accepted, Confirmed, Added, DoneAs, SettledAs, raised}
-use Rattle.shop_attempt.proofs.cited.Settles.{true_longer_all, agrees_now, conflict_with, first_stale_some}
-use Rattle.shop_attempt.proofs.cited.Looks.{conflict_of, follows_trans}
-use Rattle.shop_pages.specs.declared.reply.Form.{Form}
-use Rattle.shop_pages.specs.Replies.{reply}
-use Rattle.shop_browse.specs.Attempts.{Asking, IsReadFor, AreReadFor, IsAttempt, IsDraftOf, IsReady, IsContradiction, Becomes}
+use Rattle.shop_attempt.specs.Settles.{Found, Refused, Confirmed, DoneAs, SettledAs}
+use Rattle.shop_attempt.proofs.cited.Settles.{conflict_with, first_stale_some}
+use Rattle.shop_attempt.proofs.cited.Looks.{conflict_of}
+use Rattle.shop_browse.specs.Attempts.{IsReadFor, AreReadFor, IsAttempt, IsContradiction}
 use Rattle.shop_browse.specs.Footprints.{InFootprint}
-use Rattle.shop_engine.specs.declared.report.PointKind.TheVariants.{At, Change, Full as FullKind}
-use Rattle.shop_engine.specs.Seats.{Stays}
-use Rattle.shop_engine.specs.Tries.{IsAnswer, IsAgain, StaysWithin}
+use Rattle.shop_engine.specs.declared.tries.Job.{Job}
+use Rattle.shop_engine.specs.declared.tries.Tried.{Tried}
+use Rattle.shop_engine.specs.Tries.{IsAgain, IsTried, HasAsked, StaysWithin, TriedAs, Trying, asking_for}
 use Rattle.shop_engine.proofs.Footprints.{footprint_later}
-use Rattle.shop_engine.proofs.Seats.{StampRose, stamp_kept, stamp_raised, stays_looked, within_of}
-
--- an attempt and its settle, behind whose log found these entries of the caller stand
-
-entries_none : (caller : ℕ) → entries_of caller [] ≡ []
-entries_none caller = refl
-
-entries_one : (caller : ℕ) (entry : Entry) → entry.caller ≡ caller → entries_of caller (entry ∷ []) ≡ entry ∷ []
-entries_one caller entry same = cond-true (eqb entry.caller caller) (entry ∷ []) [] (eq-eqb entry.caller caller same)
-
-stays_found : (start old new : Seat) (found entries : List Entry) (moment : ℕ) → Looked start old → Follows old new → RoseOnce old.settles new.settles → Found old found
-    → new.seen ≡ found ++ entries → entries_of old.caller entries ≡ entries → new.own ≡ old.own ++ entries → new.greatest ≤ max old.greatest moment → StampRose old.latest new.latest moment
-    → Stays start new entries 1 moment
-stays_found start old new found entries moment looked follows rose is_found seen own_are own greatest stamp = record {
-  follows = follows_trans start old new looked.follows follows;
-  mine =
-      ap (λ c. entries_of c new.seen) follows.caller
-      ∙ ap (entries_of old.caller) seen
-      ∙ filter-append (λ (e : Entry). eqb e.caller old.caller) found entries
-      ∙ ap (λ (l : List Entry). l ++ entries_of old.caller entries) (is_found.mine ∙ looked.mine)
-      ∙ ap (λ (l : List Entry). entries_of start.caller start.seen ++ l) own_are;
-  own = own ∙ ap (λ (l : List Entry). l ++ entries) looked.own;
-  rose = omega (arith, rose.rose, looked.settles);
-  kept = omega (arith, rose.kept, looked.settles);
-  most = omega (arith, rose.once, looked.settles);
-  greatest = omega (arith, greatest, looked.greatest);
-  stamp = subst (λ o. StampRose o new.latest moment) looked.latest stamp;
-  alone = λ told.
-      seen ∙ ap (λ (l : List Entry). l ++ entries) (is_found.alone (subst IsSome (sym looked.latest) told) ∙ looked.alone told);
-}
-
--- a refusal
-stays_refused : (start old new : Seat) (moment : ℕ) → Looked start old → Follows old new → RoseOnce old.settles new.settles → Refused old new → Stays start new [] 1 moment
-stays_refused start old new moment looked follows rose refused =
-    stays_found start old new new.seen [] moment looked follows rose refused.found (sym (append-nil new.seen)) (entries_none old.caller) (refused.own ∙ sym (append-nil old.own))
-    (omega (arith, refused.greatest)) (stamp_kept old.latest new.latest moment refused.latest)
-
--- where no read is stale in the log found, the tables after it agree with the reads
-
-agrees_found : (old new : Seat) (found : List Entry) (attempt : Attempt) → Follows old new → IsSeat new → Extends old.seen found → Extends found new.seen → Faithful old.opening old.seen attempt
-    → first_stale new.opening found attempt.reads ≡ None → Agrees old.opening (tables new.opening found) attempt.reads
-agrees_found old new found attempt follows seat grows begins faithful fresh =
-    let were : AreTrue new.opening old.seen attempt.reads = subst (λ t. AreTrue t old.seen attempt.reads) (sym follows.opening) faithful.reads_are in
-    let legal : Legal new.opening found = legal_shorter (MayFollow new.opening) found new.seen begins seat.legal in
-    let short : length found ≤ new.limit = omega (arith, seat.short, ap length begins.is, length-append found begins.rest) in
-    subst (λ t. Agrees t (tables new.opening found) attempt.reads) follows.opening
-    (agrees_now new.opening new.limit found attempt.reads seat.good legal short
-    (true_longer_all new.opening old.seen found attempt.reads grows were) fresh)
-
--- what an act decides
-
-no_act : (act : Option Act) → is_some act ≡ false → act ≡ None
-no_act None is = refl
-no_act (Some act) is = absurd cc
-
-some_act : (act : Option Act) → is_some act ≡ true → (does : Act) × (act ≡ Some does)
-some_act None is = absurd cc
-some_act (Some act) is = (act, refl)
-
--- a settle that was done without a change
-
-pub shown_is : (start old new : Seat) (asking : Asking) (draft : Draft) (attempt : Attempt) (drawn : Drawn) (form : Form) (bytes : List ℕ) → Looked start old → Follows old new → IsSeat new
-    → RoseOnce old.settles new.settles → IsReady start old asking draft attempt → DoneAs old new attempt attempt.act drawn → is_some attempt.act ≡ false
-    → ((page : Page) → IsPage draft drawn page → bytes ≡ reply page form) → IsAnswer start new asking form bytes (record { kind = At; front = drawn.front; tries = 1 })
-shown_is start old new asking draft attempt drawn form bytes looked follows seat rose ready done reads bytes_are =
-    let none : attempt.act ≡ None = no_act attempt.act reads in
-    let was : Confirmed old new attempt drawn = subst (λ o. DoneAs old new attempt o drawn) none done in
-    let t : Tables = tables new.opening new.seen in
-    let drafts : IsDraftOf old.opening asking attempt.reads draft None = subst (IsDraftOf old.opening asking attempt.reads draft) none ready.drafts in
-    let shown = drafts t (agrees_found old new new.seen attempt follows seat was.accepted.is_found.grows (extends_self new.seen) ready.attempts.faithful was.accepted.fresh) in
-    record {
-      made = [];
-      page = shown.page;
-      decided = λ call. record {
-        stays =
-            stays_found start old new new.seen [] asking.moment looked follows rose was.accepted.is_found (sym (append-nil new.seen)) (entries_none old.caller) (was.own ∙ sym (append-nil old.own))
-            (omega (arith, was.accepted.greatest, ready.attempts.at))
-            (stamp_raised old.latest new.latest asking.moment (was.accepted.latest ∙ ap (raised old.latest) ready.attempts.at));
-        some = omega arith;
-        few = omega arith;
-        alone = λ told. refl;
-        cause = (refl, was.accepted.front);
-        shows = shown.shows;
-      };
-      bytes_are = bytes_are shown.page (shown.written drawn);
-    }
-
--- a settle that was done as a change
-
--- the page of the last entry
-last_page : (t : Tables) (log : List Entry) (entry : Entry) (number : ℕ) → number ≡ length (log ++ entry ∷ []) → page_at t (log ++ entry ∷ []) number ≡ Some (play (tables t log) entry.stamp entry.act).page
-last_page t log entry number is =
-    let long : length (log ++ entry ∷ []) ≡ length log + 1 = length-append log (entry ∷ []) in
-    let at : number - 1 ≡ length log = omega (arith, is, long) in
-    let there : row_numbered (log ++ entry ∷ []) number ≡ Some entry
-    = row_there (log ++ entry ∷ []) number entry (record { above = omega (arith, is, long); at = ap (slice_get (log ++ entry ∷ [])) at ∙ push_here log entry }) in
-    rw (there, at, take-append-le (length log) log (entry ∷ []) (omega arith), take_all (length log) log (omega arith))
-
-exact_stamp : (latest now : Option ℕ) (moment stamp : ℕ) → (IsSome latest → now ≡ Some stamp) → now ≡ raised latest moment → (told : ℕ) → latest ≡ Some told → stamp ≡ max told moment
-exact_stamp latest now moment stamp is rose told same =
-    same_stamp stamp (max told moment) (sym (is (subst IsSome (sym same) refl)) ∙ rose ∙ ap (λ o. raised o moment) same)
-  where
-    same_stamp : (one other : ℕ) → Some one ≡ Some other → one ≡ other
-    same_stamp one other is = cc
-
-pub changed_is : (start old new : Seat) (asking : Asking) (draft : Draft) (attempt : Attempt) (drawn : Drawn) (form : Form) (bytes : List ℕ) → Looked start old → Follows old new → IsSeat new
-    → RoseOnce old.settles new.settles → IsReady start old asking draft attempt → DoneAs old new attempt attempt.act drawn → is_some attempt.act ≡ true
-    → ((page : Page) → IsPage draft drawn page → bytes ≡ reply page form) → IsAnswer start new asking form bytes (record { kind = Change; front = drawn.front; tries = 1 })
-changed_is start old new asking draft attempt drawn form bytes looked follows seat rose ready done changes bytes_are =
-    let some = some_act attempt.act changes in
-    let act : Act = some.0 in
-    let was : Added old new attempt act drawn = subst (λ o. DoneAs old new attempt o drawn) some.1 done in
-    let accepted : Accepted old new was.before attempt drawn = was.accepted in
-    let begins : Extends was.before new.seen = record { rest = was.entry ∷ []; is = was.seen } in
-    let t : Tables = tables new.opening was.before in
-    let drafts : IsDraftOf old.opening asking attempt.reads draft (Some act) = subst (IsDraftOf old.opening asking attempt.reads draft) some.1 ready.drafts in
-    let may : MayFollow new.opening was.before was.entry = legal_last (MayFollow new.opening) was.before was.entry (subst (Legal new.opening) was.seen seat.legal) in
-    let becomes : Becomes t was.entry.stamp act draft
-    = drafts.1 t was.entry.stamp (agrees_found old new was.before attempt follows seat accepted.is_found.grows begins ready.attempts.faithful accepted.fresh) may.bound in
-    let ids_are : drawn.ids ≡ new_ids t (play t was.entry.stamp act).tables
-    = was.ids
-    ∙ ap (new_ids t) (ap (tables new.opening) was.seen ∙ tables_push new.opening was.before was.entry ∙ ap (λ a. (play t was.entry.stamp a).tables) was.does) in
-    let at : Ids → ℕ → Drawn = λ ids stamp. record { front = drawn.front; stamp = stamp; ids = ids } in
-    let same : at (new_ids t (play t was.entry.stamp act).tables) was.entry.stamp ≡ drawn
-    = ap (at (new_ids t (play t was.entry.stamp act).tables)) was.stamp ∙ ap (λ ids. at ids drawn.stamp) (sym ids_are) in
-    let page_is : IsPage draft drawn (play t was.entry.stamp was.entry.act).page
-    = subst (λ a. IsPage draft drawn (play t was.entry.stamp a).page) (sym was.does)
-    (subst (λ d. IsPage draft d (play t was.entry.stamp act).page) same (becomes drawn.front)) in
-    let shows : page_at new.opening new.seen (length new.seen) ≡ Some (play t was.entry.stamp was.entry.act).page
-    = ap (λ (log : List Entry). page_at new.opening log (length log)) was.seen ∙ last_page new.opening was.before was.entry (length (was.before ++ was.entry ∷ [])) refl in
-    let caller : was.entry.caller ≡ old.caller = was.caller ∙ follows.caller in
-    let begins_found : Extends start.seen was.before = extends_trans start.seen old.seen was.before looked.follows.grows accepted.is_found.grows in
-    record {
-      made = was.entry ∷ [];
-      page = (play t was.entry.stamp was.entry.act).page;
-      decided = λ call. record {
-        stays =
-            stays_found start old new was.before (was.entry ∷ []) asking.moment looked follows rose accepted.is_found was.seen (entries_one old.caller was.entry caller) was.own
-            (omega (arith, accepted.greatest, ready.attempts.at))
-            (stamp_raised old.latest new.latest asking.moment (accepted.latest ∙ ap (raised old.latest) ready.attempts.at));
-        some = omega arith;
-        few = omega arith;
-        alone = λ told. refl;
-        cause = (
-          record {
-            between = begins_found.rest;
-            entry = was.entry;
-            made_is = refl;
-            seen = was.seen ∙ ap (λ (log : List Entry). log ++ was.entry ∷ []) begins_found.is ∙ append_assoc start.seen begins_found.rest (was.entry ∷ []);
-            caller = was.caller;
-            does = subst (IsActOf asking.request asking.draw) (sym was.does) drafts.0;
-            later = omega (arith, accepted.moment, ready.attempts.at, was.stamp);
-            exact = λ told same.
-                was.stamp
-                ∙ exact_stamp start.latest new.latest asking.moment drawn.stamp (λ is. accepted.told (subst IsSome (sym looked.latest) is))
-                (accepted.latest ∙ ap (raised old.latest) ready.attempts.at ∙ ap (λ o. raised o asking.moment) looked.latest) told same;
-          },
-          accepted.front,
-        );
-        shows = shows;
-      };
-      bytes_are = bytes_are (play t was.entry.stamp was.entry.act).page page_is;
-    }
-
--- a settle that found the log full
-
-act_changes : (act : Act) → is_changing (request_of act) ≡ true
-act_changes (Cart asked draw) = refl
-act_changes (Enter asked draw) = refl
-
-passes_there : (opening : Tables) (reads : List ReadOf) (act : Act) (writes : Option (List Write)) (t : Tables) (stamp : ℕ) → MakesAct opening reads (Some act) writes → Agrees opening t reads → stamp ≤ stamp_limit
-    → check t (request_of act) ≡ None
-passes_there opening reads act None t stamp makes agrees bound = absurd makes
-passes_there opening reads act (Some writes) t stamp makes agrees bound = (makes t stamp agrees bound).passes
-
-pub full_is : (start old new : Seat) (asking : Asking) (draft : Draft) (attempt : Attempt) (size : ℕ) (form : Form) (bytes : List ℕ) → Looked start old → Follows old new → IsSeat new → RoseOnce old.settles new.settles
-    → IsReady start old asking draft attempt → SettledAs old new attempt (settle.Full size)
-    → bytes ≡ reply (page_of FullLog) form → IsAnswer start new asking form bytes (record { kind = FullKind; front = size; tries = 1 })
-full_is start old new asking draft attempt size form bytes looked follows seat rose ready settled bytes_are =
-    let some = some_act attempt.act settled.0.changes in
-    let t : Tables = tables new.opening new.seen in
-    let agrees : Agrees old.opening t attempt.reads
-    = agrees_found old new new.seen attempt follows seat settled.0.refused.found.grows (extends_self new.seen) ready.attempts.faithful settled.0.fresh in
-    let makes : MakesAct old.opening attempt.reads (Some some.0) attempt.writes = subst (λ o. MakesAct old.opening attempt.reads o attempt.writes) some.1 ready.attempts.faithful.makes in
-    let drafts : IsDraftOf old.opening asking attempt.reads draft (Some some.0) = subst (IsDraftOf old.opening asking attempt.reads draft) some.1 ready.drafts in
-    record {
-      made = [];
-      page = page_of FullLog;
-      decided = λ call. record {
-        stays = stays_refused start old new asking.moment looked follows rose settled.0.refused;
-        some = omega arith;
-        few = omega arith;
-        alone = λ told. refl;
-        cause = (
-          record {
-            limit = sym settled.1 ∙ settled.2;
-            changes = ap is_changing (sym drafts.0.does) ∙ act_changes some.0;
-            passes = ap (check t) (sym drafts.0.does) ∙ passes_there old.opening attempt.reads some.0 attempt.writes t 0 makes agrees (omega arith);
-          },
-          refl,
-          settled.1,
-        );
-        shows = refl;
-      };
-      bytes_are = bytes_are;
-    }
+use Rattle.shop_engine.proofs.Payments.{asks_nothing, asks_once, has_asked}
+use Rattle.shop_engine.proofs.Seats.{stays_looked, within_of}
+use Rattle.shop_engine.proofs.SettleLemmas.{stays_refused, agrees_found}
 
 -- memory
 
@@ -263,18 +41,18 @@ no_room start old moment looked = within_of start old [] 0 1 moment (stays_looke
 
 -- what is known of a stale read beside the conflict
 
-record IsStaleOf (start new : Seat) (asking : Asking) (conflict : Conflict) : Type 0 where
-  footprint : InFootprint new.opening new.seen asking.request asking.draw conflict.key
+record IsStaleOf (start new : Seat) (job : Job) (conflict : Conflict) : Type 0 where
+  footprint : InFootprint new.opening new.seen job.request.now job.ask.draw conflict.key
   since : conflict.read ≤ length start.seen → version_of new.opening start.seen conflict.key ≡ conflict.read
   others : IsSome start.latest → ⊥
 
-stale_of : (start old new : Seat) (asking : Asking) (read : ReadOf) → Looked start old → Follows old new → Found old new.seen → IsReadFor start old asking read
-    → version_of new.opening new.seen read.key ≢ read.version → IsStaleOf start new asking (conflict_with new.opening new.seen read)
-stale_of start old new asking read looked follows found is apart =
+stale_of : (start old new : Seat) (job : Job) (read : ReadOf) → Looked start old → Follows old new → Found old new.seen → IsReadFor start old (asking_for job) read
+    → version_of new.opening new.seen read.key ≢ read.version → IsStaleOf start new job (conflict_with new.opening new.seen read)
+stale_of start old new job read looked follows found is apart =
     let since : read.version ≤ length start.seen → version_of new.opening start.seen read.key ≡ read.version
     = λ early. ap (λ (t : Tables). version_of t start.seen read.key) follows.opening ∙ is.since.since early in
     record {
-      footprint = footprint_later old new asking.request asking.draw read.key follows is.footprint;
+      footprint = footprint_later old new job.request.now job.ask.draw read.key follows is.footprint;
       since = since;
       others = λ told.
           let same : old.seen ≡ start.seen = looked.alone told in
@@ -282,24 +60,24 @@ stale_of start old new asking read looked follows found is apart =
           apart (ap (λ (log : List Entry). version_of new.opening log read.key) now ∙ since (omega (arith, is.since.holds.within, ap length same)));
     }
 
-stale_in : (start old new : Seat) (asking : Asking) (reads : List ReadOf) (conflict : Conflict) → Looked start old → Follows old new → Found old new.seen
-    → AreReadFor start old asking reads → first_stale new.opening new.seen reads ≡ Some conflict → IsStaleOf start new asking conflict
-stale_in start old new asking [] conflict looked follows found are is = absurd cc
-stale_in start old new asking (read ∷ reads) conflict looked follows found are is =
-    first_stale_some new.opening new.seen (IsStaleOf start new asking) read reads conflict (stale_of start old new asking read looked follows found are.0)
-    (stale_in start old new asking reads conflict looked follows found are.1) is
+stale_in : (start old new : Seat) (job : Job) (reads : List ReadOf) (conflict : Conflict) → Looked start old → Follows old new → Found old new.seen
+    → AreReadFor start old (asking_for job) reads → first_stale new.opening new.seen reads ≡ Some conflict → IsStaleOf start new job conflict
+stale_in start old new job [] conflict looked follows found are is = absurd cc
+stale_in start old new job (read ∷ reads) conflict looked follows found are is =
+    first_stale_some new.opening new.seen (IsStaleOf start new job) read reads conflict (stale_of start old new job read looked follows found are.0)
+    (stale_in start old new job reads conflict looked follows found are.1) is
 
-are_since : (start old : Seat) (asking : Asking) (reads : List ReadOf) → AreReadFor start old asking reads → AreReadSince start old reads
-are_since start old asking [] are = tt
-are_since start old asking (read ∷ reads) are = (are.0.since, are_since start old asking reads are.1)
+are_since : (start old : Seat) (job : Job) (reads : List ReadOf) → AreReadFor start old (asking_for job) reads → AreReadSince start old reads
+are_since start old job [] are = tt
+are_since start old job (read ∷ reads) are = (are.0.since, are_since start old job reads are.1)
 
-pub again_is : (start old new : Seat) (asking : Asking) (attempt : Attempt) (conflict : Conflict) → Looked start old → Follows old new → RoseOnce old.settles new.settles
-    → IsAttempt start old asking attempt → SettledAs old new attempt (settle.Stale conflict) → IsAgain start new asking conflict
-again_is start old new asking attempt conflict looked follows rose made settled =
-    let both = conflict_of start old new attempt conflict looked follows (are_since start old asking attempt.reads made.reads) settled in
-    let stale = stale_in start old new asking attempt.reads conflict looked follows settled.0.found made.reads settled.1 in
+pub again_is : (start old new : Seat) (job : Job) (attempt : Attempt) (conflict : Conflict) → Looked start old → Follows old new → RoseOnce old.settles new.settles
+    → IsAttempt start old (asking_for job) attempt → SettledAs old new attempt (settle.Stale conflict) → IsAgain start new job conflict
+again_is start old new job attempt conflict looked follows rose made settled =
+    let both = conflict_of start old new attempt conflict looked follows (are_since start old job attempt.reads made.reads) settled in
+    let stale = stale_in start old new job attempt.reads conflict looked follows settled.0.found made.reads settled.1 in
     record {
-      stays = stays_refused start old new asking.moment looked follows rose settled.0;
+      stays = stays_refused start old new job.ask.moment looked follows rose settled.0;
       met = record { conflicts = both.0; footprint = stale.footprint; above = both.1 };
       since = stale.since;
       others = stale.others;
@@ -307,19 +85,42 @@ again_is start old new asking attempt conflict looked follows rose made settled 
 
 -- an attempt that no tables agree with is stale
 
-never_fresh : (start old new : Seat) (asking : Asking) (attempt : Attempt) → Follows old new → IsSeat new → IsContradiction start old asking attempt → Extends old.seen new.seen
+never_fresh : (start old new : Seat) (job : Job) (attempt : Attempt) → Follows old new → IsSeat new → IsContradiction start old (asking_for job) attempt → Extends old.seen new.seen
     → first_stale new.opening new.seen attempt.reads ≡ None → ⊥
-never_fresh start old new asking attempt follows seat contradicts grows fresh =
+never_fresh start old new job attempt follows seat contradicts grows fresh =
     contradicts.never (tables new.opening new.seen) (agrees_found old new new.seen attempt follows seat grows (extends_self new.seen) contradicts.attempts.faithful fresh)
 
 not_some : (act : Option Act) → act ≡ None → IsSome act → ⊥
 not_some act none is = let no : IsSome {T = Act} None = subst IsSome none is in cc
 
-pub never_else : (start old new : Seat) (asking : Asking) (attempt : Attempt) (result : Settle) → Follows old new → IsSeat new → IsContradiction start old asking attempt
+pub never_else : (start old new : Seat) (job : Job) (attempt : Attempt) (result : Settle) → Follows old new → IsSeat new → IsContradiction start old (asking_for job) attempt
     → SettledAs old new attempt result → ((conflict : Conflict) → result ≡ settle.Stale conflict → ⊥) → ⊥
-never_else start old new asking attempt (settle.Done drawn) follows seat contradicts settled other =
+never_else start old new job attempt (settle.Done drawn) follows seat contradicts settled other =
     let was : Confirmed old new attempt drawn = subst (λ o. DoneAs old new attempt o drawn) contradicts.reading settled in
-    never_fresh start old new asking attempt follows seat contradicts was.accepted.is_found.grows was.accepted.fresh
-never_else start old new asking attempt (settle.Stale conflict) follows seat contradicts settled other = other conflict refl
-never_else start old new asking attempt (settle.Full size) follows seat contradicts settled other = not_some attempt.act contradicts.reading settled.0.changes
-never_else start old new asking attempt settle.Memory follows seat contradicts settled other = not_some attempt.act contradicts.reading settled.0.changes
+    never_fresh start old new job attempt follows seat contradicts was.accepted.is_found.grows was.accepted.fresh
+never_else start old new job attempt (settle.Stale conflict) follows seat contradicts settled other = other conflict refl
+never_else start old new job attempt (settle.Full size) follows seat contradicts settled other = not_some attempt.act contradicts.reading settled.0.changes
+never_else start old new job attempt settle.Memory follows seat contradicts settled other = not_some attempt.act contradicts.reading settled.0.changes
+
+-- what the gateway was asked in one try
+
+pub unasked : (old new : Trying) (job : Job) (bytes : List ℕ) (tried : Tried) → new.kept ≡ old.kept → new.told ≡ old.told
+    → ((before : List Answer) → HasAsked job before old.kept → TriedAs old.seat new.seat job before bytes tried) → IsTried old new job bytes tried
+unasked old new job bytes tried kept told is = record {
+  answers = [];
+  few = omega arith;
+  asks = asks_nothing old new job kept told;
+  is = λ before has. subst (λ (l : List Answer). TriedAs old.seat new.seat job l bytes tried) (sym (append-nil before)) (is before has);
+}
+
+pub asked_once : (old new : Trying) (job : Job) (bytes : List ℕ) (tried : Tried) (asked : PurchaseAsked) → job.request.now ≡ BuyConfirm asked
+    → AsksOnce asked job.caller job.call old.kept new.kept old.told new.told
+    → ((all : List Answer) → HasAsked job all new.kept → TriedAs old.seat new.seat job all bytes tried) → IsTried old new job bytes tried
+asked_once old new job bytes tried asked buys once is =
+    let asks = asks_once old new job asked buys once in
+    record {
+      answers = once.answers;
+      few = once.few;
+      asks = asks;
+      is = λ before has. is (before ++ once.answers) (has_asked job before once.answers old new has asks);
+    }

@@ -1,10 +1,12 @@
 -- What decides the answer to a request, by the kind of its point.
-use Rattle.std.specs.Prelude.{◌≡◌, ℕ, ◌<◌, ◌≤◌, max, List, [], ◌∷◌, ◌++◌, length, All, AllPairs, Option, Some, None, IsSome, true}
+use Rattle.std.specs.Prelude.{◌≡◌, ℕ, ◌+◌, ◌<◌, ◌≤◌, max, List, [], ◌∷◌, ◌++◌, length, All, AllPairs, Option, Some, None, IsSome, true}
 use Rattle.shop_model.specs.declared.page.Page.{Page}
-use Rattle.shop_model.specs.declared.refusal.Refusal.TheVariants.{RowsKeptChanging, FullLog}
+use Rattle.shop_model.specs.declared.refusal.Refusal.TheVariants as refusal
 use Rattle.shop_model.specs.declared.requests.Request.{Request}
 use Rattle.shop_model.specs.pages.Show.{is_changing, check, show}
 use Rattle.shop_model.specs.asked.Refusals.{page_of}
+use Rattle.shop_edges.specs.declared.gateway.Answer.{Answer}
+use Rattle.shop_edges.specs.Charges.{denial}
 use Rattle.shop_history.specs.declared.acts.Entry.{Entry}
 use Rattle.shop_history.specs.Acts.{IsActOf}
 use Rattle.shop_history.specs.Logs.{tables, page_at}
@@ -12,23 +14,36 @@ use Rattle.shop_attempt.specs.declared.attempts.Conflict.{Conflict}
 use Rattle.shop_attempt.specs.Reads.{IsConflict}
 use Rattle.shop_attempt.specs.Seats.{Seat}
 use Rattle.shop_browse.specs.Footprints.{InFootprint}
+use Rattle.shop_order.specs.Payments.{Call}
 use Rattle.shop_engine.specs.declared.report.Point.{Point}
 use Rattle.shop_engine.specs.declared.report.PointKind.{PointKind}
-use Rattle.shop_engine.specs.declared.report.PointKind.TheVariants.{Plain, At, Change, Busy, Full}
+use Rattle.shop_engine.specs.declared.report.PointKind.TheVariants.{Plain, At, Change, Busy, Full, Denied, GatewayFailed}
+use Rattle.shop_engine.specs.Payments.{AreFor, IsPaid, IsDenied, IsFailed}
 use Rattle.shop_engine.specs.Seats.{Stays}
+
+-- what came of a request: its point, the entries that it made, and what the gateway was asked for it, and said
+pub record Decision : Type 0 where
+  pub point : Point
+  pub made : List Entry
+  pub answers : List Answer
+
+-- the call whose point this is, of the caller who has the seat
+abbrev pub call_of : Seat → Point → Call
+call_of seat point = record { caller = seat.caller; number = point.call }
 
 -- a change: its entry is the caller's, with the request's act, and the last of the log seen, behind all that was seen
 -- before and what came between; its stamp is no less than its moment, and where the caller is the only one, the
--- larger of the latest stamp before and the moment
-pub record IsChanged (old new : Seat) (request : Request) (point : Point) (made : List Entry) : Type 0 where
+-- larger of the latest stamp before and the moment; where it is a purchase, it was paid in the tables that it found
+pub record IsChanged (old new : Seat) (request : Request) (decision : Decision) : Type 0 where
   pub between : List Entry
   pub entry : Entry
-  pub made_is : made ≡ entry ∷ []
-  pub seen : new.seen ≡ old.seen ++ (between ++ made)
+  pub made_is : decision.made ≡ entry ∷ []
+  pub seen : new.seen ≡ old.seen ++ (between ++ decision.made)
   pub caller : entry.caller ≡ new.caller
-  pub does : IsActOf request point.draw entry.act
-  pub later : point.moment ≤ entry.stamp
-  pub exact : (told : ℕ) → old.latest ≡ Some told → entry.stamp ≡ max told point.moment
+  pub does : IsActOf request decision.point.draw entry.act
+  pub paid : IsPaid (tables new.opening (old.seen ++ between)) (call_of new decision.point) decision.answers entry.act
+  pub later : decision.point.moment ≤ entry.stamp
+  pub exact : (told : ℕ) → old.latest ≡ Some told → entry.stamp ≡ max told decision.point.moment
 
 -- a conflict in a row that the request may read, whose change is another caller's, behind all that was seen before
 pub record IsMet (old new : Seat) (request : Request) (draw : ℕ) (conflict : Conflict) : Type 0 where
@@ -51,28 +66,45 @@ pub record IsFull (new : Seat) (request : Request) : Type 0 where
   pub changes : is_changing request ≡ true
   pub passes : check (tables new.opening new.seen) request ≡ None
 
--- what decided, the entries made, and the front: the length of the log seen, but for rows that kept changing
-abbrev pub CauseAs : Seat → Seat → Request → Point → List Entry → PointKind → Type 0
-CauseAs old new request point made At = (made ≡ []) × (point.front ≡ length new.seen)
-CauseAs old new request point made Change = IsChanged old new request point made × (point.front ≡ length new.seen)
-CauseAs old new request point made (Busy conflicts) = IsBusy old new request point conflicts × (made ≡ []) × (point.front ≡ 0)
-CauseAs old new request point made Full = IsFull new request × (made ≡ []) × (point.front ≡ length new.seen)
-CauseAs old new request point made Plain = ⊥
+-- nothing was made, after so many entries
+abbrev pub MadeNothing : Decision → ℕ → Type 0
+MadeNothing decision front = (decision.made ≡ []) × (decision.point.front ≡ front)
+
+-- what decided, the entries made, and the front: the length of the log seen, but for rows that kept changing, and
+-- for a gateway that failed
+abbrev pub CauseAs : Seat → Seat → Request → Decision → PointKind → Type 0
+CauseAs old new request decision At = MadeNothing decision (length new.seen)
+CauseAs old new request decision Change = IsChanged old new request decision × (decision.point.front ≡ length new.seen)
+CauseAs old new request decision (Busy conflicts) = IsBusy old new request decision.point conflicts × MadeNothing decision 0
+CauseAs old new request decision Full = IsFull new request × MadeNothing decision (length new.seen)
+CauseAs old new request decision (Denied charge reason) =
+    IsDenied (tables new.opening new.seen) request (call_of new decision.point) decision.answers charge reason
+    × MadeNothing decision (length new.seen)
+CauseAs old new request decision GatewayFailed = IsFailed old new request × MadeNothing decision 0
+CauseAs old new request decision Plain = ⊥
 
 -- the page of the answer: what the tables after the log seen show, the page of the last entry, or that of a refusal
 abbrev pub page_as : Seat → Request → ℕ → PointKind → Option Page
 page_as new request draw At = show (tables new.opening new.seen) request draw
 page_as new request draw Change = page_at new.opening new.seen (length new.seen)
-page_as new request draw (Busy conflicts) = Some (page_of RowsKeptChanging)
-page_as new request draw Full = Some (page_of FullLog)
+page_as new request draw (Busy conflicts) = Some (page_of refusal.RowsKeptChanging)
+page_as new request draw Full = Some (page_of refusal.FullLog)
+page_as new request draw (Denied charge reason) = Some (page_of (denial reason))
+page_as new request draw GatewayFailed = Some (page_of refusal.GatewayFailed)
 page_as new request draw Plain = None
+
+-- how many attempts the last try settled: one, but none where the gateway failed
+abbrev pub tries_alone : PointKind → ℕ
+tries_alone GatewayFailed = 0
+tries_alone _ = 1
 
 -- a request was decided between two views of a seat, by one of eight tries, and the first where the caller is the
 -- only one: there is a page, and this is it
-pub record IsDecided (old new : Seat) (request : Request) (point : Point) (made : List Entry) (page : Page) : Type 0 where
-  pub stays : Stays old new made point.tries point.moment
-  pub some : 1 ≤ point.tries
-  pub few : point.tries ≤ 8
-  pub alone : IsSome old.latest → point.tries ≡ 1
-  pub cause : CauseAs old new request point made point.kind
-  pub shows : page_as new request point.draw point.kind ≡ Some page
+pub record IsDecided (old new : Seat) (request : Request) (decision : Decision) (page : Page) : Type 0 where
+  pub stays : Stays old new decision.made decision.point.tries decision.point.moment
+  pub some : tries_alone decision.point.kind ≤ decision.point.tries
+  pub few : decision.point.tries ≤ 7 + tries_alone decision.point.kind
+  pub alone : IsSome old.latest → decision.point.tries ≡ tries_alone decision.point.kind
+  pub asks : AreFor request (call_of new decision.point) decision.answers
+  pub cause : CauseAs old new request decision decision.point.kind
+  pub shows : page_as new request decision.point.draw decision.point.kind ≡ Some page

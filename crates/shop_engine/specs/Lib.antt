@@ -1,8 +1,11 @@
 pub mod Workers
 pub mod WorkerView
 pub mod Seats
+pub mod Payments
+pub mod Failures
 pub mod Decided
 pub mod Tries
 pub mod Steps
 pub mod Served
 pub mod Connections
+pub mod OneOrder

@@ -2,6 +2,7 @@
 use Rattle.std.specs.Prelude.{◌≡◌, ℕ, ◌+◌, ◌<◌, ◌⊎◌, List, [], ◌∷◌, ◌++◌, length, take, map, flat_map, sum_by, All, Option, Some, None, option_map, option_to_list, true, false}
 use Rattle.std.specs.List.{concat}
 use Rattle.std.specs.Io.KnownBytes.{Appends, Consumes, IsAtEnd}
+use Rattle.shop_edges.specs.Gateways.{Answered}
 use Rattle.shop_model.specs.declared.refusal.Refusal.{Refusal}
 use Rattle.shop_model.specs.asked.Refusals.{page_of, status_of}
 use Rattle.shop_pages.specs.Replies.{reply}
@@ -60,10 +61,12 @@ pub record Served (old new : Standing) (streams streams' : Streams) (end : Ended
   pub stay : All (λ m. m.close ≡ false) before
   pub few : length before < ANSWERS
   pub ends : EndsAs end before last told rest streams'.left
-  -- each message was answered in a step, and the steps made these entries of the caller by so many settles; nothing
-  -- came behind the last answer, but where memory ran out
+  -- each message was answered in a step, and the steps made these entries of the caller by so many settles; the
+  -- gateway tells what it was asked in them, and said, in order; nothing came behind the last answer, but where
+  -- memory ran out
   pub run : AreSteps 0 old steps mid
   pub stays : Stays old.seat mid.seat (flat_map (λ s. s.made) steps) (sum_by (λ s. s.point.tries) steps) mid.progress.last
+  pub asked : Answered old.told mid.told (flat_map (λ s. s.answers) steps)
   pub after : (new ≡ mid) ⊎ ((end ≡ ended.Memory) × GivesUp mid new)
   -- a step has a point, in order, and a refusal one more; the replies were written in the same order
   pub all : points ≡ map (λ s. s.point) steps ++ option_to_list (option_map (λ _. plain_point) told)

@@ -1,37 +1,92 @@
 -- What one try of a request leaves, and what its tries together do.
-use Rattle.std.specs.Prelude.{◌≡◌, ℕ, ◌≤◌, List, [], length, IsSome}
+use Rattle.std.specs.Prelude.{◌≡◌, ℕ, ◌≤◌, List, [], ◌++◌, length, All, Option, Some, None, IsSome}
 use Rattle.shop_model.specs.declared.page.Page.{Page}
+use Rattle.shop_model.specs.declared.requests.Request.{Request}
+use Rattle.shop_model.specs.declared.requests.Request.TheVariants.{BuyConfirm}
+use Rattle.shop_model.specs.declared.tables.Tables.{Tables}
+use Rattle.shop_edges.specs.declared.gateway.Answer.{Answer}
+use Rattle.shop_edges.specs.declared.gateway.Verdict.TheVariants as verdict
+use Rattle.shop_edges.specs.Charges.{ChargeValue}
+use Rattle.shop_edges.specs.Gateways.{Answered}
+use Rattle.shop_edges.specs.Payments.{Keeps, IsFor}
+use Rattle.shop_history.specs.declared.acts.Act.{Act}
 use Rattle.shop_history.specs.declared.acts.Entry.{Entry}
 use Rattle.shop_history.specs.Logs.{version_of}
+use Rattle.shop_draft.specs.declared.draft.Draft.{Draft}
+use Rattle.shop_attempt.specs.declared.attempts.Attempt.{Attempt}
 use Rattle.shop_attempt.specs.declared.attempts.Conflict.{Conflict}
+use Rattle.shop_attempt.specs.Reads.{Agrees}
 use Rattle.shop_attempt.specs.Seats.{Seat}
-use Rattle.shop_browse.specs.Attempts.{Asking}
-use Rattle.shop_pages.specs.declared.reply.Form.{Form}
+use Rattle.shop_browse.specs.Attempts.{Asking, IsReady, asking_of}
+use Rattle.shop_order.specs.Payments.{Call}
 use Rattle.shop_pages.specs.Replies.{reply}
 use Rattle.shop_engine.specs.declared.report.Point.{Point}
+use Rattle.shop_engine.specs.declared.report.PointKind.TheVariants as kind
+use Rattle.shop_engine.specs.declared.tries.Job.{Job}
 use Rattle.shop_engine.specs.declared.tries.Outcome.{Outcome}
 use Rattle.shop_engine.specs.declared.tries.Tried.{Tried}
-use Rattle.shop_engine.specs.declared.tries.Tried.TheVariants.{Settled, Again, Memory}
-use Rattle.shop_engine.specs.Decided.{IsMet, IsDecided}
+use Rattle.shop_engine.specs.declared.tries.Tried.TheVariants.{Settled, Denied, Again, Failed, Memory}
+use Rattle.shop_engine.specs.Decided.{IsMet, IsDecided, tries_alone}
+use Rattle.shop_engine.specs.Payments.{IsPaid}
 use Rattle.shop_engine.specs.Seats.{Stays}
 
--- the point of what came of it, by its number among the caller's requests
-abbrev pub point_of : Asking → Outcome → ℕ → Point
-point_of asking outcome call = record {
+-- the parts of a job: what is asked, and by whom, in which call
+
+abbrev pub asking_for : Job → Asking
+asking_for job = asking_of job.ask job.request.now
+
+abbrev pub called_by : Job → Call
+called_by job = record { caller = job.caller; number = job.call }
+
+-- the point of what came of it
+abbrev pub point_of : Job → Outcome → Point
+point_of job outcome = record {
   kind = outcome.kind;
   front = outcome.front;
-  moment = asking.moment;
-  call = call;
-  draw = asking.draw;
+  moment = job.ask.moment;
+  call = job.call;
+  draw = job.ask.draw;
   tries = outcome.tries;
 }
 
--- a request was decided, whatever its number is, and these bytes are the reply
-pub record IsAnswer (old new : Seat) (asking : Asking) (form : Form) (bytes : List ℕ) (outcome : Outcome) : Type 0 where
+-- what a gateway was asked for a job
+
+-- an answer to a charge for the purchase that is asked for; another request has none
+abbrev pub IsAnswerTo : Request → Call → Answer → Type 0
+IsAnswerTo (BuyConfirm asked) call answer = IsFor asked call.caller call.number answer
+IsAnswerTo _ call answer = ⊥
+
+-- all that it was asked so far, and said, and the last of it is kept
+pub record HasAsked (job : Job) (answers : List Answer) (kept : Option Answer) : Type 0 where
+  pub charges : All (IsAnswerTo job.request.now (called_by job)) answers
+  pub keeps : Keeps None answers kept
+
+-- where the tries of a request stand: the seat, the answer that is kept, and what the gateway tells
+pub record Trying : Type 0 where
+  pub seat : Seat
+  pub kept : Option Answer
+  pub told : Option (List Answer)
+
+-- what it was asked meanwhile, and said
+pub record Asks (old new : Trying) (job : Job) (answers : List Answer) : Type 0 where
+  pub charges : All (IsAnswerTo job.request.now (called_by job)) answers
+  pub keeps : Keeps old.kept answers new.kept
+  pub told : Answered old.told new.told answers
+
+-- what came of a job
+
+-- it was decided, and these bytes are the reply
+pub record IsAnswer (old new : Seat) (job : Job) (answers : List Answer) (bytes : List ℕ) (outcome : Outcome) : Type 0 where
   pub made : List Entry
   pub page : Page
-  pub decided : (call : ℕ) → IsDecided old new asking.request (point_of asking outcome call) made page
-  pub bytes_are : bytes ≡ reply page form
+  pub decided : IsDecided old new job.request.now (record { point = point_of job outcome; made = made; answers = answers }) page
+  pub bytes_are : bytes ≡ reply page job.form
+
+-- it was decided, and the gateway tells what it answered
+pub record IsOutcome (old new : Trying) (job : Job) (bytes : List ℕ) (outcome : Outcome) : Type 0 where
+  pub answers : List Answer
+  pub told : Answered old.told new.told answers
+  pub is : IsAnswer old.seat new.seat job answers bytes outcome
 
 -- so many settles at most
 pub record StaysWithin (old new : Seat) (entries : List Entry) (settles moment : ℕ) : Type 0 where
@@ -39,15 +94,52 @@ pub record StaysWithin (old new : Seat) (entries : List Entry) (settles moment :
   pub few : made ≤ settles
   pub stays : Stays old new entries made moment
 
+-- memory ran out: the settles, eight at most, made no entry, and the gateway gave eight answers at most
+pub record IsGivenUp (old new : Trying) (job : Job) : Type 0 where
+  pub answers : List Answer
+  pub few : length answers ≤ 8
+  pub told : Answered old.told new.told answers
+  pub stays : StaysWithin old.seat new.seat [] 8 job.ask.moment
+
+-- what came of one try
+
 -- a try met a conflict, which it can't where the caller is the only one; the row was read when as much was seen as at its start
-pub record IsAgain (old new : Seat) (asking : Asking) (conflict : Conflict) : Type 0 where
-  pub stays : Stays old new [] 1 asking.moment
-  pub met : IsMet old new asking.request asking.draw conflict
+pub record IsAgain (old new : Seat) (job : Job) (conflict : Conflict) : Type 0 where
+  pub stays : Stays old new [] 1 job.ask.moment
+  pub met : IsMet old new job.request.now job.ask.draw conflict
   pub since : conflict.read ≤ length old.seen → version_of new.opening old.seen conflict.key ≡ conflict.read
   pub others : IsSome old.latest → ⊥
 
-abbrev pub TriedAs : Seat → Seat → Asking → Form → List ℕ → Tried → Type 0
-TriedAs old new asking form bytes (Settled kind front) =
-    IsAnswer old new asking form bytes (record { kind = kind; front = front; tries = 1 })
-TriedAs old new asking form bytes (Again conflict) = IsAgain old new asking conflict
-TriedAs old new asking form bytes Memory = StaysWithin old new [] 1 asking.moment
+-- after all that the gateway was asked so far, of which a denial is the last
+abbrev pub TriedAs : Seat → Seat → Job → List Answer → List ℕ → Tried → Type 0
+TriedAs old new job answers bytes (Settled kind front) =
+    (tries_alone kind ≡ 1) × IsAnswer old new job answers bytes (record { kind = kind; front = front; tries = 1 })
+TriedAs old new job answers bytes (Denied reason front) = (charge : ChargeValue)
+    × Keeps None answers (Some (record { charge = charge; verdict = verdict.Denied reason }))
+    × IsAnswer old new job answers bytes (record { kind = kind.Denied charge reason; front = front; tries = 1 })
+TriedAs old new job answers bytes (Again conflict) = IsAgain old new job conflict
+TriedAs old new job answers bytes Failed =
+    IsAnswer old new job answers bytes (record { kind = kind.GatewayFailed; front = 0; tries = 0 })
+TriedAs old new job answers bytes Memory = StaysWithin old new [] 1 job.ask.moment
+
+-- the gateway was asked once at most, and whatever it was asked before, this came of it all
+pub record IsTried (old new : Trying) (job : Job) (bytes : List ℕ) (tried : Tried) : Type 0 where
+  pub answers : List Answer
+  pub few : length answers ≤ 1
+  pub asks : Asks old new job answers
+  pub is : (before : List Answer) → HasAsked job before old.kept → TriedAs old.seat new.seat job (before ++ answers) bytes tried
+
+-- attempts that may be settled
+
+-- what is done, if anything, was paid in these tables
+abbrev pub IsPaidFor : Option Act → Tables → Call → List Answer → Type 0
+IsPaidFor None t call answers = Unit {0}
+IsPaidFor (Some act) t call answers = IsPaid t call answers act
+
+-- it is this caller's, its page is written, and in whichever tables agree with its reads, it is paid
+pub record MaySettle (start now : Seat) (job : Job) (answers : List Answer) (draft : Draft) (attempt : Attempt) : Type 0 where
+  pub caller : now.caller ≡ job.caller
+  pub kept : Option Answer
+  pub asked : HasAsked job answers kept
+  pub ready : IsReady start now (asking_for job) draft attempt
+  pub paid : (t : Tables) → Agrees now.opening t attempt.reads → IsPaidFor attempt.act t (called_by job) answers

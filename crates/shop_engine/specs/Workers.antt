@@ -1,5 +1,6 @@
 -- What contracts see of a worker.
 use Rattle.std.specs.Prelude.{◌≡◌, ℕ, List, length, Option}
+use Rattle.shop_edges.specs.declared.gateway.Answer.{Answer}
 use Rattle.shop_model.specs.lists.Catalogues.{Catalogue, catalogue}
 use Rattle.shop_model.specs.population.Scales.{ScaleRow}
 use Rattle.shop_attempt.specs.Seats.{Seat, IsSeat}
@@ -32,14 +33,16 @@ pub record IsPosted (seat : Seat) (index : Catalogue) (caller : Caller) : Type 0
   pub named : index ≡ catalogue seat.opening
   pub scaled : caller.scale.items ≡ length seat.opening.items
 
--- where a worker stands between two messages: its caller and progress, its seat, and what the clock will read, where it is known
+-- where a worker stands between two messages: its caller and progress, its seat, and, where they are known, what the
+-- clock will read, and what the gateway answered so far
 pub record Standing : Type 0 where
   pub caller : Caller
   pub progress : Progress
   pub seat : Seat
   pub clock : Option (List ℕ)
+  pub told : Option (List Answer)
 
 -- by the meaning of its store
-abbrev pub standing : {St : Type 0} → (St → Seat) → WorkerState St → Option (List ℕ) → Standing
-standing seat_of worker clock =
-    record { caller = worker.caller; progress = worker.progress; seat = seat_of worker.store; clock = clock }
+abbrev pub standing : {St : Type 0} → (St → Seat) → WorkerState St → Option (List ℕ) → Option (List Answer) → Standing
+standing seat_of worker clock told =
+    record { caller = worker.caller; progress = worker.progress; seat = seat_of worker.store; clock = clock; told = told }

@@ -1,12 +1,15 @@
 //! Serves a connection: messages in, pages out.
 #![tactic(auto)]
 
+mod laws;
 mod replies;
 mod report;
 mod serve;
+mod settles;
 mod tries;
 mod worker;
 
+pub use laws::one_order_for_a_cart;
 pub use report::{Answered, Ended, Point, PointKind, Report};
 pub use serve::{serve_connection, serve_message};
 pub use tries::TRIES;

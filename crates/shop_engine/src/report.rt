@@ -2,7 +2,8 @@ ghost use Rattle.std.specs.Prelude.{◌≡◌};
 ghost use Rattle.shop_engine.specs.Steps as spec;
 
 use shop_attempt::Conflict;
-use shop_text::{Listed, Text};
+use shop_edges::{Charge, Reason};
+use shop_text::{Boxed, Listed, Text};
 
 /// What decided an answer.
 #[derive(Debug, Drop)]
@@ -17,13 +18,17 @@ pub enum PointKind {
     Busy(Listed<Conflict>),
     /// The log, which has as many changes as it may have: the front.
     Full,
+    /// The gateway, which denied this charge.
+    Denied(Boxed<Charge>, Reason),
+    /// The gateway, which failed.
+    GatewayFailed,
 }
 
 /// What an answer stands on.
 #[derive(Debug, Drop)]
 pub struct Point {
     pub kind: PointKind,
-    /// So many changes came before it; 0 where rows kept changing.
+    /// So many changes came before it; 0 where rows kept changing, and where the gateway failed.
     pub front: u64,
     /// Milliseconds since 1970-01-01.
     pub moment: u64,

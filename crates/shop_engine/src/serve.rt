@@ -1,9 +1,10 @@
-ghost use Rattle.std.specs.Prelude.{◌≡◌, ◌+◌, ◌≤◌, ◌<◌, [], ◌∷◌, ◌++◌, Some};
+ghost use Rattle.std.specs.Prelude.{◌≡◌, ℕ, ◌+◌, ◌≤◌, ◌<◌, [], ◌∷◌, ◌++◌, Some};
 ghost use Rattle.std.specs.Vec.{vec_len, vec_capacity};
 ghost use Rattle.shop_edges.specs.Causes.{Rose};
 ghost use Rattle.shop_history.specs.Lawful.{IsLawful};
 ghost use Rattle.shop_attempt.specs.Marks.{KeepsMarks};
 ghost use Rattle.shop_engine.specs.Connections.{MessageAs, RefusalAs};
+ghost use Rattle.shop_engine.specs.Failures.{RoseBy, failures, failures_of};
 ghost use Rattle.shop_engine.specs.Served.{Served};
 ghost use Rattle.shop_engine.specs.Steps.{AnsweredAs};
 ghost use Rattle.shop_engine.specs.Workers.{standing};
@@ -11,7 +12,7 @@ ghost use Rattle.shop_engine.specs.Workers.{standing};
 use crate::report::{Answered, Ended, Point, Report, plain_point};
 use crate::worker::Worker;
 use shop_attempt::Store;
-use shop_edges::{Clock, Sink, Source, write_all};
+use shop_edges::{Clock, Gateway, Sink, Source, write_all};
 use shop_http::{Buffer, Message, Next, next_message};
 use shop_model::Refusal;
 use shop_pages::{Form, Reply};
@@ -29,41 +30,47 @@ const CLOSING: Form = Form {
 };
 
 /// Answers one message, for the last time on its connection or not.
-pub fn serve_message<St: Store, C: Clock>(
+pub fn serve_message<St: Store, C: Clock, G: Gateway>(
     alloc: Global,
     worker: &mut Worker<St>,
     message: &Message,
     last: bool,
     clock: &mut C,
+    gateway: &mut G,
 ) -> Answered
-    ensures answered { AnsweredAs last (standing St.seat worker.old (C.readings clock.old)) (standing St.seat worker.new (C.readings clock.new)) message.now result }
+    ensures answered { AnsweredAs last (standing St.seat worker.old (C.readings clock.old) (G.answers gateway.old)) (standing St.seat worker.new (C.readings clock.new) (G.answers gateway.new)) message.now result }
     ensures caller { worker.new.caller ≡ worker.old.caller }
     ensures lawful { IsLawful (St.seat worker.new.store).opening (St.seat worker.new.store).seen }
     ensures marks { KeepsMarks (St.marked worker.old.store) (St.marked worker.new.store) (St.seat worker.old.store) (St.seat worker.new.store) }
+    ensures failures { RoseBy (G.faults gateway.old) (failures_of result) (G.faults gateway.new) }
+    ensures later { G.faults gateway.old ≤ G.faults gateway.new }
 {
-    let answered = reply_to(alloc, worker, message, last, clock);
+    let answered = reply_to(alloc, worker, message, last, clock, gateway);
     // Whatever came of it, the seat of the worker is one.
     let _ = &worker.store;
     answered
 }
 
 /// Answers a message, and gives the reply away.
-fn reply_to<St: Store, C: Clock>(
+fn reply_to<St: Store, C: Clock, G: Gateway>(
     alloc: Global,
     worker: &mut Worker<St>,
     message: &Message,
     last: bool,
     clock: &mut C,
+    gateway: &mut G,
 ) -> Answered
-    ensures answered { AnsweredAs last (standing St.seat worker.old (C.readings clock.old)) (standing St.seat worker.new (C.readings clock.new)) message.now result }
+    ensures answered { AnsweredAs last (standing St.seat worker.old (C.readings clock.old) (G.answers gateway.old)) (standing St.seat worker.new (C.readings clock.new) (G.answers gateway.new)) message.now result }
     ensures caller { worker.new.caller ≡ worker.old.caller }
     ensures marks { KeepsMarks (St.marked worker.old.store) (St.marked worker.new.store) (St.seat worker.old.store) (St.seat worker.new.store) }
+    ensures failures { RoseBy (G.faults gateway.old) (failures_of result) (G.faults gateway.new) }
+    ensures later { G.faults gateway.old ≤ G.faults gateway.new }
 {
     // Another buffer takes the place of the reply: room for it before anything is asked.
     let Ok(fresh) = Reply::new(alloc) else {
         return Answered::Memory;
     };
-    let Some(point) = worker.answer(alloc, message, last, clock) else {
+    let Some(point) = worker.answer(alloc, message, last, clock, gateway) else {
         return Answered::Memory;
     };
     let reply = mem::replace(&mut worker.reply, fresh);
@@ -71,14 +78,15 @@ fn reply_to<St: Store, C: Clock>(
 }
 
 /// Serves the messages of one connection to its end.
-pub fn serve_connection<St: Store, S: Source, K: Sink, C: Clock>(
+pub fn serve_connection<St: Store, S: Source, K: Sink, C: Clock, G: Gateway>(
     alloc: Global,
     worker: &mut Worker<St>,
     source: &mut S,
     sink: &mut K,
     clock: &mut C,
+    gateway: &mut G,
 ) -> Report
-    ensures served { Served (standing St.seat worker.old (C.readings clock.old)) (standing St.seat worker.new (C.readings clock.new))
+    ensures served { Served (standing St.seat worker.old (C.readings clock.old) (G.answers gateway.old)) (standing St.seat worker.new (C.readings clock.new) (G.answers gateway.new))
         (record { left = S.left source.old; held = K.held sink.old }) (record { left = S.left source.new; held = K.held sink.new })
         result.end result.points }
     ensures caller { worker.new.caller ≡ worker.old.caller }
@@ -88,9 +96,11 @@ pub fn serve_connection<St: Store, S: Source, K: Sink, C: Clock>(
     ensures write_fault { result.end ≡ Ended.WriteFault → Rose (K.faults sink.old) (K.faults sink.new) }
     ensures reads { S.faults source.old ≤ S.faults source.new }
     ensures writes { K.faults sink.old ≤ K.faults sink.new }
+    ensures failures { RoseBy (G.faults gateway.old) (failures result.points) (G.faults gateway.new) }
+    ensures asks { G.faults gateway.old ≤ G.faults gateway.new }
 {
     let mut points = Vec::new(alloc);
-    let end = serve_all(alloc, worker, source, sink, clock, &mut points);
+    let end = serve_all(alloc, worker, source, sink, clock, gateway, &mut points);
     // Wherever it ended, the seat of the worker is one.
     let _ = &worker.store;
     Report {
@@ -100,16 +110,17 @@ pub fn serve_connection<St: Store, S: Source, K: Sink, C: Clock>(
 }
 
 /// Answers one message after another, until there is an end.
-fn serve_all<St: Store, S: Source, K: Sink, C: Clock>(
+fn serve_all<St: Store, S: Source, K: Sink, C: Clock, G: Gateway>(
     alloc: Global,
     worker: &mut Worker<St>,
     source: &mut S,
     sink: &mut K,
     clock: &mut C,
+    gateway: &mut G,
     points: &mut Vec<Point>,
 ) -> Ended
     requires { points.old.items ≡ [] }
-    ensures served { Served (standing St.seat worker.old (C.readings clock.old)) (standing St.seat worker.new (C.readings clock.new))
+    ensures served { Served (standing St.seat worker.old (C.readings clock.old) (G.answers gateway.old)) (standing St.seat worker.new (C.readings clock.new) (G.answers gateway.new))
         (record { left = S.left source.old; held = K.held sink.old }) (record { left = S.left source.new; held = K.held sink.new })
         result points.new.items }
     ensures caller { worker.new.caller ≡ worker.old.caller }
@@ -118,6 +129,8 @@ fn serve_all<St: Store, S: Source, K: Sink, C: Clock>(
     ensures write_fault { result ≡ Ended.WriteFault → Rose (K.faults sink.old) (K.faults sink.new) }
     ensures reads { S.faults source.old ≤ S.faults source.new }
     ensures writes { K.faults sink.old ≤ K.faults sink.new }
+    ensures failures { RoseBy (G.faults gateway.old) (failures points.new.items) (G.faults gateway.new) }
+    ensures asks { G.faults gateway.old ≤ G.faults gateway.new }
 {
     let Ok(mut buffer) = Buffer::new(alloc) else {
         return Ended::Memory;
@@ -132,7 +145,8 @@ fn serve_all<St: Store, S: Source, K: Sink, C: Clock>(
             Next::Memory => return Ended::Memory,
         };
         let last = points.len() + 1 == ANSWERS;
-        if let Some(end) = serve_one(alloc, worker, sink, clock, points, &message, last) {
+        let ended = serve_one(alloc, worker, sink, clock, gateway, points, &message, last);
+        if let Some(end) = ended {
             return end;
         }
     }
@@ -140,27 +154,30 @@ fn serve_all<St: Store, S: Source, K: Sink, C: Clock>(
 }
 
 /// Answers a message; the end of the connection, where it is one.
-fn serve_one<St: Store, K: Sink, C: Clock>(
+fn serve_one<St: Store, K: Sink, C: Clock, G: Gateway>(
     alloc: Global,
     worker: &mut Worker<St>,
     sink: &mut K,
     clock: &mut C,
+    gateway: &mut G,
     points: &mut Vec<Point>,
     message: &Message,
     last: bool,
 ) -> Option<Ended>
-    ensures message { MessageAs (record { message = message.now; last = last }) (standing St.seat worker.old (C.readings clock.old)) (standing St.seat worker.new (C.readings clock.new))
+    ensures message { MessageAs (record { message = message.now; last = last }) (standing St.seat worker.old (C.readings clock.old) (G.answers gateway.old)) (standing St.seat worker.new (C.readings clock.new) (G.answers gateway.new))
         (record { points = points.old.items; held = K.held sink.old }) (record { points = points.new.items; held = K.held sink.new }) result }
     ensures caller { worker.new.caller ≡ worker.old.caller }
     ensures marks { KeepsMarks (St.marked worker.old.store) (St.marked worker.new.store) (St.seat worker.old.store) (St.seat worker.new.store) }
     ensures write_fault { result ≡ Some Ended.WriteFault → Rose (K.faults sink.old) (K.faults sink.new) }
     ensures writes { K.faults sink.old ≤ K.faults sink.new }
+    ensures failures { (before : ℕ) → RoseBy before (failures points.old.items) (G.faults gateway.old) → RoseBy before (failures points.new.items) (G.faults gateway.new) }
+    ensures asks { G.faults gateway.old ≤ G.faults gateway.new }
 {
     // Room for the point, so that no answer is without one.
     let Ok(()) = points.reserve(1) else {
         return Some(Ended::Memory);
     };
-    let Some(point) = worker.answer(alloc, message, last, clock) else {
+    let Some(point) = worker.answer(alloc, message, last, clock, gateway) else {
         return Some(Ended::Memory);
     };
     add_point(points, point);

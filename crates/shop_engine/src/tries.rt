@@ -1,33 +1,54 @@
-ghost use Rattle.std.specs.Prelude.{◌≤◌, [], IfSome, IsNone};
+ghost use Rattle.std.specs.Prelude.{◌≡◌, ◌≤◌, None, Some, IfSome, IsSome, IsNone};
 ghost use Rattle.shop_model.specs.rows.Limits.{stamp_limit};
+ghost use Rattle.shop_edges.specs.Causes.{Rose};
+ghost use Rattle.shop_edges.specs.declared.gateway.Answer.{Answer as AnswerValue};
 ghost use Rattle.shop_attempt.specs.Marks.{KeepsMarks};
-ghost use Rattle.shop_browse.specs.Attempts.{Suits, asking_of};
+ghost use Rattle.shop_attempt.specs.Seats.{IsSeat};
+ghost use Rattle.shop_browse.specs.Attempts.{Suits};
 ghost use Rattle.shop_pages.specs.Replies.{bytes_of};
-ghost use Rattle.shop_engine.specs.Tries.{TriedAs, IsAnswer, StaysWithin};
+ghost use Rattle.shop_engine.specs.Failures.{RoseBy, failures_as};
+ghost use Rattle.shop_engine.specs.Tries.{IsTried, IsOutcome, IsGivenUp};
 
 use crate::replies::refusal_reply;
 use crate::report::PointKind;
+use crate::settles::{settle_denied, settle_page};
 use shop_attempt::{Conflict, Settle, Store};
 use shop_browse::{Ask, Attempted};
+use shop_edges::{Answer, Gateway, Reason};
 use shop_model::{Refusal, Request};
 use shop_order::attempt;
+use shop_order::buy_confirm::{Paid, pay};
 use shop_pages::{Form, Reply};
-use shop_text::Listed;
+use shop_text::{Boxed, Listed};
 use std::alloc::Global;
 
 /// How often a request is tried.
 pub const TRIES: u32 = 8;
+
+/// A request that is to be decided, the form of its reply, and who asks, in which call.
+#[derive(Clone, Copy)]
+pub(crate) struct Job<'a, 'r> {
+    pub(crate) ask: Ask<'a>,
+    pub(crate) request: &'r Request,
+    pub(crate) form: Form,
+    pub(crate) caller: u32,
+    pub(crate) call: u64,
+}
 
 /// What came of one try.
 #[derive(Debug, Drop)]
 pub(crate) enum Tried {
     /// This decided, at this front, and the reply is made.
     Settled(PointKind, u64),
+    /// The charge of the answer that is kept was denied, at this front, and the reply is made.
+    Denied(Reason, u64),
     Again(Conflict),
+    /// The gateway failed, and the reply is made.
+    Failed,
     Memory,
 }
 
-/// What decided a request, at which front, and how many tries it took. The reply is made.
+/// What decided a request, at which front, and how many attempts were settled. The reply is made.
 #[derive(Debug, Drop)]
 pub(crate) struct Outcome {
     pub(crate) kind: PointKind,
@@ -36,42 +57,51 @@ pub(crate) struct Outcome {
 }
 
 /// Reads what the request is about, writes its page, makes room for its reply, settles it, and finishes
-/// the reply.
-fn try_once<St: Store>(
+/// the reply. A purchase is paid before it is settled.
+fn try_once<St: Store, G: Gateway>(
     alloc: Global,
     store: &mut St,
-    ask: &Ask,
-    request: &Request,
-    form: Form,
+    job: &Job,
     reply: &mut Reply,
+    kept: &mut Option<Answer>,
+    gateway: &mut G,
 ) -> Tried
-    requires suits { Suits ask.now (St.seat store.old) }
-    requires moment { ask.now.moment ≤ stamp_limit }
-    ensures tried { TriedAs (St.seat store.old) (St.seat store.new)
-        (asking_of ask.now request.now) form (bytes_of reply.new) result }
+    requires valid { IsSeat (St.seat store.old) }
+    requires caller { (St.seat store.old).caller ≡ job.now.caller }
+    requires suits { Suits job.now.ask (St.seat store.old) }
+    requires moment { job.now.ask.moment ≤ stamp_limit }
+    ensures tried { IsTried (record { seat = St.seat store.old; kept = kept.old; told = G.answers gateway.old })
+        (record { seat = St.seat store.new; kept = kept.new; told = G.answers gateway.new })
+        job.now (bytes_of reply.new) result }
     ensures marks { KeepsMarks (St.marked store.old) (St.marked store.new) (St.seat store.old) (St.seat store.new) }
+    ensures failed { result ≡ Tried.Failed → Rose (G.faults gateway.old) (G.faults gateway.new) }
+    ensures later { G.faults gateway.old ≤ G.faults gateway.new }
 {
-    match attempt(alloc, store, ask, request, reply.draft()) {
-        Attempted::Ready(attempt) => {
-            let Ok(()) = reply.reserve() else {
-                return Tried::Memory;
+    match attempt(alloc, store, &job.ask, job.request, reply.draft()) {
+        Attempted::Ready(attempt) => settle_page(store, job, attempt, reply),
+        Attempted::Pay(attempt) => {
+            let Request::BuyConfirm(asked) = job.request else {
+                unreachable!()
             };
-            let changes = attempt.act.is_some();
-            match store.settle(attempt) {
-                Settle::Done(drawn) => {
-                    reply.finish(&drawn, form);
-                    if changes {
-                        Tried::Settled(PointKind::Change, drawn.front)
-                    } else {
-                        Tried::Settled(PointKind::At, drawn.front)
-                    }
-                }
-                Settle::Stale(conflict) => Tried::Again(conflict),
-                Settle::Full(size) => match refusal_reply(reply, Refusal::FullLog, form) {
-                    Ok(()) => Tried::Settled(PointKind::Full, size),
+            let draft = reply.draft();
+            match pay(
+                alloc,
+                &job.ask,
+                asked.get(),
+                job.caller,
+                job.call,
+                attempt,
+                kept,
+                gateway,
+                draft,
+            ) {
+                Paid::Approved(attempt) => settle_page(store, job, attempt, reply),
+                Paid::Denied(attempt, reason) => settle_denied(store, job, attempt, reason, reply),
+                Paid::Failed => match refusal_reply(reply, Refusal::GatewayFailed, job.form) {
+                    Ok(()) => Tried::Failed,
                     Err(_) => Tried::Memory,
                 },
-                Settle::Memory => Tried::Memory,
+                Paid::Memory => Tried::Memory,
             }
         }
         Attempted::Contradiction(attempt) => match store.settle(attempt) {
@@ -82,38 +112,77 @@ fn try_once<St: Store>(
     }
 }
 
+/// What a denial decides: the charge of the answer that is kept was denied.
+fn denied(
+    alloc: Global,
+    kept: Option<Answer>,
+    reason: Reason,
+    front: u64,
+    tries: u32,
+) -> Option<Outcome>
+    requires { IsSome kept }
+    ensures { IfSome result (λ outcome. (answer : AnswerValue) → kept ≡ Some answer →
+        outcome ≡ record { kind = PointKind.Denied answer.charge reason; front = front; tries = tries }) }
+{
+    let Some(answer) = kept else { unreachable!() };
+    let Ok(charge) = Boxed::new(alloc, answer.charge) else {
+        return None;
+    };
+    Some(Outcome {
+        kind: PointKind::Denied(charge, reason),
+        front,
+        tries,
+    })
+}
+
 /// Tries a request until it is decided, eight times at most. There is no outcome where memory ran out.
-pub(crate) fn try_all<St: Store>(
+/// What the gateway said is kept from try to try, so that it is not asked again for an equal charge.
+pub(crate) fn try_all<St: Store, G: Gateway>(
     alloc: Global,
     store: &mut St,
-    ask: &Ask,
-    request: &Request,
-    form: Form,
+    job: &Job,
     reply: &mut Reply,
+    gateway: &mut G,
 ) -> Option<Outcome>
-    requires suits { Suits ask.now (St.seat store.old) }
-    requires moment { ask.now.moment ≤ stamp_limit }
-    ensures answer { IfSome result (IsAnswer (St.seat store.old) (St.seat store.new)
-        (asking_of ask.now request.now) form (bytes_of reply.new)) }
-    ensures memory { IsNone result → StaysWithin (St.seat store.old) (St.seat store.new) [] 8 ask.now.moment }
+    requires valid { IsSeat (St.seat store.old) }
+    requires caller { (St.seat store.old).caller ≡ job.now.caller }
+    requires suits { Suits job.now.ask (St.seat store.old) }
+    requires moment { job.now.ask.moment ≤ stamp_limit }
+    ensures answer { IfSome result (IsOutcome (record { seat = St.seat store.old; kept = None; told = G.answers gateway.old })
+        (record { seat = St.seat store.new; kept = None; told = G.answers gateway.new }) job.now (bytes_of reply.new)) }
+    ensures memory { IsNone result → IsGivenUp (record { seat = St.seat store.old; kept = None; told = G.answers gateway.old })
+        (record { seat = St.seat store.new; kept = None; told = G.answers gateway.new }) job.now }
     ensures marks { KeepsMarks (St.marked store.old) (St.marked store.new) (St.seat store.old) (St.seat store.new) }
+    ensures failures { IfSome result (λ outcome. RoseBy (G.faults gateway.old) (failures_as outcome.kind) (G.faults gateway.new)) }
+    ensures later { G.faults gateway.old ≤ G.faults gateway.new }
 {
     let mut conflicts = Listed::new(alloc);
+    let mut kept = None;
     for tried in 0..TRIES {
-        match try_once(alloc, store, ask, request, form, reply) {
+        match try_once(alloc, store, job, reply, &mut kept, gateway) {
             Tried::Settled(kind, front) => {
                 let tries = tried + 1;
                 return Some(Outcome { kind, front, tries });
+            }
+            Tried::Denied(reason, front) => {
+                return denied(alloc, kept, reason, front, tried + 1);
             }
             Tried::Again(conflict) => {
                 let Ok(()) = conflicts.push(conflict) else {
                     return None;
                 };
             }
+            Tried::Failed => {
+                return Some(Outcome {
+                    kind: PointKind::GatewayFailed,
+                    front: 0,
+                    tries: tried,
+                });
+            }
             Tried::Memory => return None,
         }
     }
-    let Ok(()) = refusal_reply(reply, Refusal::RowsKeptChanging, form) else {
+    let Ok(()) = refusal_reply(reply, Refusal::RowsKeptChanging, job.form) else {
         return None;
     };
     Some(Outcome {

@@ -5,10 +5,10 @@ ghost use Rattle.shop_engine.specs.Workers.{IsPosted, at_first};
 
 use crate::replies::refusal_reply;
 use crate::report::{Point, plain_point};
-use crate::tries::try_all;
+use crate::tries::{Job, try_all};
 use shop_attempt::Store;
 use shop_browse::Ask;
-use shop_edges::Clock;
+use shop_edges::{Clock, Gateway};
 use shop_http::{Asked, Message, Routes, request};
 use shop_model::{Refusal, Request, STAMP_LIMIT, Scale, word};
 use shop_pages::{Form, Reply};
@@ -76,6 +76,7 @@ impl<St: Store> Worker<St> {
     ghost use Rattle.shop_edges.specs.Causes.{count_up};
     ghost use Rattle.shop_attempt.specs.Marks.{KeepsMarks};
     ghost use Rattle.shop_pages.specs.Replies as replies;
+    ghost use Rattle.shop_engine.specs.Failures.{RoseBy, failures_as};
     ghost use Rattle.shop_engine.specs.Steps.{Answers, AnswersRequest, GivesUp, draw_of};
     ghost use Rattle.shop_engine.specs.Workers.{IsPosted, at_first, standing};
 
@@ -138,22 +139,25 @@ impl<St: Store> Worker<St> {
 
     /// Answers a message, for the last time on its connection or not: makes the reply, and tells its
     /// point. There is none where memory ran out.
-    pub(crate) fn answer<C: Clock>(
+    pub(crate) fn answer<C: Clock, G: Gateway>(
         &mut self,
         alloc: Global,
         message: &Message,
         last: bool,
         clock: &mut C,
+        gateway: &mut G,
     ) -> Option<Point>
-        ensures answers { IfSome result (λ point. Answers last (standing St.seat self.old (C.readings clock.old)) (standing St.seat self.new (C.readings clock.new))
+        ensures answers { IfSome result (λ point. Answers last (standing St.seat self.old (C.readings clock.old) (G.answers gateway.old)) (standing St.seat self.new (C.readings clock.new) (G.answers gateway.new))
             message.now point self.new.reply) }
-        ensures memory { IsNone result → GivesUp (standing St.seat self.old (C.readings clock.old)) (standing St.seat self.new (C.readings clock.new)) }
+        ensures memory { IsNone result → GivesUp (standing St.seat self.old (C.readings clock.old) (G.answers gateway.old)) (standing St.seat self.new (C.readings clock.new) (G.answers gateway.new)) }
         ensures caller { self.new.caller ≡ self.old.caller }
         ensures marks { KeepsMarks (St.marked self.old.store) (St.marked self.new.store) (St.seat self.old.store) (St.seat self.new.store) }
+        ensures failures { IfSome result (λ point. RoseBy (G.faults gateway.old) (failures_as point.kind) (G.faults gateway.new)) }
+        ensures later { G.faults gateway.old ≤ G.faults gateway.new }
     {
         let form = form_of(message, last);
         match request(alloc, &self.routes, message) {
-            Asked::Request(request) => self.answer_request(alloc, &request, form, clock),
+            Asked::Request(request) => self.answer_request(alloc, &request, form, clock, gateway),
             Asked::Refuse(refusal) => match self.refuse(refusal.told(), form) {
                 Ok(()) => Some(plain_point()),
                 Err(Memory) => None,
@@ -163,18 +167,21 @@ impl<St: Store> Worker<St> {
     }
 
     /// Answers a request in this form.
-    fn answer_request<C: Clock>(
+    fn answer_request<C: Clock, G: Gateway>(
         &mut self,
         alloc: Global,
         request: &Request,
         form: Form,
         clock: &mut C,
+        gateway: &mut G,
     ) -> Option<Point>
-        ensures answers { IfSome result (λ point. AnswersRequest form (standing St.seat self.old (C.readings clock.old)) (standing St.seat self.new (C.readings clock.new))
+        ensures answers { IfSome result (λ point. AnswersRequest form (standing St.seat self.old (C.readings clock.old) (G.answers gateway.old)) (standing St.seat self.new (C.readings clock.new) (G.answers gateway.new))
             request.now point self.new.reply) }
-        ensures memory { IsNone result → GivesUp (standing St.seat self.old (C.readings clock.old)) (standing St.seat self.new (C.readings clock.new)) }
+        ensures memory { IsNone result → GivesUp (standing St.seat self.old (C.readings clock.old) (G.answers gateway.old)) (standing St.seat self.new (C.readings clock.new) (G.answers gateway.new)) }
         ensures caller { self.new.caller ≡ self.old.caller }
         ensures marks { KeepsMarks (St.marked self.old.store) (St.marked self.new.store) (St.seat self.old.store) (St.seat self.new.store) }
+        ensures failures { IfSome result (λ point. RoseBy (G.faults gateway.old) (failures_as point.kind) (G.faults gateway.new)) }
+        ensures later { G.faults gateway.old ≤ G.faults gateway.new }
     {
         let accepted = self.accept(clock.now());
         let ask = Ask {
@@ -183,8 +190,16 @@ impl<St: Store> Worker<St> {
             moment: accepted.moment,
             draw: accepted.draw,
         };
+        let (caller, call) = (self.caller, accepted.call);
+        let job = Job {
+            ask,
+            request,
+            form,
+            caller,
+            call,
+        };
         let (store, reply) = (&mut self.store, &mut self.reply);
-        let outcome = try_all(alloc, store, &ask, request, form, reply)?;
+        let outcome = try_all(alloc, store, &job, reply, gateway)?;
         Some(Point {
             kind: outcome.kind,
             front: outcome.front,

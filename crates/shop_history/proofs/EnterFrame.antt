@@ -32,7 +32,7 @@ Framed keys t u key = Contains keys key ⊎ (row_of u key ≡ row_of t key)
 text_of : List ℕ → List ℕ → List ℕ → List ℕ → List ℕ → ℕ → AddressText
 text_of street1 street2 city state zip country = record { street1 = street1; street2 = street2; city = city; state = state; zip = zip; country = country }
 
-says_same_is : (a b : AddressText) → says_same a b ≡ true → a ≡ b
+pub says_same_is : (a b : AddressText) → says_same a b ≡ true → a ≡ b
 unfolding text_of
 says_same_is a b same =
     let country = and_parts _ (a.country == b.country) same in

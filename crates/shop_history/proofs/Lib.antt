@@ -1,6 +1,11 @@
 pub mod cited
 pub mod Lines
 pub mod SoundCarts
+pub mod OrderLines
+pub mod SoundSales
 pub mod Changed
 pub mod SoundCustomers
+pub mod SoundPurchases
 pub mod EnterFrame
+pub mod WindowFrame
+pub mod SaleFrame

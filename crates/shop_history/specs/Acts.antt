@@ -1,23 +1,27 @@
 -- What an act makes of the tables, and of which request it is.
-use Rattle.std.specs.Prelude.{◌≡◌, ℕ, [], Option, Some, None, unwrap_or}
+use Rattle.std.specs.Prelude.{◌≡◌, ℕ, List, [], Option, Some, None, unwrap_or}
 use Rattle.shop_model.specs.declared.page.Page.{Page}
 use Rattle.shop_model.specs.declared.requests.Request.{Request}
 use Rattle.shop_model.specs.declared.buying.BuyRequest as buying
 use Rattle.shop_model.specs.declared.buying.Buyer.{Buyer}
 use Rattle.shop_model.specs.declared.buying.Buyer.TheVariants.{Returning, Newcomer}
-use Rattle.shop_model.specs.declared.refusal.Refusal.TheVariants.{NoUserName}
-use Rattle.shop_model.specs.declared.requests.Request.TheVariants.{CartRequest, BuyRequest}
+use Rattle.shop_model.specs.declared.refusal.Refusal.TheVariants.{NoUserName, NoCustomer}
+use Rattle.shop_model.specs.declared.requests.Request.TheVariants.{CartRequest, BuyRequest, BuyConfirm}
 use Rattle.shop_model.specs.declared.tables.Tables.{Tables}
 use Rattle.shop_model.specs.asked.CartAsked.{CartAsked, IsCartAsked}
 use Rattle.shop_model.specs.asked.CustomersAsked.{IsLoginAsked, IsNewcomerAsked}
+use Rattle.shop_model.specs.asked.PurchaseAsked.{PurchaseAsked, IsPurchaseAsked}
 use Rattle.shop_model.specs.asked.Refusals.{page_of}
+use Rattle.shop_model.specs.rows.Lookups.{row_numbered}
 use Rattle.shop_model.specs.rows.Rows.{CustomerRow}
 use Rattle.shop_model.specs.trade.Buyers.{buyer_row, tables_entered}
 use Rattle.shop_model.specs.trade.Carts.{lines_named, lines_after, cart_meant, carts_with}
+use Rattle.shop_model.specs.trade.Sales.{new_order, tables_bought}
+use Rattle.shop_model.specs.pages.BuyConfirm.{confirm_page, purchase_ids}
 use Rattle.shop_model.specs.pages.BuyRequest.{buy_request}
 use Rattle.shop_model.specs.pages.ShoppingCart.{cart_page, ids_with}
 use Rattle.shop_history.specs.declared.acts.Act.{Act}
-use Rattle.shop_history.specs.declared.acts.Act.TheVariants.{Cart, Enter}
+use Rattle.shop_history.specs.declared.acts.Act.TheVariants.{Cart, Enter, Confirm}
 
 -- what an act gives: the tables, and the page
 pub record Played : Type 0 where
@@ -45,20 +49,36 @@ play_enter t stamp asked draw = record {
   page = buyer_page t asked.cart (buyer_row t stamp draw asked.buyer);
 }
 
+-- what a customer is shown who bought a cart; there is one where the check is none
+abbrev pub purchase_page : Tables → ℕ → ℕ → List ℕ → PurchaseAsked → Option CustomerRow → Page
+purchase_page t stamp draw auth asked None = page_of NoCustomer
+purchase_page t stamp draw auth asked (Some customer) =
+    confirm_page t (purchase_ids asked) (new_order t stamp draw auth asked customer)
+
+-- what a purchase gives
+abbrev pub play_confirm : Tables → ℕ → PurchaseAsked → ℕ → List ℕ → Played
+play_confirm t stamp asked draw auth = record {
+  tables = tables_bought t stamp draw auth asked (row_numbered t.customers asked.c);
+  page = purchase_page t stamp draw auth asked (row_numbered t.customers asked.c);
+}
+
 -- what an act gives at a stamp, where the check of its request is none
 abbrev pub play : Tables → ℕ → Act → Played
 play t stamp (Cart asked draw) = play_cart t asked draw
 play t stamp (Enter asked draw) = play_enter t stamp asked draw
+play t stamp (Confirm asked draw auth) = play_confirm t stamp asked draw auth
 
 -- the request that an act does
 abbrev pub request_of : Act → Request
 request_of (Cart asked draw) = CartRequest asked
 request_of (Enter asked draw) = BuyRequest asked
+request_of (Confirm asked draw auth) = BuyConfirm asked
 
 -- an act has the word that was drawn for its request
 abbrev pub HasDrawn : ℕ → Act → Type 0
 HasDrawn draw (Cart asked word) = word ≡ draw
 HasDrawn draw (Enter asked word) = word ≡ draw
+HasDrawn draw (Confirm asked word auth) = word ≡ draw
 
 -- an act does this request, with this word
 pub record IsActOf (request : Request) (draw : ℕ) (act : Act) : Type 0 where
@@ -74,3 +94,4 @@ IsBuyer (Newcomer asked) = IsNewcomerAsked asked
 abbrev pub IsInForm : Act → Type 0
 IsInForm (Cart asked draw) = IsCartAsked asked
 IsInForm (Enter asked draw) = IsBuyer asked.buyer
+IsInForm (Confirm asked draw auth) = IsPurchaseAsked asked

@@ -1,14 +1,19 @@
 -- Which keys an act can change; what every other key shows stays.
-use Rattle.std.specs.Prelude.{◌+◌, List, [], ◌∷◌, length, Option, Some, None}
+use Rattle.std.specs.Prelude.{ℕ, ◌+◌, ◌-◌, nat_lt, List, [], ◌∷◌, ◌++◌, length, map, flat_map, slice_get, Option, Some, None, option_map, unwrap_or, if◌then◌else◌}
 use Rattle.shop_text.specs.Texts.{digsyl}
 use Rattle.shop_model.specs.declared.address.Address.{Address}
 use Rattle.shop_model.specs.declared.address.AddressText.{AddressText}
 use Rattle.shop_model.specs.declared.buying.Buyer.{Buyer}
 use Rattle.shop_model.specs.declared.buying.Buyer.TheVariants.{Returning, Newcomer}
 use Rattle.shop_model.specs.declared.tables.Tables.{Tables}
-use Rattle.shop_model.specs.rows.Rows.{CustomerRow}
+use Rattle.shop_model.specs.asked.PurchaseAsked.{PurchaseAsked}
+use Rattle.shop_model.specs.declared.subject.Subject.{Subject}
+use Rattle.shop_model.specs.declared.subject.Subject.TheVariants.{Arts}
+use Rattle.shop_model.specs.rows.Limits.{counted_orders, recent_orders}
+use Rattle.shop_model.specs.rows.Lookups.{row_numbered}
+use Rattle.shop_model.specs.rows.Rows.{CustomerRow, OrderRow}
 use Rattle.shop_model.specs.trade.Buyers.{customer_named, address_saying}
-use Rattle.shop_model.specs.trade.Carts.{cart_meant}
+use Rattle.shop_model.specs.trade.Carts.{cart_meant, lines_named}
 use Rattle.shop_history.specs.declared.acts.Act as act
 use Rattle.shop_history.specs.declared.acts.Act.{Act}
 use Rattle.shop_history.specs.declared.keys.Key as key
@@ -32,7 +37,61 @@ buyer_changes t (Newcomer asked) =
     ∷ key.TheVariants.Name (digsyl (length t.customers + 1))
     ∷ address_changes t asked.address (address_saying t asked.address)
 
+-- the order that leaves the latest ones, so many at most, where one more comes
+abbrev pub leaving : ℕ → List OrderRow → Option OrderRow
+leaving most orders = if nat_lt (length orders) most then None else slice_get orders (length orders - most)
+
+-- the items of an order, a line each
+abbrev pub items_of : OrderRow → List ℕ
+items_of order = map (λ l. l.item) order.lines
+
+-- the subject of the item with an id
+abbrev pub subject_at : Tables → ℕ → Subject
+subject_at t item = unwrap_or (option_map (λ i. i.subject) (row_numbered t.items item)) Arts
+
+-- what is sold, or no longer counts as sold lately
+abbrev pub ranks_change : Tables → List ℕ → List Key
+ranks_change t items = map (λ item. key.TheVariants.BestIn (subject_at t item)) items
+
+-- who buys, or is no longer one who did lately
+abbrev pub buyers_change : ℕ → List ℕ → List Key
+buyers_change customer items = key.TheVariants.Bought customer ∷ map key.TheVariants.Buyers items
+
+-- what an order that leaves the latest ones changes
+abbrev pub unranked_changes : Tables → Option OrderRow → List Key
+unranked_changes t None = []
+unranked_changes t (Some order) = ranks_change t (items_of order)
+
+abbrev pub forgotten_changes : Option OrderRow → List Key
+forgotten_changes None = []
+forgotten_changes (Some order) = buyers_change order.customer (items_of order)
+
+-- what a purchase changes of the lists that are kept, for a customer who buys these items
+abbrev pub lists_change : Tables → ℕ → List ℕ → List Key
+lists_change t customer items =
+    ranks_change t items
+    ++ unranked_changes t (leaving counted_orders t.orders)
+    ++ buyers_change customer items
+    ++ forgotten_changes (leaving recent_orders t.orders)
+
+-- where an order ships to, if that is new
+abbrev pub ship_changes : Tables → Option AddressText → List Key
+ship_changes t None = []
+ship_changes t (Some text) = address_changes t text (address_saying t text)
+
+-- what a purchase changes
+abbrev pub purchase_changes : Tables → PurchaseAsked → List Key
+purchase_changes t asked =
+    let items : List ℕ = map (λ l. l.0) (unwrap_or (lines_named t.carts (Some asked.cart)) []) in
+    key.TheVariants.Cart asked.cart
+    ∷ key.TheVariants.Order (length t.orders + 1)
+    ∷ key.TheVariants.LastOrder asked.c
+    ∷ map key.TheVariants.Item items
+    ++ ship_changes t asked.address
+    ++ lists_change t asked.c items
+
 -- the keys that an act can change
 abbrev pub may_change : Tables → Act → List Key
 may_change t (act.TheVariants.Cart asked draw) = key.TheVariants.Cart (cart_meant t.carts asked.ids.cart) ∷ []
 may_change t (act.TheVariants.Enter asked draw) = buyer_changes t asked.buyer
+may_change t (act.TheVariants.Confirm asked draw auth) = purchase_changes t asked

@@ -1,4 +1,5 @@
-use shop_model::{BuyRequest, CartRequest};
+use shop_model::{AuthId, BuyConfirm, BuyRequest, CartRequest};
+use shop_text::Boxed;
 
 /// What an accepted request does.
 #[derive(Debug, Drop)]
@@ -7,6 +8,9 @@ pub enum Act {
     Cart(CartRequest, u32),
     /// That a customer who buys logs in, or is entered with the discount that the word draws.
     Enter(BuyRequest, u32),
+    /// That a customer buys what a cart has, with the word that was drawn, and what the card's payment was
+    /// authorised by.
+    Confirm(Boxed<BuyConfirm>, u32, AuthId),
 }
 
 /// An accepted change.

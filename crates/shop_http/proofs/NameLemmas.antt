@@ -10,7 +10,7 @@ use Rattle.std.proofs.lemmas.List.{get_or-set_same, get_or-set_other}
 use Rattle.std.proofs.lemmas.Option.{slice_get_within}
 use Rattle.std.proofs.lemmas.Slice.Eq.{bytes_eq-Decides}
 use Rattle.shop_model.specs.declared.parameter.Parameter.{Parameter}
-use Rattle.shop_model.specs.declared.parameter.Parameter.TheVariants.{C, Cart, Item, Qty, Subject, Kind, Text, User, Pass, FirstName, LastName, Street1, Street2, City, State, Zip, Country, Phone, Email}
+use Rattle.shop_model.specs.declared.parameter.Parameter.TheVariants.{C, Cart, Item, Qty, Subject, Kind, Text, User, Pass, FirstName, LastName, Street1, Street2, City, State, Zip, Country, Phone, Email, Card, Number, Name, Expiry, Ship}
 use Rattle.shop_model.specs.asked.Parameters.{parameter_name}
 use Rattle.shop_http.specs.Firsts.{kept}
 use Rattle.shop_http.specs.Forms.{decoded_text, value_of}
@@ -41,6 +41,11 @@ by_name Zip = refl
 by_name Country = refl
 by_name Phone = refl
 by_name Email = refl
+by_name Card = refl
+by_name Number = refl
+by_name Name = refl
+by_name Expiry = refl
+by_name Ship = refl
 
 by_place : (parameter : Parameter) → slice_get parameters (place_of parameter) ≡ Some parameter
 unfolding parameters
@@ -63,6 +68,11 @@ by_place Zip = refl
 by_place Country = refl
 by_place Phone = refl
 by_place Email = refl
+by_place Card = refl
+by_place Number = refl
+by_place Name = refl
+by_place Expiry = refl
+by_place Ship = refl
 
 pub place-within : (parameter : Parameter) → place_of parameter < PARAMETERS
 unfolding parameters

@@ -8,6 +8,7 @@ use Rattle.std.specs.Str.Lossy.{utf8_lossy}
 use Rattle.form_urlencoded.specs.Form.{decode, parse}
 use Rattle.shop_model.specs.declared.parameter.Parameter.{Parameter}
 use Rattle.shop_model.specs.rows.Limits.{text_limit}
+use Rattle.shop_model.specs.asked.Cards.{is_card_number, is_month}
 use Rattle.shop_model.specs.asked.Parameters.{parameter_name}
 use Rattle.shop_text.specs.Numbers.{number_of}
 
@@ -71,3 +72,11 @@ short_text_of text = if nat_le (length text) text_limit then Some text else None
 -- the id of one of the 92 countries
 unfoldable pub country_of : Form ℕ
 country_of digits = option_and_then (λ id. if nat_le 1 id && nat_le id 92 then Some id else None) (number_of digits)
+
+-- the number of a card
+unfoldable pub card_number_of : Form (List ℕ)
+card_number_of number = if is_card_number number then Some number else None
+
+-- the month in which one expires
+unfoldable pub month_of : Form (List ℕ)
+month_of month = if is_month month then Some month else None

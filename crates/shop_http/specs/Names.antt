@@ -3,14 +3,15 @@ use Rattle.std.specs.Prelude.{ℕ, List, [], ◌∷◌, Option}
 use Rattle.std.specs.List.{find}
 use Rattle.std.specs.Str.{bytes_eq}
 use Rattle.shop_model.specs.declared.parameter.Parameter.{Parameter}
-use Rattle.shop_model.specs.declared.parameter.Parameter.TheVariants.{C, Cart, Item, Qty, Subject, Kind, Text, User, Pass, FirstName, LastName, Street1, Street2, City, State, Zip, Country, Phone, Email}
+use Rattle.shop_model.specs.declared.parameter.Parameter.TheVariants.{C, Cart, Item, Qty, Subject, Kind, Text, User, Pass, FirstName, LastName, Street1, Street2, City, State, Zip, Country, Phone, Email, Card, Number, Name, Expiry, Ship}
 use Rattle.shop_model.specs.asked.Parameters.{parameter_name}
 
 -- all parameters
 unfoldable pub parameters : List Parameter
 parameters =
     C ∷ Cart ∷ Item ∷ Qty ∷ Subject ∷ Kind ∷ Text ∷ User ∷ Pass ∷ FirstName ∷ LastName ∷
-    Street1 ∷ Street2 ∷ City ∷ State ∷ Zip ∷ Country ∷ Phone ∷ Email ∷ []
+    Street1 ∷ Street2 ∷ City ∷ State ∷ Zip ∷ Country ∷ Phone ∷ Email ∷
+    Card ∷ Number ∷ Name ∷ Expiry ∷ Ship ∷ []
 
 -- the parameter with a name
 unfoldable pub parameter_named : List ℕ → Option Parameter
@@ -37,3 +38,8 @@ place_of Zip = 15
 place_of Country = 16
 place_of Phone = 17
 place_of Email = 18
+place_of Card = 19
+place_of Number = 20
+place_of Name = 21
+place_of Expiry = 22
+place_of Ship = 23

@@ -1,5 +1,5 @@
 -- What a message asks for. The paths and the parameters are this project's own.
-use Rattle.std.specs.Prelude.{ℕ, ◌==◌, ◌||◌, ◌++◌, List, [], codes, Option, Some, None, is_some, Result, Ok, Err, if◌then◌else◌}
+use Rattle.std.specs.Prelude.{ℕ, ◌==◌, ◌||◌, ◌++◌, List, [], codes, Option, Some, None, is_some, unwrap_or, Result, Ok, Err, if◌then◌else◌}
 use Rattle.std.specs.List.{before_first, after_first}
 use Rattle.std.specs.Option.{ok_or}
 use Rattle.std.specs.Result.{result_map_both}
@@ -7,23 +7,26 @@ use Rattle.std.specs.Str.{bytes_eq}
 use Rattle.shop_model.specs.declared.requests.Interaction.{Interaction}
 use Rattle.shop_model.specs.declared.requests.Interaction.TheVariants as interaction
 use Rattle.shop_model.specs.declared.parameter.Parameter.{Parameter}
-use Rattle.shop_model.specs.declared.parameter.Parameter.TheVariants.{C, Cart, Item, Qty, Subject, Kind, Text, User, Pass, FirstName, LastName, Street1, Street2, City, State, Zip, Country, Phone, Email}
+use Rattle.shop_model.specs.declared.parameter.Parameter.TheVariants.{C, Cart, Item, Qty, Subject, Kind, Text, User, Pass, FirstName, LastName, Street1, Street2, City, State, Zip, Country, Phone, Email, Card, Number, Name, Expiry, Ship}
 use Rattle.shop_model.specs.declared.address.AddressText.{AddressText}
 use Rattle.shop_model.specs.declared.buying.Buyer.{Buyer}
 use Rattle.shop_model.specs.declared.buying.Buyer.TheVariants as buyer
+use Rattle.shop_model.specs.declared.ship_type.ShipType.{ShipType}
+use Rattle.shop_model.specs.declared.ship_type.ShipType.TheVariants.{Mail}
 use Rattle.shop_model.specs.declared.requests.IdsAsked.{IdsAsked}
 use Rattle.shop_model.specs.declared.requests.Request.{Request}
 use Rattle.shop_model.specs.declared.requests.Request.TheVariants as request
 use Rattle.shop_model.specs.asked.CustomersAsked.{LoginAsked, NewcomerAsked}
 use Rattle.shop_model.specs.asked.Interactions.{interaction_of}
 use Rattle.shop_model.specs.asked.Kinds.{kind_of}
-use Rattle.shop_model.specs.rows.Subjects.{subject_of}
+use Rattle.shop_model.specs.asked.PurchaseAsked.{CardAsked, PurchaseAsked}
+use Rattle.shop_model.specs.rows.Subjects.{subject_of, card_of, ship_of}
 use Rattle.shop_message.specs.declared.messages.Message.{Message}
 use Rattle.shop_model.specs.declared.refusal.Refusal as told
 use Rattle.shop_model.specs.declared.refusal.Refusal.TheVariants as page
 use Rattle.shop_http.specs.declared.requests.Refusal.{Refusal}
 use Rattle.shop_http.specs.declared.requests.Refusal.TheVariants as refusal
-use Rattle.shop_http.specs.Forms.{Pair, pairs, value_of, required, optional, or_empty, text_of, short_text_of, country_of}
+use Rattle.shop_http.specs.Forms.{Pair, pairs, value_of, required, optional, or_empty, text_of, short_text_of, country_of, card_number_of, month_of}
 use Rattle.shop_text.specs.Numbers.{number_of}
 use Rattle.shop_http.specs.Sets.{sets_asked}
 
@@ -123,6 +126,39 @@ buy_request pairs =
     in_turn (buyer_asked pairs) (λ buyer.
     Ok (request.BuyRequest (record { cart = cart; buyer = buyer }))))
 
+-- a payment card
+abbrev pub card_asked : List Pair → Result CardAsked Parameter
+card_asked pairs =
+    in_turn (required card_of pairs Card) (λ card.
+    in_turn (required card_number_of pairs Number) (λ number.
+    in_turn (required text_of pairs Name) (λ name.
+    in_turn (required month_of pairs Expiry) (λ expiry.
+    Ok (record { card = card; number = number; name = name; expiry = expiry })))))
+
+-- how an order is shipped: by mail where nothing is said
+abbrev pub ship_asked : List Pair → Result ShipType Parameter
+ship_asked pairs = in_turn (optional ship_of pairs Ship) (λ ship. Ok (unwrap_or ship Mail))
+
+-- where an order ships to, if not to its customer's address: an address where its first street is there
+abbrev pub ship_address_asked : List Pair → Result (Option AddressText) Parameter
+ship_address_asked pairs =
+    if is_some (value_of pairs Street1)
+    then in_turn (address_asked pairs) (λ address. Ok (Some address))
+    else Ok None
+
+-- who buys which cart, and how
+abbrev pub purchase_asked : List Pair → Result PurchaseAsked Parameter
+purchase_asked pairs =
+    in_turn (required number_of pairs C) (λ c.
+    in_turn (required number_of pairs Cart) (λ cart.
+    in_turn (card_asked pairs) (λ payment.
+    in_turn (ship_asked pairs) (λ ship.
+    in_turn (ship_address_asked pairs) (λ address.
+    Ok (record { c = c; cart = cart; payment = payment; ship = ship; address = address }))))))
+
+abbrev pub buy_confirm : List Pair → Result Request Parameter
+buy_confirm pairs = in_turn (purchase_asked pairs) (λ purchase. Ok (request.BuyConfirm purchase))
+
 abbrev pub order_inquiry : List Pair → Result Request Parameter
 order_inquiry pairs = in_turn (ids_asked pairs) (λ ids. Ok (request.OrderInquiry (record { ids = ids })))
 
@@ -149,6 +185,7 @@ request_by interaction.SearchResults = search_results
 request_by interaction.ShoppingCart = shopping_cart
 request_by interaction.CustomerRegistration = customer_registration
 request_by interaction.BuyRequest = buy_request
+request_by interaction.BuyConfirm = buy_confirm
 request_by interaction.OrderInquiry = order_inquiry
 request_by interaction.OrderDisplay = order_display
 request_by interaction.AdminRequest = admin_request

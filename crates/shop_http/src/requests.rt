@@ -1,4 +1,4 @@
-ghost use Rattle.std.specs.Prelude.{◌≡◌, ◌++◌, Result, IfOk};
+ghost use Rattle.std.specs.Prelude.{◌≡◌, ◌++◌, Result};
 ghost use Rattle.shop_model.specs.declared.parameter.Parameter.{Parameter};
 ghost use Rattle.shop_model.specs.declared.requests.Request.{Request};
 ghost use Rattle.shop_http.specs.Answers.{Reads, Answers};
@@ -7,7 +7,9 @@ ghost use Rattle.shop_http.specs.Requests as spec;
 
 use crate::router::Routes;
 use browsing::{best_sellers, home, new_products, product_detail, search_request, search_results};
-use buying::{admin_request, buy_request, customer_registration, order_display, order_inquiry};
+use buying::{
+    admin_request, buy_confirm, buy_request, customer_registration, order_display, order_inquiry,
+};
 use cart::shopping_cart;
 use fault::Fault;
 use memchr::memchr;
@@ -20,6 +22,7 @@ use values::Values;
 
 mod browsing;
 mod buying;
+mod cards;
 mod cart;
 mod decoding;
 mod fault;
@@ -127,6 +130,7 @@ fn read(
         Interaction::ShoppingCart => shopping_cart(alloc, &pairs),
         Interaction::CustomerRegistration => customer_registration(alloc, &pairs),
         Interaction::BuyRequest => buy_request(alloc, &pairs),
+        Interaction::BuyConfirm => buy_confirm(alloc, &pairs),
         Interaction::OrderInquiry => order_inquiry(alloc, &pairs),
         Interaction::OrderDisplay => order_display(alloc, &pairs),
         Interaction::AdminRequest => admin_request(alloc, &pairs),

@@ -49,15 +49,16 @@ fn add_first(router: &mut Router<Interaction>) -> Result<(), Memory>
 {
     add_linked(router, Interaction::AdminRequest)?;
     add_linked(router, Interaction::BestSellers)?;
-    add_linked(router, Interaction::BuyRequest)?;
-    add_linked(router, Interaction::CustomerRegistration)
+    add_linked(router, Interaction::BuyConfirm)?;
+    add_linked(router, Interaction::BuyRequest)
 }
 
-/// Adds the next four paths of the table.
+/// Adds the next five paths of the table.
 fn add_middle(router: &mut Router<Interaction>) -> Result<(), Memory>
     requires { router.old ≡ rows_of (take 4 paths) }
-    ensures { OnOk result (router.new ≡ rows_of (take 8 paths)) }
+    ensures { OnOk result (router.new ≡ rows_of (take 9 paths)) }
 {
+    add_linked(router, Interaction::CustomerRegistration)?;
     add_linked(router, Interaction::Home)?;
     add_linked(router, Interaction::NewProducts)?;
     add_linked(router, Interaction::OrderDisplay)?;
@@ -66,7 +67,7 @@ fn add_middle(router: &mut Router<Interaction>) -> Result<(), Memory>
 
 /// Adds the other paths of the table.
 fn add_last(router: &mut Router<Interaction>) -> Result<(), Memory>
-    requires { router.old ≡ rows_of (take 8 paths) }
+    requires { router.old ≡ rows_of (take 9 paths) }
     ensures { OnOk result (router.new ≡ rows_of paths) }
 {
     add_linked(router, Interaction::ProductDetail)?;

@@ -2,3 +2,5 @@ pub mod Scales
 pub mod Lists
 pub mod SetLines
 pub mod LastOrders
+pub mod Cards
+pub mod Restocking

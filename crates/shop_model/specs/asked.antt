@@ -4,6 +4,10 @@ pub mod SearchResultsView
 pub mod CartAsked
 pub mod CartRequestView
 pub mod CustomersAsked
+pub mod Cards
+pub mod PurchaseAsked
+pub mod CardView
+pub mod PurchaseView
 pub mod LoginView
 pub mod NewcomerView
 pub mod Interactions

@@ -13,6 +13,7 @@ pub mod ShoppingCart
 pub mod Forms
 pub mod CustomerRegistration
 pub mod BuyRequest
+pub mod BuyConfirm
 pub mod OrderInquiry
 pub mod OrderDisplay
 pub mod AdminRequest

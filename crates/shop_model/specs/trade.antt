@@ -1,3 +1,5 @@
 pub mod Money
 pub mod Carts
 pub mod Buyers
+pub mod Stocks
+pub mod Sales

@@ -21,6 +21,7 @@ impl Model for AuthId {
 
 impl AuthId {
     ghost use Rattle.std.specs.Prelude.{◌≡◌, ◌<◌, ◌^◌};
+    ghost use Rattle.shop_text.specs.Escape.{escape};
     ghost use Rattle.shop_model.specs.rows.AuthIds as spec;
 
     /// The digits of a number, with leading zeros.
@@ -43,6 +44,7 @@ impl AuthId {
     pub fn bytes(&self) -> &[u8]
         ensures value { result.now ≡ self.now }
         ensures form { spec.IsAuthId self.now }
+        ensures plain { escape result.now ≡ result.now }
     {
         &self.digits
     }

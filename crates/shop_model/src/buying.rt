@@ -1,5 +1,5 @@
 //! What is asked for by customers, and by those who become one.
-use crate::{AddressText, IdsAsked};
+use crate::{AddressText, CardType, IdsAsked, ShipType};
 use shop_text::{Boxed, Text};
 use std::marker::Model;
 
@@ -74,6 +74,54 @@ pub enum Buyer {
 pub struct BuyRequest {
     pub cart: u32,
     pub buyer: Buyer,
+}
+
+/// A payment card, as it was given.
+#[derive(Debug, Drop)]
+pub struct Card {
+    pub card: CardType,
+    /// 12 to 19 decimal digits.
+    pub number: Text,
+    /// The holder's name, 1 to 100 bytes.
+    pub name: Text,
+    /// The month in which it expires, as `YYYY-MM`.
+    pub expiry: Text,
+}
+
+impl Model for Card {
+    ghost use Rattle.shop_model.specs.asked.PurchaseAsked.{CardAsked, IsCardAsked};
+
+    ghost Value = { CardAsked };
+
+    ghost use Rattle.shop_model.specs.asked.CardView.{asked_of};
+
+    ghost view = { asked_of };
+
+    ghost invariant = { λ i. IsCardAsked (asked_of i) };
+}
+
+/// That a customer buys what a cart has.
+#[derive(Debug, Drop)]
+pub struct BuyConfirm {
+    /// The id of the customer.
+    pub c: u32,
+    pub cart: u32,
+    pub payment: Card,
+    pub ship: ShipType,
+    /// Where it ships to; the customer's address where none is given.
+    pub address: Option<AddressText>,
+}
+
+impl Model for BuyConfirm {
+    ghost use Rattle.shop_model.specs.asked.PurchaseAsked.{PurchaseAsked, IsPurchaseAsked};
+
+    ghost Value = { PurchaseAsked };
+
+    ghost use Rattle.shop_model.specs.asked.PurchaseView.{asked_of};
+
+    ghost view = { asked_of };
+
+    ghost invariant = { λ i. IsPurchaseAsked (asked_of i) };
 }
 
 #[derive(Clone, Copy, Debug, PartialEq, Eq)]

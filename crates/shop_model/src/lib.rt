@@ -8,6 +8,7 @@ mod backing;
 mod buying;
 mod card_type;
 mod card_use;
+mod cards;
 mod cart;
 mod country;
 mod customer;
@@ -33,11 +34,12 @@ pub use auth_id::AuthId;
 pub use author::Author;
 pub use backing::Backing;
 pub use buying::{
-    AdminRequest, BuyRequest, Buyer, CustomerRegistration, Login, Newcomer, OrderDisplay,
-    OrderInquiry,
+    AdminRequest, BuyConfirm, BuyRequest, Buyer, Card, CustomerRegistration, Login, Newcomer,
+    OrderDisplay, OrderInquiry,
 };
 pub use card_type::CardType;
 pub use card_use::CardUse;
+pub use cards::{is_card_number, is_month};
 pub use cart::Cart;
 pub use country::Country;
 pub use customer::{Customer, CustomerDetails};

@@ -28,6 +28,16 @@ pub enum Parameter {
     Country,
     Phone,
     Email,
+    /// The type of a payment card.
+    Card,
+    /// Its number.
+    Number,
+    /// Its holder's name.
+    Name,
+    /// The month in which it expires.
+    Expiry,
+    /// How an order is shipped.
+    Ship,
 }
 
 impl Parameter {
@@ -54,6 +64,11 @@ impl Parameter {
             Parameter::Country => b"country",
             Parameter::Phone => b"phone",
             Parameter::Email => b"email",
+            Parameter::Card => b"card",
+            Parameter::Number => b"number",
+            Parameter::Name => b"name",
+            Parameter::Expiry => b"expiry",
+            Parameter::Ship => b"ship",
         }
     }
 
@@ -81,6 +96,11 @@ impl Parameter {
             Parameter::Country => b"Bad parameter country.",
             Parameter::Phone => b"Bad parameter phone.",
             Parameter::Email => b"Bad parameter email.",
+            Parameter::Card => b"Bad parameter card.",
+            Parameter::Number => b"Bad parameter number.",
+            Parameter::Name => b"Bad parameter name.",
+            Parameter::Expiry => b"Bad parameter expiry.",
+            Parameter::Ship => b"Bad parameter ship.",
         }
     }
 }

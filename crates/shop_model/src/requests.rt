@@ -4,8 +4,10 @@ ghost use Rattle.shop_model.specs.asked.Interactions.{path_of};
 ghost use Rattle.shop_model.specs.asked.Kinds.{kind_of, kind_name};
 
 use crate::Subject;
-use crate::buying::{AdminRequest, BuyRequest, CustomerRegistration, OrderDisplay, OrderInquiry};
-use shop_text::{Listed, Text};
+use crate::buying::{
+    AdminRequest, BuyConfirm, BuyRequest, CustomerRegistration, OrderDisplay, OrderInquiry,
+};
+use shop_text::{Boxed, Listed, Text};
 use std::marker::Model;
 
 /// The web interactions that are served.
@@ -20,6 +22,7 @@ pub enum Interaction {
     ShoppingCart,
     CustomerRegistration,
     BuyRequest,
+    BuyConfirm,
     OrderInquiry,
     OrderDisplay,
     AdminRequest,
@@ -40,6 +43,7 @@ impl Interaction {
             Interaction::ShoppingCart => "/shopping_cart",
             Interaction::CustomerRegistration => "/customer_registration",
             Interaction::BuyRequest => "/buy_request",
+            Interaction::BuyConfirm => "/buy_confirm",
             Interaction::OrderInquiry => "/order_inquiry",
             Interaction::OrderDisplay => "/order_display",
             Interaction::AdminRequest => "/admin_request",
@@ -178,6 +182,7 @@ pub enum Request {
     CartRequest(CartRequest),
     CustomerRegistration(CustomerRegistration),
     BuyRequest(BuyRequest),
+    BuyConfirm(Boxed<BuyConfirm>),
     OrderInquiry(OrderInquiry),
     OrderDisplay(OrderDisplay),
     AdminRequest(AdminRequest),

@@ -1,5 +1,5 @@
 -- Buy Request: what it may read, and where it stops.
-use Rattle.std.proofs.Common.{◌≡◌, ℕ, zero, suc, ◌+◌, List, [], ◌∷◌, ◌++◌, take, map, get_or, All, Option, Some, None, refl, sym, ◌∙◌, ap, subst, inl, inr, arith}
+use Rattle.std.proofs.Common.{◌≡◌, ℕ, zero, suc, List, [], ◌∷◌, ◌++◌, take, map, get_or, All, Option, Some, None, refl, sym, ◌∙◌, ap, subst, inl, inr, arith}
 use Rattle.std.proofs.lemmas.List.Elements.{All-nil, All-cons, All-append, All-map, All-weaker}
 use Rattle.std.proofs.lemmas.Option.{slice_get-get_or}
 use Rattle.shop_model.specs.declared.buying.BuyRequest as buying
@@ -7,8 +7,6 @@ use Rattle.shop_model.specs.declared.buying.Buyer.{Buyer}
 use Rattle.shop_model.specs.declared.buying.Buyer.TheVariants.{Returning, Newcomer}
 use Rattle.shop_model.specs.declared.requests.Request.TheVariants.{BuyRequest}
 use Rattle.shop_model.specs.declared.tables.Tables.{Tables}
-use Rattle.shop_model.specs.asked.Refusals.{page_of}
-use Rattle.shop_model.specs.pages.Show.{refused_or}
 use Rattle.shop_model.specs.rows.Lookups.{row_numbered}
 use Rattle.shop_history.specs.declared.acts.Entry.{Entry}
 use Rattle.shop_history.specs.declared.keys.Key.{Key}
@@ -17,20 +15,17 @@ use Rattle.shop_history.specs.declared.keys.Row.{Row}
 use Rattle.shop_history.specs.declared.keys.Row.TheVariants as row
 use Rattle.shop_history.specs.Keys.{row_of, shown}
 use Rattle.shop_history.specs.Logs.{history, tables}
-use Rattle.shop_draft.specs.declared.draft.Draft.{Draft}
 use Rattle.shop_attempt.specs.declared.attempts.ReadOf.{ReadOf}
 use Rattle.shop_attempt.specs.Reads.{Shows, AreTrue}
 use Rattle.shop_browse.specs.declared.attempted.Ask.{Ask}
-use Rattle.shop_browse.specs.declared.driver.Next.{Next}
-use Rattle.shop_browse.specs.Driver.{keys_of, Fits, AreSeen, AsksFor, IsNext}
+use Rattle.shop_browse.specs.Driver.{keys_of, AreSeen, AsksFor}
 use Rattle.shop_browse.specs.Footprints.{IsAmong, WasOnCart, IsBuyer, InFootprint}
-use Rattle.shop_browse.proofs.cited.Reads.{shows_page}
 use Rattle.shop_order.specs.declared.buy_request.Begun.{Begun}
-use Rattle.shop_order.specs.declared.buy_request.Stop.{Stop}
-use Rattle.shop_order.specs.declared.buy_request.Stop.TheVariants as stops
-use Rattle.shop_order.specs.BuyRequest.{buyer_key, first_keys, customer_keys, second_keys, id_in, IsStop, IsStopped, AreBought, IsFound, Begins, HasFirst, HasSecond, HasAll, FollowsBuy}
+use Rattle.shop_order.specs.BuyRequest.{buyer_key, first_keys, customer_keys, second_keys, id_in, IsFound, Begins, HasFirst, HasSecond, HasAll, FollowsBuy}
 use Rattle.shop_order.specs.ShoppingCart.{IsFitRow, lines_in}
-use Rattle.shop_order.proofs.ShoppingCartLemmas.{cart_found, fit_shown}
+use Rattle.shop_order.specs.Stops.{AreBought}
+use Rattle.shop_order.proofs.ShoppingCartLemmas.{fit_shown}
+use Rattle.shop_order.proofs.ShownLemmas.{cart_found}
 
 -- the reads of the first round
 
@@ -51,20 +46,6 @@ fit_first asked ask reads has seen =
     let first = (subst (AreSeen ask.index.now) has.reads_are seen).0 in
     let t : Tables = first.0 in
     subst IsFitRow (ap (row_of t) (sym has.cart_is) ∙ first.1.shows.0) (fit_shown t asked.cart (row_numbered t.carts asked.cart) refl first.1.sound)
-
--- where it stops
-
-pub stop_weaker : (One Other : Tables → Type 0) (asked : buying.BuyRequest) (stop : Stop) → ((t : Tables) → Other t → One t) → IsStop One asked stop → IsStop Other asked stop
-stop_weaker One Other asked (stops.Refused refusal) fewer is = λ t other. is t (fewer t other)
-stop_weaker One Other asked stops.Never fewer is = λ t other. is t (fewer t other)
-
-pub stopped_next : (asked : buying.BuyRequest) (ask : Ask) (reads : List ReadOf) (draft : Draft) (stop : Stop) (next : Next) → IsStop (λ t. Fits ask.index.now t reads) asked stop → IsStopped stop draft next
-    → (round : ℕ) → IsNext (FollowsBuy asked) (BuyRequest asked) ask round reads draft next
-stopped_next asked ask reads draft (stops.Refused refusal) next is done round =
-    subst (IsNext (FollowsBuy asked) (BuyRequest asked) ask round reads draft) (sym done.0)
-    (λ t fits. shows_page t (BuyRequest asked) ask.draw draft (page_of refusal) (ap (λ o. refused_or o None) (is t fits)) done.1)
-stopped_next asked ask reads draft stops.Never next is done round =
-    subst (IsNext (FollowsBuy asked) (BuyRequest asked) ask round reads draft) (sym done) is
 
 -- what the second round reads
 

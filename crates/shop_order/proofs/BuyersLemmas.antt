@@ -29,28 +29,19 @@ use Rattle.shop_attempt.specs.Writes.{written}
 use Rattle.shop_browse.specs.declared.attempted.Ask.{Ask}
 use Rattle.shop_browse.specs.Driver.{keys_of, Fits, IsChange}
 use Rattle.shop_order.specs.declared.buy_request.Begun.{Begun}
-use Rattle.shop_order.specs.declared.buy_request.Stop.{Stop}
-use Rattle.shop_order.specs.declared.buy_request.Stop.TheVariants as stops
-use Rattle.shop_order.specs.BuyRequest.{buyer_key, second_keys, check_found, StopsBy, IsStop, IsCustomerIn, HasAll}
+use Rattle.shop_order.specs.declared.stops.Stop.{Stop}
+use Rattle.shop_order.specs.declared.stops.Stop.TheVariants as stops
+use Rattle.shop_order.specs.BuyRequest.{buyer_key, second_keys, check_found, IsCustomerIn, HasAll}
 use Rattle.shop_order.specs.Entries.{newcomer_writes}
+use Rattle.shop_order.specs.Stops.{StopsBy, IsStop}
 use Rattle.shop_order.proofs.EnterLemmas.{user_numbered, login_written, newcomer_written}
-use Rattle.shop_order.proofs.ShoppingCartLemmas.{cart_found}
+use Rattle.shop_order.proofs.ShownLemmas.{cart_found, customer_found, id_found}
 
 -- the reads from a place on
 behind : (n : ℕ) (reads : List ReadOf) → take (length reads - n) (drop n reads) ≡ drop n reads
 behind n reads = take_all (length reads - n) (drop n reads) (omega (arith, length-drop n reads))
 
 -- what the reads show
-
-found_shown : (o found : Option ℕ) → shown row.Id o ≡ shown row.Id found → o ≡ found
-found_shown None None is = refl
-found_shown None (Some id) is = absurd cc
-found_shown (Some other) None is = absurd cc
-found_shown (Some other) (Some id) is = cc
-
-customer_found : (o : Option CustomerRow) (customer : CustomerRow) → shown row.Customer o ≡ row.Customer customer → o ≡ Some customer
-customer_found None customer is = absurd cc
-customer_found (Some other) customer is = cc
 
 -- tables that show the reads have the cart that is bought, and what was found of the buyer
 record ShowsFirst (t : Tables) (asked : buying.BuyRequest) (begun : Begun) : Type 0 where
@@ -125,7 +116,7 @@ module _ (asked : buying.BuyRequest) (login : LoginAsked) (begun : Begun) (ask :
       let first = first_shown t asked begun reads all fits.shows in
       let shows = subst (Shows t) reads_by fits.shows in
       let id : option_map (λ c. c.id) (customer_named t login.user) ≡ Some has_customer.id
-      = found_shown (option_map (λ c. c.id) (customer_named t login.user)) begun.found (ap (λ b. row_of t (buyer_key b)) (sym buyer_is) ∙ first.found) ∙ has_customer.found_is in
+      = id_found (option_map (λ c. c.id) (customer_named t login.user)) begun.found (ap (λ b. row_of t (buyer_key b)) (sym buyer_is) ∙ first.found) ∙ has_customer.found_is in
       record {
         first = first;
         named = named_there t has_customer.id (customer_named t login.user) fits.sound refl id;
@@ -139,7 +130,7 @@ module _ (asked : buying.BuyRequest) (login : LoginAsked) (begun : Begun) (ask :
       ∙ ap (check_password login.pass) shows.named
 
   -- where the password is wrong
-  pub login_stops : (stop : Stop) → StopsBy row.Customer (check_password login.pass) has_customer.customer.row stop → IsStop (λ t. Fits ask.index.now t reads) asked stop
+  pub login_stops : (stop : Stop) → StopsBy row.Customer (check_password login.pass) has_customer.customer.row stop → IsStop (λ t. Fits ask.index.now t reads) (BuyRequest asked) stop
   login_stops (stops.Refused refusal) is = λ t fits.
       let shows = customer_shown t fits in
       check_is t shows ∙ is (row_numbered t.customers has_customer.id) shows.there
@@ -154,6 +145,7 @@ module _ (asked : buying.BuyRequest) (login : LoginAsked) (begun : Begun) (ask :
       = λ t shows. customer_found (row_numbered t.customers has_customer.id) customer (shows.there ∙ is.row_is) in
       record {
         does = record { does = refl; drew = refl };
+        free = tt;
         makes = λ t stamp fits bound.
             let shows = customer_shown t fits in
             record {
@@ -181,10 +173,11 @@ module _ (asked : buying.BuyRequest) (newcomer : NewcomerAsked) (begun : Begun) 
       → IsChange (BuyRequest asked) ask reads draft (Enter asked ask.draw) (newcomer_writes ask.draw newcomer begun.found)
   comes_in draft page = record {
     does = record { does = refl; drew = refl };
+    free = tt;
     makes = λ t stamp fits bound.
         let first = first_shown t asked begun reads all fits.shows in
         let found : option_map (λ a. a.id) (address_saying t newcomer.address) ≡ begun.found
-        = found_shown (option_map (λ a. a.id) (address_saying t newcomer.address)) begun.found (ap (λ b. row_of t (buyer_key b)) (sym buyer_is) ∙ first.found) in
+        = id_found (option_map (λ a. a.id) (address_saying t newcomer.address)) begun.found (ap (λ b. row_of t (buyer_key b)) (sym buyer_is) ∙ first.found) in
         record {
           passes = ap (λ o. first_of o (check_buyer t asked.buyer)) first.passes ∙ ap (check_buyer t) buyer_is;
           tables_are =

@@ -1,7 +1,15 @@
+pub mod ShownLemmas
 pub mod CartsLemmas
 pub mod TableLemmas
 pub mod BuyerPageLemmas
 pub mod EnterLemmas
+pub mod StopsLemmas
 pub mod BuyRequestLemmas
+pub mod BuyConfirmLemmas
+pub mod PurchaseLemmas
+pub mod StockWrites
+pub mod PurchaseWrites
+pub mod ChargingLemmas
+pub mod PaymentsLemmas
 pub mod BuyersLemmas
 pub mod ShoppingCartLemmas

@@ -42,6 +42,7 @@ use Rattle.shop_browse.specs.Footprints.{drawn_item, IsAmong, WasOnCart, LeavesN
 use Rattle.shop_browse.proofs.cited.Sizes.{size_of, size_after}
 use Rattle.shop_order.specs.Page.{cart_at, page_at}
 use Rattle.shop_order.specs.ShoppingCart.{cart_keys, cart_reads, IsNamed, IsFitRow, IsFitRead, lines_in, begun_with, MakesOfCart, AreItems, behind_cart, HasItems, FollowsCart, put_lines, IsChangeTo}
+use Rattle.shop_order.proofs.ShownLemmas.{cart_found}
 use Rattle.shop_order.proofs.CartsLemmas.{made_on}
 
 -- the cart that was read
@@ -55,10 +56,6 @@ record IsReadOfNamed (named : Option ℕ) (cart : ReadOf) : Type 0 where
 read_of_named : (named : Option ℕ) (cart : ReadOf) → IsNamed named (Some cart) → IsReadOfNamed named cart
 read_of_named None cart is = absurd cc
 read_of_named (Some id) cart is = record { id = id; named_is = refl; key_is = cc }
-
-pub cart_found : (o : Option CartRow) (cart : CartRow) → shown row.Cart o ≡ row.Cart cart → o ≡ Some cart
-cart_found None cart is = absurd cc
-cart_found (Some other) cart is = cc
 
 pub fit_shown : (t : Tables) (id : ℕ) (o : Option CartRow) → row_numbered t.carts id ≡ o → Sound t → IsFitRow (shown row.Cart o)
 fit_shown t id None is sound = tt
@@ -271,6 +268,7 @@ changed asked before kept ask round reads lines draft next whole has same change
     (subst (MakesOfCart ask.scale.now.items asked ask.draw has.cart) (sym same) has.makes) in
     subst (IsNext (FollowsCart asked kept ask) (CartRequest asked) ask round reads draft) (sym change.is) (record {
       does = record { does = refl; drew = refl };
+      free = tt;
       makes = λ t stamp fits bound. makes_lines t stamp asked ask.draw lines (here t fits);
       becomes = λ t stamp fits bound. becomes t stamp asked ask.draw lines draft (here t fits) (change.written t (shown t fits.shows).1);
     })

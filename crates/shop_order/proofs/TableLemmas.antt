@@ -45,7 +45,7 @@ line_at lines i = get_or lines i (0, 0)
 
 -- one line more, whose item was read
 module _ (lines : List (ℕ × ℕ)) (items : List ReadOf) (i : ℕ) (read : ReadOf) (are : AreItems lines items) (within : i < length lines) (at : read ≡ get_or items i read) where
-  item_shown : (t : Tables) → Shows t items → row_of t (key.Item (line_at lines i).0) ≡ read.row
+  pub item_shown : (t : Tables) → Shows t items → row_of t (key.Item (line_at lines i).0) ≡ read.row
   item_shown t shows =
       let key_of : ℕ × ℕ → Key = λ l. key.Item l.0 in
       let behind : i < length items

@@ -6,27 +6,21 @@ use Rattle.shop_model.specs.declared.buying.Buyer.TheVariants.{Returning, Newcom
 use Rattle.shop_model.specs.declared.refusal.Refusal.{Refusal}
 use Rattle.shop_model.specs.declared.refusal.Refusal.TheVariants.{NoUserName}
 use Rattle.shop_model.specs.declared.requests.Request.TheVariants as buys
-use Rattle.shop_model.specs.declared.tables.Tables.{Tables}
-use Rattle.shop_model.specs.asked.Refusals.{page_of}
-use Rattle.shop_model.specs.rows.Rows.{CartRow, CustomerRow}
-use Rattle.shop_model.specs.trade.Buyers.{check_bought, check_password, check_enter}
+use Rattle.shop_model.specs.rows.Rows.{CustomerRow}
+use Rattle.shop_model.specs.trade.Buyers.{check_password}
 use Rattle.shop_history.specs.declared.keys.Key.{Key}
 use Rattle.shop_history.specs.declared.keys.Key.TheVariants as key
 use Rattle.shop_history.specs.declared.keys.Row.{Row}
 use Rattle.shop_history.specs.declared.keys.Row.TheVariants as rows
 use Rattle.shop_history.specs.Keys.{shown}
 use Rattle.shop_draft.specs.declared.draft.Draft.{Draft}
-use Rattle.shop_draft.specs.Pages as pages
 use Rattle.shop_attempt.specs.declared.attempts.ReadOf.{ReadOf}
-use Rattle.shop_pricing.specs.Bounds.{AreLines}
 use Rattle.shop_browse.specs.declared.attempted.Ask.{Ask}
 use Rattle.shop_browse.specs.declared.driver.Next.{Next}
-use Rattle.shop_browse.specs.declared.driver.Next.TheVariants as nexts
 use Rattle.shop_browse.specs.Driver.{keys_of, IsNext}
 use Rattle.shop_order.specs.declared.buy_request.Begun.{Begun}
-use Rattle.shop_order.specs.declared.buy_request.Stop.{Stop}
-use Rattle.shop_order.specs.declared.buy_request.Stop.TheVariants.{Refused, Never}
 use Rattle.shop_order.specs.ShoppingCart.{lines_in}
+use Rattle.shop_order.specs.Stops.{AreBought}
 
 -- the key that tells of a buyer: its user name, or its address
 abbrev pub buyer_key : Buyer → Key
@@ -57,29 +51,6 @@ abbrev pub check_found : Buyer → Option ℕ → Option Refusal
 check_found (Newcomer asked) found = None
 check_found (Returning asked) None = Some NoUserName
 check_found (Returning asked) (Some id) = None
-
--- whatever this row shows is refused, or it shows none of these
-abbrev pub StopsBy : {A : Type 0} → (A → Row) → (Option A → Option Refusal) → Row → Stop → Type 0
-StopsBy {A} make check row (Refused refusal) = (o : Option A) → shown make o ≡ row → check o ≡ Some refusal
-StopsBy {A} make check row Never = (o : Option A) → shown make o ≡ row → ⊥
-
--- in whichever tables these are the request is refused, or there are none
-abbrev pub IsStop : (Tables → Type 0) → BuyRequest → Stop → Type 0
-IsStop These asked (Refused refusal) = (t : Tables) → These t → check_enter t asked.cart asked.buyer ≡ Some refusal
-IsStop These asked Never = (t : Tables) → These t → ⊥
-
--- what is done where a request stops
-abbrev pub IsStopped : Stop → Draft → Next → Type 0
-IsStopped (Refused refusal) draft next = (next ≡ nexts.Show) × pages.Shows draft (λ drawn. page_of refusal)
-IsStopped Never draft next = next ≡ nexts.Never
-
--- the row is of a cart that may be bought, with these lines
-pub record AreBought (row : Row) (lines : List (ℕ × ℕ)) : Type 0 where
-  pub cart : CartRow
-  pub row_is : row ≡ rows.Cart cart
-  pub lines_are : lines ≡ cart.lines
-  pub passes : check_bought (Some cart) ≡ None
-  pub kept : AreLines lines
 
 -- the row shows this id, or that there is none, and the buyer is not refused by it
 pub record IsFound (buyer : Buyer) (row : Row) (found : Option ℕ) : Type 0 where

@@ -1,6 +1,12 @@
 pub mod Page
 pub mod Table
 pub mod ShoppingCart
+pub mod Stops
 pub mod BuyRequest
+pub mod BuyConfirm
 pub mod BuyerPage
 pub mod Entries
+pub mod Purchases
+pub mod Charging
+pub mod Payments
+pub mod Decisions

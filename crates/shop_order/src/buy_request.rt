@@ -2,7 +2,7 @@
 ghost use Rattle.std.specs.Prelude.{◌≡◌, ◌∷◌, [], IfOk, IfErr};
 ghost use Rattle.shop_model.specs.declared.buying.Buyer.TheVariants as buyers;
 ghost use Rattle.shop_model.specs.declared.requests.Request.TheVariants as request_kinds;
-ghost use Rattle.shop_model.specs.trade.Buyers.{check_bought, check_password};
+ghost use Rattle.shop_model.specs.trade.Buyers.{check_password};
 ghost use Rattle.shop_history.specs.declared.keys.Key.TheVariants as key_kinds;
 ghost use Rattle.shop_history.specs.declared.keys.Row.TheVariants as row_kinds;
 ghost use Rattle.shop_attempt.specs.Marks.{Looks};
@@ -10,25 +10,19 @@ ghost use Rattle.shop_attempt.specs.Reads.{Shows};
 ghost use Rattle.shop_browse.specs.Attempts.{AttemptedAs, Suits, asking_of};
 ghost use Rattle.shop_order.specs.BuyRequest as spec;
 ghost use Rattle.shop_order.specs.ShoppingCart.{IsFitRow};
+ghost use Rattle.shop_order.specs.Stops.{StopsBy, IsStop};
 
 use crate::buyer_page::{Shopper, write_page};
 use crate::entries::{act, login_writes, newcomer_writes};
 use crate::shopping_cart::add_item_keys;
+use crate::stops::{Stop, lines_in, stopped};
 use shop_attempt::{ReadOf, Store};
 use shop_browse::{Ask, Attempted, Interaction, Next, attempt_by};
-use shop_draft::{Draft, refusal as write_refusal};
+use shop_draft::Draft;
 use shop_history::{Key, Row};
 use shop_model::{BuyRequest, Buyer, Customer, Login, Newcomer, Refusal, Request};
 use shop_text::{Boxed, Listed, Memory, Text, is_digsyl_lower};
 use std::alloc::Global;
-
-/// Why a request changes nothing.
-#[derive(Clone, Copy)]
-pub(crate) enum Stop {
-    Refused(Refusal),
-    /// No shop shows what was read.
-    Never,
-}
 
 /// What is bought, and who was found: the customer of the user name, or the address that says the same.
 #[derive(Clone, Copy)]
@@ -37,29 +31,10 @@ pub(crate) struct Begun<'a> {
     found: Option<u32>,
 }
 
-/// The lines of the cart in a row.
-fn lines_in(row: &Row) -> Result<&[(u32, u32)], Stop>
-    requires { IsFitRow row.now }
-    ensures ok { IfOk result (λ lines. spec.AreBought row.now lines.now) }
-    ensures err { IfErr result (spec.StopsBy row_kinds.Cart check_bought row.now) }
-{
-    match row {
-        Row::Absent => Err(Stop::Refused(Refusal::NoCart)),
-        Row::Cart(cart) => {
-            let lines = cart.lines.get().as_slice();
-            if lines.is_empty() {
-                return Err(Stop::Refused(Refusal::EmptyCart));
-            }
-            Ok(lines)
-        }
-        _ => Err(Stop::Never),
-    }
-}
-
 /// The id in a row that tells of a buyer.
 fn found_in(buyer: &Buyer, row: &Row) -> Result<Option<u32>, Stop>
     ensures ok { IfOk result (spec.IsFound buyer.now row.now) }
-    ensures err { IfErr result (spec.StopsBy row_kinds.Id (spec.check_found buyer.now) row.now) }
+    ensures err { IfErr result (StopsBy row_kinds.Id (spec.check_found buyer.now) row.now) }
 {
     match (row, buyer) {
         (Row::Id(id), _) => Ok(Some(*id)),
@@ -75,7 +50,7 @@ fn begin<'a>(asked: &BuyRequest, cart: &'a ReadOf, found: &ReadOf) -> Result<Beg
     requires found { found.now.key ≡ spec.buyer_key asked.now.buyer }
     requires fit { IsFitRow cart.now.row }
     ensures ok { IfOk result (spec.Begins asked.now.buyer cart.now.row found.now.row) }
-    ensures err { IfErr result (spec.IsStop (λ t. Shows t (cart.now ∷ found.now ∷ [])) asked.now) }
+    ensures err { IfErr result (IsStop (λ t. Shows t (cart.now ∷ found.now ∷ [])) (request_kinds.BuyRequest asked.now)) }
 {
     let lines = lines_in(&cart.row)?;
     let found = found_in(&asked.buyer, &found.row)?;
@@ -85,7 +60,7 @@ fn begin<'a>(asked: &BuyRequest, cart: &'a ReadOf, found: &ReadOf) -> Result<Beg
 /// The customer in a row, whose password this is.
 fn customer_in<'a>(pass: &Text, row: &'a Row) -> Result<&'a Customer, Stop>
     ensures ok { IfOk result (λ customer. spec.IsCustomerIn pass.now row.now customer.now) }
-    ensures err { IfErr result (spec.StopsBy row_kinds.Customer (check_password pass.now) row.now) }
+    ensures err { IfErr result (StopsBy row_kinds.Customer (check_password pass.now) row.now) }
 {
     match row {
         Row::Absent => Err(Stop::Refused(Refusal::NoUserName)),
@@ -96,19 +71,6 @@ fn customer_in<'a>(pass: &Text, row: &'a Row) -> Result<&'a Customer, Stop>
             Ok(customer)
         }
         _ => Err(Stop::Never),
-    }
-}
-
-/// What is done where a request stops.
-fn stopped(draft: &mut Draft, stop: Stop) -> Result<Next, Memory>
-    ensures { IfOk result (spec.IsStopped stop draft.new) }
-{
-    match stop {
-        Stop::Refused(refusal) => {
-            write_refusal(draft, refusal)?;
-            Ok(Next::Show)
-        }
-        Stop::Never => Ok(Next::Never),
     }
 }
 

@@ -87,7 +87,7 @@ fn heading(page: &mut Template, customer: Id) -> Result<(), Memory>
 }
 
 /// The lines with what one unit of each costs, in cents.
-fn priced(
+pub(crate) fn priced(
     alloc: Global,
     lines: &[(u32, u32)],
     items: &[ReadOf],

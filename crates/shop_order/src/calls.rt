@@ -1,6 +1,7 @@
 ghost use Rattle.shop_attempt.specs.Marks.{Looks};
 ghost use Rattle.shop_browse.specs.Attempts.{AttemptedAs, Suits, asking_of};
 
+use crate::buy_confirm::buy_confirm;
 use crate::buy_request::buy_request;
 use crate::shopping_cart::shopping_cart;
 use shop_attempt::Store;
@@ -46,5 +47,6 @@ pub fn attempt<St: Store>(
         Request::OrderDisplay(asked) => order_display(alloc, store, ask, asked, draft),
         Request::AdminRequest(asked) => admin_request(alloc, store, ask, asked, draft),
         Request::BuyRequest(asked) => buy_request(alloc, store, ask, asked, draft),
+        Request::BuyConfirm(asked) => buy_confirm(alloc, store, ask, asked.get(), draft),
     }
 }

@@ -2,12 +2,21 @@
 //! the rows that it has read, which makes of them the act and its writes, and writes its page.
 #![tactic(auto)]
 
+mod basket;
+pub mod buy_confirm;
 pub mod buy_request;
 mod buyer_page;
 mod calls;
+mod confirm_page;
+mod decision;
 mod entries;
+mod new_order;
 mod page;
+mod payment;
+mod purchase;
+mod sale;
 pub mod shopping_cart;
+mod stops;
 mod table;
 
 pub use calls::attempt;

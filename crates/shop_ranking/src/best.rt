@@ -1,12 +1,13 @@
 //! The best sold items of each subject, in order as the units of items change.
-ghost use Rattle.std.specs.Prelude.{◌≡◌, ◌-◌, ◌<◌, List, IfOk, OnOk, length, map, replicate, set, slice_index, vec_len, vec_capacity};
+ghost use Rattle.std.specs.Prelude.{◌≡◌, ◌≢◌, ◌-◌, ◌<◌, ◌≤◌, true, false, List, IfOk, OnOk, length, map, replicate, set, slice_index, vec_len, vec_capacity};
 ghost use Rattle.std.specs.List.Sorted.{IsSorted};
 ghost use Rattle.shop_model.specs.lists.Rankings.{Sale, in_order, better};
+ghost use Rattle.shop_model.specs.rows.Limits.{list_limit};
 ghost use Rattle.shop_model.specs.rows.Sound.{Has};
 ghost use Rattle.shop_ranking.specs.Order.{IsInOrder, StandsIn, put_shown};
 ghost use Rattle.shop_ranking.specs.StandingBest.{is_sold, standing_best, standing_sales};
 
-use crate::ranked::{Ranked, first_ids};
+use crate::ranked::{Ranked, first_ids, renew_ids};
 use crate::ranking::{put_in, take_out};
 use crate::subjects::{new_lists, subjects_of};
 use shop_model::{Item, Subject};
@@ -147,5 +148,17 @@ impl Best {
         ensures order { OnOk result (IsInOrder better (standing_sales self.now subject)) }
     {
         first_ids(alloc, &self.lists[subject.number() as usize])
+    }
+
+    /// Writes the ids of the best sold items of a subject, 50 at most, over those that were the best
+    /// before; answers whether they differ. Takes no memory.
+    pub fn renew(&self, subject: Subject, ids: &mut Vec<u32>) -> bool
+        requires { list_limit ≤ vec_capacity ids.old }
+        ensures ids { ids.new.items ≡ standing_best self.now subject }
+        ensures same { result ≡ false → ids.new.items ≡ ids.old.items }
+        ensures other { result ≡ true → ids.new.items ≢ ids.old.items }
+        ensures capacity { vec_capacity ids.new ≡ vec_capacity ids.old }
+    {
+        renew_ids(&self.lists[subject.number() as usize], ids)
     }
 }

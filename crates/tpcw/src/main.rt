@@ -1,8 +1,10 @@
-//! The shop's program: its words, the standard streams and the system's clock go to the top calls.
+//! The shop's program: its words, the standard streams, the system's clock and an emulated payment gateway go to
+//! the top calls.
 #![tactic(auto)]
 
 use shop_app::{Status, run_alone};
 use shop_edges::{ReaderSource, StandardOutput, SystemClock, WriterSink, write_all};
+use shop_gateway::Emulator;
 use shop_text::{Memory, Text};
 use std::env::{self, Env};
 use std::process::ExitCode;
@@ -29,6 +31,7 @@ fn main(rt: HostRuntime) -> ExitCode {
     let mut source = ReaderSource::new(rt.stdin());
     let mut sink = WriterSink::new(StandardOutput::Output(rt.stdout()));
     let mut clock = SystemClock::new(rt);
+    let mut gateway = Emulator::new(rt.alloc());
     let status = run_alone(
         rt.alloc(),
         &words,
@@ -36,6 +39,7 @@ fn main(rt: HostRuntime) -> ExitCode {
         &mut sink,
         &mut faults,
         &mut clock,
+        &mut gateway,
     );
     ExitCode::from(status.code())
 }

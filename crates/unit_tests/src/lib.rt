@@ -2,9 +2,13 @@
 #![tactic(auto)]
 
 #[cfg(test)]
+mod gateways;
+#[cfg(test)]
 mod messages;
 #[cfg(test)]
 mod rankings;
+#[cfg(test)]
+mod stocks;
 #[cfg(test)]
 mod texts;
 #[cfg(test)]

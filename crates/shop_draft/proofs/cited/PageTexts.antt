@@ -41,7 +41,12 @@ pub written : (page : Page) (begun listed now : List ℕ) → begun ≡ page_fro
 unfolding page_text
 written page begun listed now is_begun is_listed is = rw (is, is_listed, is_begun) refl
 
--- two values with words before each, in a block that ends its line
+-- a value with words before it, in a block that ends its line
+pub one_value : (tag v close feed : List ℕ) (old s1 now a : List ℕ) → escape v ≡ v
+    → s1 ≡ old ++ (tag ++ v ++ escape a) → now ≡ s1 ++ (close ++ feed) → now ≡ old ++ (tag ++ escape (v ++ a) ++ close ++ feed)
+one_value tag v close feed old s1 now a is_v is1 is = rw (is, is1, escape_append v a, is_v) (simp append_assoc)
+
+-- two values with words before each
 pub two_values : (tag v w close feed : List ℕ) (old s1 s2 now a b : List ℕ) → escape v ≡ v → escape w ≡ w
     → s1 ≡ old ++ (tag ++ v ++ escape a) → s2 ≡ s1 ++ (w ++ escape b) → now ≡ s2 ++ (close ++ feed)
     → now ≡ old ++ (tag ++ escape (v ++ a ++ w ++ b) ++ close ++ feed)

@@ -1,5 +1,5 @@
 -- Entries that may follow keep the tables sound, and each uses one of the room.
-use Rattle.std.proofs.Common.{◌≡◌, ℕ, suc, ◌+◌, ◌-◌, ◌*◌, ◌%◌, ◌^◌, ◌<◌, ◌≤◌, List, [], ◌∷◌, length, take, All, Option, Some, None, IfSome, option_map, unwrap_or, refl, arith, length-append}
+use Rattle.std.proofs.Common.{◌≡◌, ℕ, suc, sym, subst, ◌+◌, ◌-◌, ◌*◌, ◌%◌, ◌^◌, ◌<◌, ◌≤◌, List, [], ◌∷◌, length, take, All, Option, Some, None, IfSome, option_map, unwrap_or, refl, arith, length-append}
 use Rattle.std.proofs.lemmas.List.{length-set}
 use Rattle.std.proofs.lemmas.Nat.{mod_below}
 use Rattle.std.proofs.lemmas.List.Elements.{All-weaker}
@@ -14,21 +14,24 @@ use Rattle.shop_model.specs.declared.tables.Tables.{Tables}
 use Rattle.shop_model.specs.asked.CartAsked.{CartAsked}
 use Rattle.shop_model.specs.trade.Buyers.{customer_named, logged_in, says_same, address_saying, addresses_with, new_customer, customers_with, tables_entered}
 use Rattle.shop_model.specs.trade.Carts.{check_cart, check_asked, lines_named, lines_after, cart_lines, carts_with}
+use Rattle.shop_model.specs.asked.PurchaseAsked.{PurchaseAsked, IsPurchaseAsked}
+use Rattle.shop_model.specs.trade.Sales.{check_purchase, tables_bought}
 use Rattle.shop_model.specs.pages.Show.{check}
 use Rattle.shop_model.specs.rows.Limits.{stamp_limit, restocks_limit}
 use Rattle.shop_model.specs.rows.Lookups.{row_numbered}
 use Rattle.shop_model.specs.rows.Rows.{CartRow, CustomerRow}
 use Rattle.shop_model.specs.rows.Sound.{Sound, Room}
 use Rattle.shop_history.specs.declared.acts.Act.{Act}
-use Rattle.shop_history.specs.declared.acts.Act.TheVariants.{Cart, Enter}
+use Rattle.shop_history.specs.declared.acts.Act.TheVariants.{Cart, Enter, Confirm}
 use Rattle.shop_history.specs.declared.acts.Entry.{Entry}
 use Rattle.shop_history.specs.Acts.{play, request_of, IsBuyer, IsInForm}
 use Rattle.shop_history.specs.Logs.{history, after, tables, Legal, MayFollow, IsGood}
 use Rattle.shop_history.proofs.Lines.{AreFit, none_fit, cart_lines_fit}
-use Rattle.shop_history.proofs.cited.MayChange.{named_there}
+use Rattle.shop_history.proofs.cited.MayChange.{Buys, who_buys, named_there}
 use Rattle.shop_history.proofs.cited.Places.{all_numbered}
 use Rattle.shop_history.proofs.Changed.{changed_length}
 use Rattle.shop_history.proofs.SoundCustomers.{login_sound, entered_sound, shared_sound, address_there}
+use Rattle.shop_history.proofs.SoundPurchases.{purchase_sound, purchase_room}
 use Rattle.shop_history.proofs.SoundCarts.{AreSound, carts_sound, sound_with, push_sound, set_sound}
 
 -- room for fewer entries
@@ -128,10 +131,26 @@ enter_good t stamp draw (Newcomer asked) room bound form good =
       };
     }
 
+-- a customer who buys a cart
+
+confirm_good : (t : Tables) (stamp draw : ℕ) (auth : List ℕ) (asked : PurchaseAsked) (room : ℕ) → stamp ≤ stamp_limit → IsPurchaseAsked asked → check_purchase t asked ≡ None → IsGood t (suc room)
+    → IsGood (tables_bought t stamp draw auth asked (row_numbered t.customers asked.c)) room
+confirm_good t stamp draw auth asked room bound form passes good =
+    let who : Buys t asked = who_buys t asked passes in
+    let addresses : length t.addresses + 1 < 2 ^ 32 = omega (arith, good.room_for.addresses) in
+    let roomy : All (λ i. i.restocks + 49 ≤ restocks_limit) t.items
+    = All-weaker (λ i. i.restocks + 49 * suc room ≤ restocks_limit) (λ i. i.restocks + 49 ≤ restocks_limit) (λ i h. omega arith) t.items good.room_for.restocks in
+    subst (λ o. IsGood (tables_bought t stamp draw auth asked o) room) (sym who.buys)
+    (record {
+      sound = purchase_sound t good.sound asked form stamp draw auth bound who.customer who.cart who.buys who.bought who.some addresses (omega (arith, good.room_for.orders)) roomy;
+      room_for = purchase_room t good.sound asked form stamp draw auth bound who.customer who.cart who.buys who.bought who.some addresses room good.room_for;
+    })
+
 -- an act that is not refused
 play_good : (t : Tables) (stamp : ℕ) (act : Act) (room : ℕ) → stamp ≤ stamp_limit → IsInForm act → check t (request_of act) ≡ None → IsGood t (suc room)
     → IsGood (play t stamp act).tables room
 play_good t stamp (Enter asked draw) room bound form passes good = enter_good t stamp draw asked.buyer room bound form good
+play_good t stamp (Confirm asked draw auth) room bound form passes good = confirm_good t stamp draw auth asked room bound form passes good
 play_good t stamp (Cart asked draw) room bound form passes good =
     let lines : List (ℕ × ℕ) = lines_after t asked draw in
     let carts : List CartRow = carts_with t.carts asked.ids.cart lines in

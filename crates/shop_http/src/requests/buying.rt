@@ -1,8 +1,9 @@
-ghost use Rattle.std.specs.Prelude.{IfOk};
+ghost use Rattle.std.specs.Prelude.{IfOk, IfSome};
 ghost use Rattle.shop_model.specs.asked.CustomersAsked.{IsAddressAsked};
 ghost use Rattle.shop_http.specs.Answers.{Reads};
 ghost use Rattle.shop_http.specs.Requests as spec;
 
+use super::cards::{card_asked, ship_asked};
 use super::fault::Fault;
 use super::forms::{
     ids_asked, required_country, required_number, required_short_text, required_text,
@@ -10,8 +11,8 @@ use super::forms::{
 };
 use super::pairs::Pairs;
 use shop_model::{
-    AddressText, AdminRequest, BuyRequest, Buyer, CustomerRegistration, Login, Newcomer,
-    OrderDisplay, OrderInquiry, Parameter, Request,
+    AddressText, AdminRequest, BuyConfirm, BuyRequest, Buyer, CustomerRegistration, Login,
+    Newcomer, OrderDisplay, OrderInquiry, Parameter, Request,
 };
 use shop_text::Boxed;
 use std::alloc::Global;
@@ -29,6 +30,14 @@ pub(crate) fn buy_request(alloc: Global, pairs: &Pairs) -> Result<Request, Fault
     let cart = required_number(alloc, pairs, Parameter::Cart)?;
     let buyer = buyer_asked(alloc, pairs)?;
     Ok(Request::BuyRequest(BuyRequest { cart, buyer }))
+}
+
+#[inline(never)]
+pub(crate) fn buy_confirm(alloc: Global, pairs: &Pairs) -> Result<Request, Fault>
+    ensures { Reads (spec.buy_confirm pairs.now) result }
+{
+    let purchase = purchase_asked(alloc, pairs)?;
+    Ok(Request::BuyConfirm(Boxed::new(alloc, purchase)?))
 }
 
 pub(crate) fn order_inquiry(alloc: Global, pairs: &Pairs) -> Result<Request, Fault>
@@ -89,6 +98,36 @@ fn newcomer_asked(alloc: Global, pairs: &Pairs) -> Result<Newcomer, Fault>
         phone,
         email,
     })
+}
+
+/// Who buys which cart, and how.
+fn purchase_asked(alloc: Global, pairs: &Pairs) -> Result<BuyConfirm, Fault>
+    ensures { Reads (spec.purchase_asked pairs.now) result }
+{
+    let c = required_number(alloc, pairs, Parameter::C)?;
+    let cart = required_number(alloc, pairs, Parameter::Cart)?;
+    let payment = card_asked(alloc, pairs)?;
+    let ship = ship_asked(alloc, pairs)?;
+    let address = ship_address_asked(alloc, pairs)?;
+    Ok(BuyConfirm {
+        c,
+        cart,
+        payment,
+        ship,
+        address,
+    })
+}
+
+/// Where an order ships to, if not to its customer's address.
+fn ship_address_asked(alloc: Global, pairs: &Pairs) -> Result<Option<AddressText>, Fault>
+    ensures value { Reads (spec.ship_address_asked pairs.now) result }
+    ensures form { IfOk result (λ address. IfSome address IsAddressAsked) }
+{
+    if pairs.value_of(Parameter::Street1).is_some() {
+        Ok(Some(address_asked(alloc, pairs)?))
+    } else {
+        Ok(None)
+    }
 }
 
 fn address_asked(alloc: Global, pairs: &Pairs) -> Result<AddressText, Fault>

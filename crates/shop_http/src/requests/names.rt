@@ -4,7 +4,7 @@ ghost use Rattle.shop_http.specs.Names as spec;
 use shop_model::Parameter;
 
 /// How many parameters there are.
-pub(crate) const PARAMETERS: usize = 19;
+pub(crate) const PARAMETERS: usize = 24;
 
 /// The place of a parameter among all.
 #[inline(always)]
@@ -57,6 +57,16 @@ pub(crate) fn parameter_named(name: &[u8]) -> Option<Parameter>
         Some(Parameter::Phone)
     } else if name == b"email".as_slice() {
         Some(Parameter::Email)
+    } else if name == b"card".as_slice() {
+        Some(Parameter::Card)
+    } else if name == b"number".as_slice() {
+        Some(Parameter::Number)
+    } else if name == b"name".as_slice() {
+        Some(Parameter::Name)
+    } else if name == b"expiry".as_slice() {
+        Some(Parameter::Expiry)
+    } else if name == b"ship".as_slice() {
+        Some(Parameter::Ship)
     } else {
         None
     }

@@ -4,7 +4,7 @@ use Rattle.std.specs.List.{find}
 use Rattle.std.specs.Option.{option_map}
 use Rattle.std.specs.Str.{bytes_eq}
 use Rattle.shop_model.specs.declared.requests.Interaction.{Interaction}
-use Rattle.shop_model.specs.declared.requests.Interaction.TheVariants.{Home, NewProducts, BestSellers, ProductDetail, SearchRequest, SearchResults, ShoppingCart, CustomerRegistration, BuyRequest, OrderInquiry, OrderDisplay, AdminRequest}
+use Rattle.shop_model.specs.declared.requests.Interaction.TheVariants.{Home, NewProducts, BestSellers, ProductDetail, SearchRequest, SearchResults, ShoppingCart, CustomerRegistration, BuyRequest, BuyConfirm, OrderInquiry, OrderDisplay, AdminRequest}
 
 -- the path of each
 abbrev pub path_of : Interaction → List ℕ
@@ -17,6 +17,7 @@ path_of SearchResults = codes "/search_results"
 path_of ShoppingCart = codes "/shopping_cart"
 path_of CustomerRegistration = codes "/customer_registration"
 path_of BuyRequest = codes "/buy_request"
+path_of BuyConfirm = codes "/buy_confirm"
 path_of OrderInquiry = codes "/order_inquiry"
 path_of OrderDisplay = codes "/order_display"
 path_of AdminRequest = codes "/admin_request"
@@ -26,6 +27,7 @@ abbrev pub paths : List (List ℕ × Interaction)
 paths =
     (path_of AdminRequest, AdminRequest)
     ∷ (path_of BestSellers, BestSellers)
+    ∷ (path_of BuyConfirm, BuyConfirm)
     ∷ (path_of BuyRequest, BuyRequest)
     ∷ (path_of CustomerRegistration, CustomerRegistration)
     ∷ (path_of Home, Home)

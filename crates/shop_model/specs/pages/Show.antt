@@ -2,7 +2,7 @@
 use Rattle.std.specs.Prelude.{ℕ, Option, Some, None, Bool, true, false}
 use Rattle.shop_model.specs.declared.page.Page.{Page}
 use Rattle.shop_model.specs.declared.requests.Request.{Request}
-use Rattle.shop_model.specs.declared.requests.Request.TheVariants.{Home, NewProducts, BestSellers, ProductDetail, SearchRequest, SearchResults, CartRequest, CustomerRegistration, BuyRequest, OrderInquiry, OrderDisplay, AdminRequest}
+use Rattle.shop_model.specs.declared.requests.Request.TheVariants.{Home, NewProducts, BestSellers, ProductDetail, SearchRequest, SearchResults, CartRequest, CustomerRegistration, BuyRequest, BuyConfirm, OrderInquiry, OrderDisplay, AdminRequest}
 use Rattle.shop_model.specs.declared.tables.Tables.{Tables}
 use Rattle.shop_model.specs.declared.refusal.Refusal.{Refusal}
 use Rattle.shop_model.specs.pages.NewProducts.{new_products}
@@ -15,6 +15,7 @@ use Rattle.shop_model.specs.pages.SearchRequest.{search_request}
 use Rattle.shop_model.specs.declared.refusal.Refusal.TheVariants.{NoItem, NoCustomer}
 use Rattle.shop_model.specs.trade.Buyers.{check_enter, check_login}
 use Rattle.shop_model.specs.trade.Carts.{check_cart}
+use Rattle.shop_model.specs.trade.Sales.{check_purchase}
 use Rattle.shop_model.specs.pages.AdminRequest.{admin_request}
 use Rattle.shop_model.specs.pages.CustomerRegistration.{customer_registration}
 use Rattle.shop_model.specs.pages.OrderDisplay.{order_display}
@@ -32,6 +33,7 @@ is_changing (SearchResults asked) = false
 is_changing (CartRequest asked) = true
 is_changing (CustomerRegistration asked) = false
 is_changing (BuyRequest asked) = true
+is_changing (BuyConfirm asked) = true
 is_changing (OrderInquiry asked) = false
 is_changing (OrderDisplay asked) = false
 is_changing (AdminRequest asked) = false
@@ -57,6 +59,7 @@ check t (SearchResults asked) = None
 check t (CartRequest asked) = check_cart t asked
 check t (CustomerRegistration asked) = check_customer t asked.ids.c
 check t (BuyRequest asked) = check_enter t asked.cart asked.buyer
+check t (BuyConfirm asked) = check_purchase t asked
 check t (OrderInquiry asked) = check_customer t asked.ids.c
 check t (OrderDisplay asked) = check_login t asked.login
 check t (AdminRequest asked) = check_there NoItem (row_numbered t.items asked.item)
@@ -72,6 +75,7 @@ page_for tables (SearchResults asked) draw = Some (search_results tables asked.k
 page_for tables (CartRequest asked) draw = None
 page_for tables (CustomerRegistration asked) draw = Some (customer_registration asked.ids (customer_asked tables asked.ids.c))
 page_for tables (BuyRequest asked) draw = None
+page_for tables (BuyConfirm asked) draw = None
 page_for tables (OrderInquiry asked) draw = Some (order_inquiry asked.ids (customer_asked tables asked.ids.c))
 page_for tables (OrderDisplay asked) draw = order_display tables asked.login asked.ids
 page_for tables (AdminRequest asked) draw = admin_request tables asked.item asked.ids

@@ -6,4 +6,4 @@ pub returns : goal.returns
 returns g c =
     let served = c.serve_connection-report.ensures in
     rw c.status_of.ensures
-    (session-by-end c.args.asked _ _ _ _ _ (standing_first c.args.asked _ _ c.in-Ok.ensures) refl served.lawful c.serve_connection-report.result.end served.served served.read_fault served.write_fault)
+    (session-by-end c.args.asked _ _ _ _ _ (standing_first c.args.asked _ _ _ c.in-Ok.ensures) refl refl served.failures served.asks served.lawful c.serve_connection-report.result.end served.served served.read_fault served.write_fault)

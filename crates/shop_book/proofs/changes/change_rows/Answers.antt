@@ -1,35 +1,76 @@
-use Rattle.std.proofs.Common.{length, sym, ◌∙◌, subst, arith, get_or}
+use Rattle.std.proofs.Common.{length, sym, ◌∙◌, ap, subst, arith}
+use Rattle.shop_model.specs.declared.tables.Tables.{Tables}
 use Rattle.shop_model.specs.rows.Empty.{no_tables}
-use Rattle.shop_book.specs.declared.watching.Watched.{Watched}
+use Rattle.shop_history.specs.declared.acts.Act.{Act}
+use Rattle.shop_history.specs.Drawing.{new_ids}
+use Rattle.shop_history.specs.MayChange.{may_change}
+use Rattle.shop_book.specs.Changing.{after, IsChange, IsDone}
+use Rattle.shop_book.specs.Planning.{keys_in}
 use Rattle.shop_book.specs.Readiness.{IdsFit}
 use Rattle.shop_book.specs.RowsNow.{tables_with}
+use Rattle.shop_book.specs.declared.ids.Sizes.{Sizes}
+use Rattle.shop_book.specs.Sizes.{ids_behind}
 use Rattle.shop_book.specs.Stored.{stored}
-use Rattle.shop_book.specs.Watching.{keys_of}
 use Rattle.shop_book.proofs.Sizes.{FewMore, few_more}
-use Rattle.shop_book.proofs.Placed.{more_place, place_shown}
+use Rattle.shop_book.proofs.Doing.{done_of, watchable_done}
 use Rattle.shop_book.proofs.WatchingLemmas.{raised_from}
 use Rattle.shop_book.proofs.changes.change_rows.Goals as goal
+use Rattle.shop_book.proofs.changes.change_rows.Goals.{After-put_all}
 
 pub grow-requires : goal.grow-requires
 grow-requires c =
     let few : FewMore (tables_with no_tables c.args.rows.now) (tables_with no_tables c.put_all.new.self) (length c.args.puts.items)
     = subst (λ u. FewMore (tables_with no_tables c.args.rows.now) u (length c.args.puts.items)) (sym (c.put_all.ensures no_tables)) (few_more (tables_with no_tables c.args.rows.now) c.args.stamp c.args.puts.items) in
-    grind (arith, few, c.requires.places, c.requires.room, c.args.versions.now.items.ok, c.args.versions.now.customers.ok, c.args.versions.now.carts.ok, c.args.versions.now.addresses.ok, c.args.versions.now.orders.ok)
+    grind (
+      arith,
+      few,
+      c.requires.places,
+      c.requires.room,
+      c.args.versions.now.items.ok,
+      c.args.versions.now.customers.ok,
+      c.args.versions.now.carts.ok,
+      c.args.versions.now.addresses.ok,
+      c.args.versions.now.orders.ok,
+      c.args.versions.now.last_orders.ok,
+      c.args.versions.now.buyers.ok,
+      c.args.versions.now.bought.ok,
+    )
 
-pub raise_changed-requires-clause-watchable : goal.raise_changed-requires-clause-watchable
-raise_changed-requires-clause-watchable c = λ k d within.
-    let kept : Watched = get_or c.args.watched.items k d in
-    record {
-      kind = c.requires.kinds k d within;
-      place = λ some.
-          more_place c.args.versions.now c.grow.new.self kept.key c.grow.ensures.longer
-          (place_shown c.args.versions.now c.args.rows.now no_tables kept.key (c.requires.kinds k d within) c.requires.places (λ absent. some (c.requires.rows no_tables k d within ∙ absent)));
-    }
+-- the change is done once the writes were made
+done : (c : After-put_all) (t : Tables) (a : Act) → IsChange t a c.args.rows.now c.args.lists.now c.args.plan c.args.stamp c.args.puts.items → IsDone t a c.args.stamp c.put_all.new.self c.args.lists.now c.args.plan
+done c t a change = done_of t a c.args.rows.now c.args.lists.now c.args.plan c.args.stamp c.args.puts.items c.put_all.new.self change (c.put_all.ensures t)
+
+pub carry_out-requires-clause-done : goal.carry_out-requires-clause-done
+carry_out-requires-clause-done c =
+    let at = goal.at.carry_out-requires-clause-done c in
+    (c.requires.change.0, c.requires.change.1, c.args.stamp, done at.After-put_all c.requires.change.0 c.requires.change.1 c.requires.change.2)
+
+pub carry_out-requires-clause-watchable : goal.carry_out-requires-clause-watchable
+carry_out-requires-clause-watchable c =
+    watchable_done c.requires.change.0 c.requires.change.1 c.args.rows.now c.args.lists.now c.args.plan c.args.stamp c.args.puts.items c.requires.change.2 c.args.versions.now c.grow.new.self c.requires.places c.grow.ensures.longer
+
+pub carry_out-requires-clause-spare : goal.carry_out-requires-clause-spare
+carry_out-requires-clause-spare c = c.grow.ensures.spare (keys_in c.args.plan) c.requires.spare
 
 pub new_ids-requires : goal.new_ids-requires
 new_ids-requires c = (c.requires.ready.tables, subst IdsFit (sym (c.put_all.ensures c.requires.ready.tables)) c.requires.ready.fits)
 
+pub returns-clause-made : goal.returns-clause-made
+returns-clause-made c = λ t a change. (done_of t a c.args.rows.now c.args.lists.now c.args.plan c.args.stamp c.args.puts.items c.put_all.new.self change (c.put_all.ensures t)).rows_are
+
+pub returns-clause-lists : goal.returns-clause-lists
+returns-clause-lists c = λ t a change.
+    c.carry_out.ensures.lists t a c.args.stamp (done_of t a c.args.rows.now c.args.lists.now c.args.plan c.args.stamp c.args.puts.items c.put_all.new.self change (c.put_all.ensures t))
+
 pub returns-clause-raised : goal.returns-clause-raised
-returns-clause-raised c = λ t.
-    raised_from (tables_with t c.args.rows.now) (tables_with t c.put_all.new.self) c.args.number (keys_of c.args.watched.items) (stored c.args.versions.now) (stored c.grow.new.self) (stored c.raise_changed.new.versions)
-    c.grow.ensures.same (c.raise_changed.ensures.raised (tables_with t c.args.rows.now) t (c.requires.rows t))
+returns-clause-raised c = λ t a change.
+    raised_from t (after t c.args.stamp a) c.args.number (may_change t a) (stored c.args.versions.now) (stored c.grow.new.self) (stored c.carry_out.new.versions) c.grow.ensures.same
+    (c.carry_out.ensures.raised t a c.args.stamp (done_of t a c.args.rows.now c.args.lists.now c.args.plan c.args.stamp c.args.puts.items c.put_all.new.self change (c.put_all.ensures t)))
+
+pub returns-clause-ids : goal.returns-clause-ids
+returns-clause-ids c = λ t a change.
+    let is_done = done_of t a c.args.rows.now c.args.lists.now c.args.plan c.args.stamp c.args.puts.items c.put_all.new.self change (c.put_all.ensures t) in
+    c.new_ids.ensures
+    ∙ ap (λ (sizes : Sizes). ids_behind sizes c.put_all.new.self) c.of-before.ensures
+    ∙ ap (λ (u : Tables). new_ids u (tables_with t c.put_all.new.self)) change.rows_are
+    ∙ ap (new_ids t) is_done.rows_are

@@ -11,6 +11,6 @@ loop-order-preserved g c =
           c.loop-order.invariant.kept is;
     }
 
-pub returns : goal.returns
-returns g c =
+pub returns-clause-kept : goal.returns-clause-kept
+returns-clause-kept g c =
     all_admitted g.row.N c.args.orders.now c.loop-order.order-index c.loop-order.window.kept (omega arith) c.loop-order.invariant.kept

@@ -3,13 +3,11 @@ use Rattle.std.specs.Prelude.{All}
 use Rattle.std.specs.Vec.Iter.{into_iter_items}
 use Rattle.std.proofs.lemmas.List.{map-append, nil_from_length}
 use Rattle.std.proofs.lemmas.List.Elements.{All-nil, All-head, All-tail, All-push}
-use Rattle.shop_model.specs.rows.Empty.{no_tables}
 use Rattle.shop_history.specs.declared.keys.Key.{Key}
 use Rattle.shop_history.specs.Keys.{row_of}
 use Rattle.shop_book.specs.declared.watching.Watched.{Watched}
 use Rattle.shop_book.specs.RowsNow.{tables_with}
 use Rattle.shop_book.specs.Watching.{AreOf, IsWatchable, keys_of}
-use Rattle.shop_book.proofs.WatchingLemmas.{may_change_watchable}
 use Rattle.shop_book.proofs.watching.watch.Goals as goal
 
 pub loop-key-init : goal.loop-key-init
@@ -20,7 +18,7 @@ loop-key-init c =
       keys = ap (λ (watched : List Watched). keys_of watched ++ into_iter_items c.into_iter-key-iterator.result) none;
       rows = λ t. subst (AreOf (tables_with t c.args.rows.now)) (sym none) (All-nil (λ (w : Watched). w.row ≡ row_of (tables_with t c.args.rows.now) w.key));
       kinds = subst (All (λ w. IsWatchable w.key)) (sym none) (All-nil (λ (w : Watched). IsWatchable w.key));
-      rest = subst (All IsWatchable) (sym (all ∙ c.in_ok-keys.ensures.keys no_tables)) (may_change_watchable (tables_with no_tables c.args.rows.now) c.args.act.now);
+      rest = subst (All IsWatchable) (sym all) c.requires.kinds;
     }
 
 pub row_now-requires-clause-watchable : goal.row_now-requires-clause-watchable
@@ -48,7 +46,7 @@ loop-key-preserved c =
     }
 
 pub returns-clause-keys : goal.returns-clause-keys
-returns-clause-keys c = λ t.
+returns-clause-keys c =
     let none : into_iter_items c.loop-key.key-iterator ≡ [] = nil_from_length (into_iter_items c.loop-key.key-iterator) (omega (arith, c.loop-key.key-iterator.rest.ok.0, c.in-None.ensures.steps.0)) in
     sym (append-nil (keys_of c.loop-key.watched.items)) ∙ ap (λ (l : List Key). keys_of c.loop-key.watched.items ++ l) (sym none)
-    ∙ c.loop-key.invariant.keys ∙ c.into_iter-key-iterator.ensures.into_iter_gives.0 ∙ c.in_ok-keys.ensures.keys t
+    ∙ c.loop-key.invariant.keys ∙ c.into_iter-key-iterator.ensures.into_iter_gives.0

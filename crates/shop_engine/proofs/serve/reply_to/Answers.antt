@@ -12,8 +12,9 @@ returns-in_default-answer-clause-answered g c = c.in_default-answer.ensures.memo
 pub returns-clause-answered : goal.returns-clause-answered
 returns-clause-answered g c =
     let clock = g.C.Clock.readings c.answer.new.clock in
-    let from = standing g.St.Store.seat c.args.worker.now (g.C.Clock.readings c.args.clock.now) in
-    let to = standing g.St.Store.seat (state_of c.worker.inside) clock in
+    let told = g.G.Gateway.answers c.answer.new.gateway in
+    let from = standing g.St.Store.seat c.args.worker.now (g.C.Clock.readings c.args.clock.now) (g.G.Gateway.answers c.args.gateway.now) in
+    let to = standing g.St.Store.seat (state_of c.worker.inside) clock told in
     let made : Answers c.args.last from to c.args.message.now c.in-Some.point (bytes_of c.worker.inside.reply) =
-    subst (λ w. Answers c.args.last from (standing g.St.Store.seat w clock) c.args.message.now c.in-Some.point w.reply) (sym c.worker.view_is) c.in-Some.ensures.answers in
+    subst (λ w. Answers c.args.last from (standing g.St.Store.seat w clock told) c.args.message.now c.in-Some.point w.reply) (sym c.worker.view_is) c.in-Some.ensures.answers in
     subst (λ text. Answers c.args.last from to c.args.message.now c.in-Some.point text) (sym (c.into_text.ensures ∙ ap bytes_of c.replace-reply.ensures.value)) made

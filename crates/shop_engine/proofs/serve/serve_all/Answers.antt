@@ -13,6 +13,8 @@ loop-alloc-init g c = record {
   reads = omega arith;
   writes = omega arith;
   marks = keeps_self _ _;
+  failures = rw c.requires (omega arith);
+  asks = omega arith;
 }
 
 pub returns-in_default-clause-served : goal.returns-in_default-clause-served
@@ -27,7 +29,7 @@ returns-in-Cut-clause-served g c = Served-inside _ _ _ _ _ _ c.loop-alloc.invari
 pub returns-in-Bad-clause-served : goal.returns-in-Bad-clause-served
 returns-in-Bad-clause-served g c =
     Served-refusal _ _ _ _ _ _ c.loop-alloc.invariant.so_far c.refuse.result _ _ _ _ _ _ (omega (arith, c.len.ensures, c.loop-alloc-test.true)) c.in-Bad.ensures.next c.refuse.ensures.told
-    (still_standing g.St.Store.seat c.loop-alloc.worker c.refuse.new.worker _ c.refuse.ensures.worker)
+    (still_standing g.St.Store.seat c.loop-alloc.worker c.refuse.new.worker _ _ c.refuse.ensures.worker)
 
 pub returns-in-ReadFault-clause-served : goal.returns-in-ReadFault-clause-served
 returns-in-ReadFault-clause-served g c = Served-broken _ _ _ _ _ _ c.loop-alloc.invariant.so_far _ _ (omega (arith, c.len.ensures, c.loop-alloc-test.true)) c.in-ReadFault.ensures.next
@@ -44,15 +46,17 @@ returns-in-Some-clause-served g c =
 
 pub loop-alloc-preserved : goal.loop-alloc-preserved
 loop-alloc-preserved g c =
-    let answered = c.in_default-serve_one.ensures.message in
+    let answered = c.in_default-ended.ensures.message in
     let count : c.len-in-loop-alloc.result ≡ length c.loop-alloc.points.items = omega (arith, c.len-in-loop-alloc.ensures) in
     record {
       so_far = SoFar-message _ _ _ _ _ _ _ _ _ _ _ _ _ c.loop-alloc.invariant.so_far (ap (λ n. (n + 1) == ANSWERS) count) c.in-Message.ensures.next answered;
       few = omega (arith, c.len.ensures, c.loop-alloc-test.true, one_point _ _ _ _ _ answered);
-      caller = c.serve_one.ensures.caller ∙ c.loop-alloc.invariant.caller;
+      caller = c.serve_one-ended.ensures.caller ∙ c.loop-alloc.invariant.caller;
       reads = omega (arith, c.loop-alloc.invariant.reads, c.in-Message.ensures.later);
-      writes = omega (arith, c.loop-alloc.invariant.writes, c.serve_one.ensures.writes);
-      marks = keeps_then _ _ _ _ _ _ c.loop-alloc.invariant.marks c.serve_one.ensures.marks;
+      writes = omega (arith, c.loop-alloc.invariant.writes, c.serve_one-ended.ensures.writes);
+      marks = keeps_then _ _ _ _ _ _ c.loop-alloc.invariant.marks c.serve_one-ended.ensures.marks;
+      failures = c.serve_one-ended.ensures.failures (g.G.Gateway.faults c.args.gateway.now) c.loop-alloc.invariant.failures;
+      asks = omega (arith, c.loop-alloc.invariant.asks, c.serve_one-ended.ensures.asks);
     }
 
 pub returns-clause-served : goal.returns-clause-served

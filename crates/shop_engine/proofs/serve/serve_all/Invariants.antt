@@ -1,12 +1,13 @@
 use Rattle.std.proofs.Common.{◌≡◌, ◌-◌, ◌≤◌, length}
 use Rattle.shop_attempt.specs.Marks.{KeepsMarks}
 use Rattle.shop_engine.specs.Connections.{SoFar}
+use Rattle.shop_engine.specs.Failures.{RoseBy, failures}
 use Rattle.shop_engine.specs.Workers.{standing}
 use Rattle.shop_engine.proofs.serve.serve_all.Given as goal
 
 abbrev pub invariant-loop-alloc : goal.invariant-loop-alloc
 invariant-loop-alloc g l = record {
-  so_far : SoFar (standing g.St.Store.seat l.fn.worker (g.C.Clock.readings l.fn.clock)) (standing g.St.Store.seat l.worker (g.C.Clock.readings l.clock))
+  so_far : SoFar (standing g.St.Store.seat l.fn.worker (g.C.Clock.readings l.fn.clock) (g.G.Gateway.answers l.fn.gateway)) (standing g.St.Store.seat l.worker (g.C.Clock.readings l.clock) (g.G.Gateway.answers l.gateway))
       (record { left = g.S.Source.left l.fn.source; held = g.K.Sink.held l.fn.sink }) (record { left = g.S.Source.left l.source; held = g.K.Sink.held l.sink })
       l.buffer l.points.items;
   few : length l.points.items ≤ 1000;
@@ -14,6 +15,8 @@ invariant-loop-alloc g l = record {
   reads : g.S.Source.faults l.fn.source ≤ g.S.Source.faults l.source;
   writes : g.K.Sink.faults l.fn.sink ≤ g.K.Sink.faults l.sink;
   marks : KeepsMarks (g.St.Store.marked l.fn.worker.store) (g.St.Store.marked l.worker.store) (g.St.Store.seat l.fn.worker.store) (g.St.Store.seat l.worker.store);
+  failures : RoseBy (g.G.Gateway.faults l.fn.gateway) (failures l.points.items) (g.G.Gateway.faults l.gateway);
+  asks : g.G.Gateway.faults l.fn.gateway ≤ g.G.Gateway.faults l.gateway;
 }
 
 abbrev pub decreases-loop-alloc : goal.decreases-loop-alloc

@@ -1,4 +1,4 @@
-use Rattle.std.proofs.Common.{◌-◌, List, ◌∷◌, [], sym, ◌∙◌, ap, subst}
+use Rattle.std.proofs.Common.{List, ◌∷◌, [], sym, ◌∙◌, ap, subst}
 use Rattle.std.proofs.lemmas.Result.{IfOk-weaker}
 use Rattle.shop_model.specs.declared.requests.Request.TheVariants.{BuyRequest}
 use Rattle.shop_model.specs.asked.CustomersAsked.{LoginAsked}
@@ -12,8 +12,9 @@ use Rattle.shop_attempt.specs.declared.attempts.Write.{Write}
 use Rattle.shop_attempt.specs.declared.attempts.Write.TheVariants.{Login}
 use Rattle.shop_attempt.specs.Reads.{Shows}
 use Rattle.shop_browse.specs.Driver.{IsChange}
-use Rattle.shop_order.specs.BuyRequest.{StopsBy, IsCustomerIn}
-use Rattle.shop_order.proofs.BuyRequestLemmas.{stopped_next}
+use Rattle.shop_order.specs.BuyRequest.{IsCustomerIn, FollowsBuy}
+use Rattle.shop_order.specs.Stops.{StopsBy}
+use Rattle.shop_order.proofs.StopsLemmas.{stopped_next}
 use Rattle.shop_order.proofs.BuyersLemmas.{has_customer, at_customer, at_items, login_stops, logs_in}
 use Rattle.shop_order.proofs.buy_request.by_login.Goals as goal
 
@@ -29,7 +30,7 @@ returns-in-Err c =
     let stops = subst (λ p. StopsBy Customer (check_password p) (has_customer asked login begun ask reads c.requires.buyer c.requires.all).customer.row c.in-Err.stop) pass
     (subst (λ (r : ReadOf). StopsBy Customer (check_password c.login.inside.pass) r.row c.in-Err.stop) read c.in-Err.ensures.err) in
     IfOk-weaker c.stopped.result _ _
-    (λ next done. stopped_next asked ask reads c.stopped.new.draft c.in-Err.stop next (login_stops asked login begun ask reads c.requires.buyer c.requires.all c.in-Err.stop stops) done)
+    (λ next done. stopped_next (FollowsBuy asked) (BuyRequest asked) ask reads c.stopped.new.draft c.in-Err.stop next (login_stops asked login begun ask reads c.requires.buyer c.requires.all c.in-Err.stop stops) done)
     c.stopped.ensures
 
 pub returns : goal.returns

@@ -3,6 +3,4 @@ use Rattle.shop_book.proofs.Keeping.{auth_is}
 use Rattle.shop_book.proofs.book.Book.has_auth.Goals as goal
 
 pub returns-clause-value : goal.returns-clause-value
-returns-clause-value c =
-    rw (← c.self.view_is)
-    (auth_is (book_of c.self.inside) c.self.inside.rows c.self.invariant.is_book c.self.invariant.rows_are c.args.auth.now c.deref.result.now c.some_auth.result c.deref.ensures.value c.some_auth.ensures)
+returns-clause-value c = rw (← c.self.view_is) (auth_is (book_of c.self.inside) c.self.inside.lists c.self.invariant.lists_are c.args.auth.now c.has.result c.has.ensures)

@@ -19,7 +19,7 @@ returns-in_err-row-clause-sound c = subst IsGoodThroughout c.self.view_is (good_
 
 pub returns-clause-row : goal.returns-clause-row
 returns-clause-row c =
-    rw (← c.self.view_is) (c.in_ok-row.ensures ∙ ap (λ (t : Tables). row_of t c.args.key.now) c.self.invariant.rows_are)
+    rw (← c.self.view_is) (c.in_ok-row.ensures.row ∙ ap (λ (t : Tables). row_of t c.args.key.now) c.self.invariant.rows_are)
 
 pub returns-clause-version : goal.returns-clause-version
 returns-clause-version c = rw (← c.self.view_is) (c.of.ensures ∙ c.self.invariant.versions_are c.args.key.now)

@@ -11,5 +11,5 @@ returns c drawn =
     rw (← c.card.view_is)
     (two_values (codes "<p>") (codes "Card ") (codes ", authorisation ") (codes "</p>") (codes "\n") _ _ _ _
     (card_name c.card.inside.card) c.card.inside.auth refl refl
-    (rw c.name.ensures at (c.in_ok-escaped.ensures drawn)) (rw c.bytes.ensures.value at (c.in_ok-escaped-2.ensures drawn))
+    (rw c.name.ensures.name at (c.in_ok-plain.ensures drawn)) (rw c.bytes.ensures.value at (c.in_ok-plain-2.ensures drawn))
     (c.in_ok-put.ensures drawn))

@@ -13,4 +13,4 @@ returns c drawn =
     rw (← c.order.view_is)
     (three_values (codes "<p>") (codes "Placed ") (codes ", ships ") (codes ", status ") (codes "</p>") (codes "\n") _ _ _ _ _
     (day_text (day_of c.order.inside.placed)) (day_text c.order.inside.ship_day) (state_name c.order.inside.status) refl refl refl
-    (c.in_ok-day.ensures drawn) (c.in_ok-day-2.ensures drawn) (rw c.name.ensures at (c.in_ok-escaped.ensures drawn)) (c.in_ok-put.ensures drawn))
+    (c.in_ok-day.ensures drawn) (c.in_ok-day-2.ensures drawn) (rw c.name.ensures.name at (c.in_ok-plain.ensures drawn)) (c.in_ok-put.ensures drawn))

@@ -1,12 +1,13 @@
 use Rattle.std.proofs.Common.{◌≡◌, ℕ, List, [], ◌++◌, Option, Some, None, sym, ap, ◌∙◌, subst}
 use Rattle.std.specs.Option.{option_and_then, ok_or}
-use Rattle.std.specs.Prelude.{Result, Ok, Err, IsErrAnd}
+use Rattle.std.specs.Prelude.{Ok, Err}
 use Rattle.shop_model.specs.declared.parameter.Parameter.TheVariants.{Qty}
 use Rattle.shop_http.specs.Answers.{Reads}
 use Rattle.shop_http.specs.Forms.{Pair}
 use Rattle.shop_http.specs.Sets.{few, sets_behind, sets_asked}
 use Rattle.shop_http.specs.declared.requests.fault.Fault.{Fault}
 use Rattle.shop_http.specs.declared.requests.fault.Fault.TheVariants as fault
+use Rattle.shop_http.proofs.AnswerLemmas.{carried}
 use Rattle.shop_http.proofs.SetBounds.{found_is}
 use Rattle.shop_http.proofs.SetLemmas.{sets_behind-append, asked-behind, sets_asked-many, sets_asked-few}
 use Rattle.shop_http.proofs.requests.cart.sets_asked.Goals as goal
@@ -19,10 +20,6 @@ still next None (fault.Parameter parameter) reads =
 still next None fault.Memory reads = tt
 still next (Some x) (fault.Parameter parameter) reads = cc
 still next (Some x) fault.Memory reads = tt
-
-carried : {T : Type 0} (result : Result T Fault) (why : Fault) → IsErrAnd result (λ e. e ≡ why) → result ≡ Err why
-carried (Ok _) why is = elim is [ ]
-carried (Err e) why is = ap Err is
 
 -- all sets of two texts, where those of the first were read, and where those of both were
 

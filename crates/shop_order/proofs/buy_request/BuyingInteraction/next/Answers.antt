@@ -1,11 +1,14 @@
 use Rattle.std.proofs.Common.{[], ◌∷◌, sym, ◌∙◌, subst}
 use Rattle.std.proofs.lemmas.Result.{IfOk-weaker}
+use Rattle.shop_model.specs.declared.requests.Request.TheVariants.{BuyRequest}
 use Rattle.shop_attempt.specs.declared.attempts.ReadOf.{ReadOf}
 use Rattle.shop_attempt.specs.Reads.{Shows}
 use Rattle.shop_browse.specs.Driver.{Fits}
-use Rattle.shop_order.specs.BuyRequest.{IsStop}
+use Rattle.shop_order.specs.BuyRequest.{FollowsBuy}
 use Rattle.shop_order.specs.ShoppingCart.{IsFitRow}
-use Rattle.shop_order.proofs.BuyRequestLemmas.{has_first, fit_first, shows_first, stop_weaker, stopped_next, has_second, has_all, at_cart, begun_first, asks_second}
+use Rattle.shop_order.specs.Stops.{IsStop}
+use Rattle.shop_order.proofs.StopsLemmas.{stop_weaker, stopped_next}
+use Rattle.shop_order.proofs.BuyRequestLemmas.{has_first, fit_first, shows_first, has_second, has_all, at_cart, begun_first, asks_second}
 use Rattle.shop_order.proofs.buy_request.BuyingInteraction.next.Goals as goal
 
 pub begin-requires-clause-fit : goal.begin-requires-clause-fit
@@ -24,11 +27,11 @@ returns-in-Err-clause-next c =
     let found = c.index-reads-1.result in
     let stop = c.in-Err.stop in
     let has = has_first asked c.args.round reads c.if-round-eq0.false c.requires.follows in
-    let stops : IsStop (λ t. Shows t (cart ∷ found ∷ [])) asked stop = c.in-Err.ensures.err in
-    let fits : IsStop (λ t. Fits ask.index.now t reads) asked stop
-    = stop_weaker (λ t. Shows t (cart ∷ found ∷ [])) (λ t. Fits ask.index.now t reads) asked stop
+    let stops : IsStop (λ t. Shows t (cart ∷ found ∷ [])) (BuyRequest asked) stop = c.in-Err.ensures.err in
+    let fits : IsStop (λ t. Fits ask.index.now t reads) (BuyRequest asked) stop
+    = stop_weaker (λ t. Shows t (cart ∷ found ∷ [])) (λ t. Fits ask.index.now t reads) (BuyRequest asked) stop
     (λ t fits. shows_first asked reads cart found t has c.index-reads-0.is c.index-reads-1.is fits.shows) stops in
-    IfOk-weaker c.stopped.result _ _ (λ next done. stopped_next asked ask reads c.stopped.new.draft stop next fits done c.args.round) c.stopped.ensures
+    IfOk-weaker c.stopped.result _ _ (λ next done. stopped_next (FollowsBuy asked) (BuyRequest asked) ask reads c.stopped.new.draft stop next fits done c.args.round) c.stopped.ensures
 
 pub returns-then-round-eq1-clause-next : goal.returns-then-round-eq1-clause-next
 returns-then-round-eq1-clause-next c =

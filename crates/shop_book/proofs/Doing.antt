@@ -1,0 +1,154 @@
+-- A change whose writes were made: what the plan of its act tells of the lists and of the versions.
+use Rattle.std.proofs.Common.{◌≡◌, ℕ, List, get_or, refl, sym, ◌∙◌, ap, subst}
+use Rattle.std.specs.Global.{Global}
+use Rattle.std.specs.Prelude.{All, None, Vec}
+use Rattle.shop_model.specs.declared.tables.Tables.{Tables}
+use Rattle.shop_model.specs.asked.PurchaseAsked.{PurchaseAsked}
+use Rattle.shop_model.specs.rows.Rows.{OrderRow}
+use Rattle.shop_model.specs.rows.Sound.{Sound}
+use Rattle.shop_model.specs.pages.Show.{check}
+use Rattle.shop_model.specs.trade.Sales.{check_purchase, new_order, with_order, with_purchase, tables_bought}
+use Rattle.shop_history.specs.declared.acts.Act.{Act}
+use Rattle.shop_history.specs.declared.acts.Act.TheVariants as act
+use Rattle.shop_history.specs.declared.keys.Key.{Key}
+use Rattle.shop_history.specs.Acts.{request_of}
+use Rattle.shop_history.specs.MayChange.{may_change, lists_change, items_of, purchase_changes}
+use Rattle.shop_history.proofs.cited.MayChange.{Buys, who_buys}
+use Rattle.shop_history.proofs.cited.Versions.{RaisedFor}
+use Rattle.shop_book.specs.declared.lists.Lists.{Lists}
+use Rattle.shop_book.specs.declared.plan.Plan.{Plan}
+use Rattle.shop_book.specs.declared.plan.Plan.TheVariants.{Compare, Sell}
+use Rattle.shop_book.specs.declared.rows.Rows.{Rows}
+use Rattle.shop_book.specs.declared.versions.Versions.{Versions}
+use Rattle.shop_book.specs.declared.watching.Watched.{Watched}
+use Rattle.shop_book.specs.Changing.{after, IsChange, IsDone, AreWatchable, RaisesAll}
+use Rattle.shop_book.specs.KeptLists.{AreLists}
+use Rattle.shop_book.specs.Named.{AreNamed}
+use Rattle.shop_book.specs.Planning.{certain_changes, IsCompared, IsPlanOf}
+use Rattle.shop_book.specs.declared.puts.Put.{Put}
+use Rattle.shop_book.specs.Puts.{all_put}
+use Rattle.shop_book.specs.RowsNow.{tables_with}
+use Rattle.shop_book.specs.Sales.{IsSale}
+use Rattle.shop_book.specs.Stored.{HasPlace, HasPlaces, MorePlaces}
+use Rattle.shop_book.specs.Watching.{keys_of, AreOf}
+use Rattle.shop_book.proofs.ChangesLemmas.{sound_named, rows_again}
+use Rattle.shop_book.proofs.KeptLists.{lists_kept}
+use Rattle.shop_history.specs.Keys.{row_of}
+use Rattle.shop_book.proofs.Placed.{more_place, place_shown}
+use Rattle.shop_book.proofs.SaleChanges.{purchase_raised, lists_bought, is_sale, certain_places}
+
+-- some change was done
+abbrev pub SomeDone : Rows → Lists → Plan → Type 0
+SomeDone rows lists plan = (t : Tables) × (a : Act) × (stamp : ℕ) × IsDone t a stamp rows lists plan
+
+pub named_done : (rows : Rows) (lists : Lists) (plan : Plan) → SomeDone rows lists plan → AreNamed rows.customers.items
+named_done rows lists plan done =
+    subst AreNamed (sym (ap (λ (u : Tables). u.customers) done.3.rows_are)) (sound_named (after done.0 done.2 done.1) done.3.sound_after)
+
+-- a change is done once its writes were made
+pub done_of : (t : Tables) (a : Act) (rows : Rows) (lists : Lists) (plan : Plan) (stamp : ℕ) (puts : List Put) (later : Rows) → IsChange t a rows lists plan stamp puts
+    → tables_with t later ≡ all_put (tables_with t rows) stamp puts → IsDone t a stamp later lists plan
+done_of t a rows lists plan stamp puts later change made = record {
+  rows_are = made ∙ ap (λ (u : Tables). all_put u stamp puts) change.rows_are ∙ change.made;
+  lists_are = change.lists_are;
+  sound = change.sound;
+  passes = change.passes;
+  plan_is = change.plan_is;
+  sound_after = change.sound_after;
+}
+
+-- watched keys have places where they showed rows
+pub watchable_done : (t : Tables) (a : Act) (rows : Rows) (lists : Lists) (plan : Plan) (stamp : ℕ) (puts : List Put) → IsChange t a rows lists plan stamp puts
+    → (old new : Versions) → HasPlaces old rows → MorePlaces old new → AreWatchable new plan
+watchable_done t a rows lists plan stamp puts change old new places longer = by plan refl
+  where
+    by : (p : Plan) → plan ≡ p → AreWatchable new p
+    by (Sell keys) is = tt
+    by (Compare watched) is =
+        let compared : IsCompared t a watched.items = subst (IsPlanOf t a) is change.plan_is in
+        λ k d within.
+        let kept : Watched = get_or watched.items k d in
+        record {
+          kind = compared.kinds k d within;
+          place = λ some.
+              more_place old new kept.key longer
+              (place_shown old rows t kept.key (compared.kinds k d within) places
+              (λ absent. some (compared.rows k d within ∙ sym (ap (λ (u : Tables). row_of u kept.key) change.rows_are) ∙ absent)));
+        }
+
+-- an act whose keys were compared
+
+module _ (t : Tables) (a : Act) (stamp : ℕ) (rows : Rows) (lists : Lists) (plan : Plan) (watched : Vec Watched Global) (same : plan ≡ Compare watched) (done : IsDone t a stamp rows lists plan) where
+  compared : IsCompared t a watched.items
+  compared = subst (IsPlanOf t a) same done.plan_is
+
+  pub compared_lists : AreLists (after t stamp a) lists
+  compared_lists = lists_kept t stamp a lists compared.sells done.lists_are
+
+  pub compared_raised : (number : ℕ) (old new : Key → ℕ) → ((before u : Tables) → AreOf before watched.items → RaisedFor before (tables_with u rows) number (keys_of watched.items) old new)
+      → RaisedFor t (after t stamp a) number (may_change t a) old new
+  compared_raised number old new raised =
+      subst (λ (ks : List Key). RaisedFor t (after t stamp a) number ks old new) compared.keys
+      (subst (λ (u : Tables). RaisedFor t u number (keys_of watched.items) old new) (rows_again t (after t stamp a) rows done.rows_are) (raised t (after t stamp a) compared.rows))
+
+-- a purchase
+
+pub record Selling (t : Tables) (a : Act) (keys : List Key) : Type 0 where
+  pub asked : PurchaseAsked
+  pub draw : ℕ
+  pub auth : List ℕ
+  pub does : a ≡ act.Confirm asked draw auth
+  pub keys_are : keys ≡ certain_changes t asked
+
+selling : (t : Tables) (a : Act) (keys : Vec Key Global) → IsPlanOf t a (Sell keys) → Selling t a keys.items
+selling t (act.Cart asked draw) keys planned = absurd planned
+selling t (act.Enter asked draw) keys planned = absurd planned
+selling t (act.Confirm asked draw auth) keys planned = record { asked = asked; draw = draw; auth = auth; does = refl; keys_are = planned }
+
+module _ (t : Tables) (a : Act) (stamp : ℕ) (rows : Rows) (lists : Lists) (plan : Plan) (keys : Vec Key Global) (same : plan ≡ Sell keys) (done : IsDone t a stamp rows lists plan) where
+  sells : Selling t a keys.items
+  sells = selling t a keys (subst (IsPlanOf t a) same done.plan_is)
+
+  passes : check_purchase t sells.asked ≡ None
+  passes = subst (λ (b : Act). check t (request_of b) ≡ None) sells.does done.passes
+
+  who : Buys t sells.asked
+  who = who_buys t sells.asked passes
+
+  abbrev order : OrderRow
+  order = new_order t stamp sells.draw sells.auth sells.asked who.customer
+
+  -- the tables after it
+  after_is : after t stamp a ≡ with_purchase t sells.asked order
+  after_is = ap (after t stamp) sells.does ∙ ap (tables_bought t stamp sells.draw sells.auth sells.asked) who.buys
+
+  after_sound : Sound (with_purchase t sells.asked order)
+  after_sound = subst Sound after_is done.sound_after
+
+  rows_are : tables_with (with_purchase t sells.asked order) rows ≡ with_purchase t sells.asked order
+  rows_are = rows_again t (with_purchase t sells.asked order) rows (done.rows_are ∙ after_is)
+
+  sale : IsSale t order rows
+  sale = is_sale t done.sound sells.asked stamp sells.draw sells.auth who.customer who.cart who.buys who.bought who.some after_sound rows rows_are
+
+  pub sale_done : (u : Tables) × (o : OrderRow) × IsSale u o rows × AreLists u lists
+  sale_done = (t, order, sale, done.lists_are)
+
+  pub places_done : (v : Versions) → HasPlaces v rows → All (HasPlace v) keys.items
+  places_done v places =
+      subst (All (HasPlace v)) (sym sells.keys_are)
+      (certain_places t done.sound sells.asked stamp sells.draw sells.auth who.customer who.cart who.buys who.bought who.some after_sound rows rows_are v places)
+
+  pub lists_done : (moved : Lists) → ((u : Tables) (o : OrderRow) → IsSale u o rows → AreLists u lists → AreLists (with_order u o) moved) → AreLists (after t stamp a) moved
+  lists_done moved sold =
+      subst (λ (u : Tables). AreLists u moved) (sym after_is)
+      (lists_bought t done.sound sells.asked stamp sells.draw sells.auth who.customer who.cart who.buys who.bought who.some moved (sold t order sale done.lists_are))
+
+  pub raised_done : (number : ℕ) (first mid end : Key → ℕ) → RaisesAll keys.items number first mid
+      → ((u : Tables) (o : OrderRow) → IsSale u o rows → AreLists u lists → RaisedFor u (with_order u o) number (lists_change u o.customer (items_of o)) mid end)
+      → RaisedFor t (after t stamp a) number (may_change t a) first end
+  raised_done number first mid end certain listed =
+      subst (λ (b : Act). RaisedFor t (after t stamp a) number (may_change t b) first end) (sym sells.does)
+      (subst (λ (u : Tables). RaisedFor t u number (purchase_changes t sells.asked) first end) (sym after_is)
+      (purchase_raised t done.sound sells.asked stamp sells.draw sells.auth who.customer who.cart who.buys who.bought who.some number first mid end
+      (subst (λ (ks : List Key). RaisesAll ks number first mid) sells.keys_are certain) (listed t order sale done.lists_are)))

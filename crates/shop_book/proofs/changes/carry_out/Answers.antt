@@ -1,0 +1,33 @@
+use Rattle.shop_book.specs.Stored.{stored}
+use Rattle.shop_book.proofs.Doing.{named_done, compared_lists, compared_raised, sale_done, places_done, lists_done, raised_done}
+use Rattle.shop_book.proofs.changes.carry_out.Goals as goal
+
+pub raise_changed-requires-clause-named : goal.raise_changed-requires-clause-named
+raise_changed-requires-clause-named c = named_done c.args.rows.now c.args.lists.now c.args.plan c.requires.done
+
+pub returns-in-Compare-clause-lists : goal.returns-in-Compare-clause-lists
+returns-in-Compare-clause-lists c = λ t a stamp done. compared_lists t a stamp c.args.rows.now c.args.lists.now c.args.plan c.in-Compare.watched c.in-Compare.is done
+
+pub returns-in-Compare-clause-raised : goal.returns-in-Compare-clause-raised
+returns-in-Compare-clause-raised c = λ t a stamp done.
+    compared_raised t a stamp c.args.rows.now c.args.lists.now c.args.plan c.in-Compare.watched c.in-Compare.is done c.args.number (stored c.args.versions.now) (stored c.raise_changed.new.versions) c.raise_changed.ensures.raised
+
+pub raise_all-requires-clause-places : goal.raise_all-requires-clause-places
+raise_all-requires-clause-places c =
+    let done = c.requires.done in
+    places_done done.0 done.1 done.2 c.args.rows.now c.args.lists.now c.args.plan c.in-Sell.keys c.in-Sell.is done.3 c.args.versions.now c.requires.places
+
+pub sell-requires-clause-sale : goal.sell-requires-clause-sale
+sell-requires-clause-sale c =
+    let done = c.requires.done in
+    let sale = sale_done done.0 done.1 done.2 c.args.rows.now c.args.lists.now c.args.plan c.in-Sell.keys c.in-Sell.is done.3 in
+    sale
+
+pub returns-in-Sell-clause-lists : goal.returns-in-Sell-clause-lists
+returns-in-Sell-clause-lists c = λ t a stamp done.
+    lists_done t a stamp c.args.rows.now c.args.lists.now c.args.plan c.in-Sell.keys c.in-Sell.is done c.sell.new.self c.sell.ensures.lists
+
+pub returns-in-Sell-clause-raised : goal.returns-in-Sell-clause-raised
+returns-in-Sell-clause-raised c = λ t a stamp done.
+    raised_done t a stamp c.args.rows.now c.args.lists.now c.args.plan c.in-Sell.keys c.in-Sell.is done c.args.number (stored c.args.versions.now) (stored c.raise_all.new.versions) (stored c.sell.new.versions)
+    c.raise_all.ensures.raised c.sell.ensures.raised

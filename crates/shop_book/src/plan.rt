@@ -1,0 +1,56 @@
+//! What is kept of an act before it is done, to tell afterwards which keys it changed.
+ghost use Rattle.std.specs.Prelude.{◌≡◌, IfOk, All, Option, length, unwrap_or};
+ghost use Rattle.shop_model.specs.declared.tables.Tables.{Tables};
+ghost use Rattle.shop_model.specs.trade.Carts.{lines_named};
+ghost use Rattle.shop_history.specs.Acts.{IsInForm};
+ghost use Rattle.shop_book.specs.Planning as spec;
+ghost use Rattle.shop_book.specs.RowsNow.{tables_with};
+ghost use Rattle.shop_book.specs.Watching.{MayCome};
+
+use crate::may_change::{buyer_changes, cart_changes, certain_changes};
+use crate::rows::Rows;
+use crate::watching::{Watched, watch};
+use shop_history::{Act, Key};
+use shop_text::Memory;
+use std::alloc::Global;
+
+#[derive(Debug, Drop)]
+pub(crate) enum Plan {
+    /// Keys that the act may change, with what they show.
+    Compare(Vec<Watched>),
+    /// Keys that a purchase changes for certain; the lists tell of the rest.
+    Sell(Vec<Key>),
+}
+
+impl Plan {
+    /// The plan of an act.
+    pub(crate) fn of(alloc: Global, rows: &Rows, act: &Act) -> Result<Plan, Memory>
+        requires { MayCome rows.now }
+        ensures form { IfOk result (λ plan. IsInForm act.now) }
+        ensures plan { IfOk result (λ plan. (t : Tables) → spec.IsPlanOf (tables_with t rows.now) act.now plan) }
+    {
+        match act {
+            Act::Cart(asked, _) => {
+                let keys = cart_changes(alloc, rows, asked)?;
+                Ok(Plan::Compare(watch(alloc, rows, keys)?))
+            }
+            Act::Enter(asked, _) => {
+                let keys = buyer_changes(alloc, rows, &asked.buyer)?;
+                Ok(Plan::Compare(watch(alloc, rows, keys)?))
+            }
+            Act::Confirm(asked, _, _) => {
+                Ok(Plan::Sell(certain_changes(alloc, rows, asked.get())?))
+            }
+        }
+    }
+
+    /// How many keys may get a version.
+    pub(crate) fn len(&self) -> usize
+        ensures { result ≡ spec.keys_in self.now }
+    {
+        match self {
+            Plan::Compare(watched) => watched.len(),
+            Plan::Sell(keys) => keys.len(),
+        }
+    }
+}

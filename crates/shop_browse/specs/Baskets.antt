@@ -1,0 +1,48 @@
+-- What a purchase reads: its customer, its cart, where it ships to, and the items of the cart's lines.
+use Rattle.std.specs.Prelude.{◌≡◌, ◌≢◌, ℕ, List, [], ◌∷◌, map, Option, Some, None}
+use Rattle.shop_model.specs.declared.address.Address.{Address}
+use Rattle.shop_model.specs.declared.address.AddressText.{AddressText}
+use Rattle.shop_model.specs.declared.requests.Request.{Request}
+use Rattle.shop_model.specs.declared.requests.Request.TheVariants.{BuyConfirm}
+use Rattle.shop_model.specs.asked.PurchaseAsked.{PurchaseAsked}
+use Rattle.shop_model.specs.lists.Catalogues.{Catalogue}
+use Rattle.shop_model.specs.rows.Rows.{CartRow, CustomerRow}
+use Rattle.shop_history.specs.declared.keys.Key.TheVariants as key
+use Rattle.shop_history.specs.declared.keys.Row.TheVariants as row
+use Rattle.shop_history.specs.Keys.{shown}
+use Rattle.shop_attempt.specs.declared.attempts.ReadOf.{ReadOf}
+use Rattle.shop_browse.specs.Fitting.{keys_of, AreSeen}
+
+-- where a purchase ships to, as it was read: the customer's address, or the id of the one that says the text
+-- that is given, if there is one
+abbrev pub IsShip : Option AddressText → CustomerRow → ReadOf → Type 0
+IsShip None customer read =
+    (address : Address) × (read.key ≡ key.Address customer.address) × (read.row ≡ row.Address address)
+IsShip (Some text) customer read =
+    (found : Option ℕ) × (read.key ≡ key.SameAddress text) × (read.row ≡ shown row.Id found)
+
+-- what a purchase read: a customer, a cart with some lines, where it ships to, and the items of the lines
+pub record IsBasket (asked : PurchaseAsked) (reads : List ReadOf) : Type 0 where
+  pub buyer : ReadOf
+  pub basket : ReadOf
+  pub ship : ReadOf
+  pub items : List ReadOf
+  pub reads_are : reads ≡ buyer ∷ basket ∷ ship ∷ items
+  pub customer : CustomerRow
+  pub buyer_key : buyer.key ≡ key.Customer asked.c
+  pub buyer_row : buyer.row ≡ row.Customer customer
+  pub cart : CartRow
+  pub basket_key : basket.key ≡ key.Cart asked.cart
+  pub basket_row : basket.row ≡ row.Cart cart
+  pub some : cart.lines ≢ []
+  pub ship_is : IsShip asked.address customer ship
+  pub items_are : keys_of items ≡ map (λ l. key.Item l.0) cart.lines
+
+-- a request that is a purchase read this
+abbrev pub IsBasketFor : Request → List ReadOf → Type 0
+IsBasketFor request reads = (asked : PurchaseAsked) × (request ≡ BuyConfirm asked) × IsBasket asked reads
+
+-- each of these rows was shown by some sound tables of the catalogue
+pub record HasBasket (c : Catalogue) (request : Request) (reads : List ReadOf) : Type 0 where
+  pub basket : IsBasketFor request reads
+  pub seen : AreSeen c reads

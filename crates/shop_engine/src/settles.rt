@@ -1,0 +1,90 @@
+//! Settles of attempts whose pages are written.
+ghost use Rattle.std.specs.Prelude.{◌≡◌, ◌≤◌, List, Option, None};
+ghost use Rattle.shop_model.specs.rows.Limits.{stamp_limit};
+ghost use Rattle.shop_model.specs.declared.requests.Request.TheVariants as request_kinds;
+ghost use Rattle.shop_model.specs.asked.PurchaseAsked.{PurchaseAsked};
+ghost use Rattle.shop_attempt.specs.Faithful.{Faithful};
+ghost use Rattle.shop_attempt.specs.Marks.{KeepsMarks};
+ghost use Rattle.shop_attempt.specs.Seats.{Seat, Looked};
+ghost use Rattle.shop_edges.specs.declared.gateway.Answer.{Answer};
+ghost use Rattle.shop_pages.specs.Replies.{bytes_of};
+ghost use Rattle.shop_order.specs.Payments.{IsDenied};
+ghost use Rattle.shop_engine.specs.Tries.{TriedAs, MaySettle, HasAsked, asking_for, called_by};
+
+use crate::replies::refusal_reply;
+use crate::report::PointKind;
+use crate::tries::{Job, Tried};
+use shop_attempt::{Attempt, Settle, Store};
+use shop_edges::Reason;
+use shop_model::Refusal;
+use shop_pages::Reply;
+
+/// Settles an attempt whose page is written, in the room that is made before, and finishes its reply.
+pub(crate) fn settle_page<St: Store>(
+    store: &mut St,
+    job: &Job,
+    attempt: Attempt,
+    reply: &mut Reply,
+) -> Tried
+    requires faithful { Faithful (St.seat store.old).opening (St.seat store.old).seen attempt }
+    requires moment { attempt.moment ≤ stamp_limit }
+    ensures tried { (start : Seat) (answers : List Answer) → Looked start (St.seat store.old)
+        → MaySettle start (St.seat store.old) job.now answers reply.old.draft attempt
+        → TriedAs start (St.seat store.new) job.now answers (bytes_of reply.new) result }
+    ensures never { ¬ (result ≡ Tried.Failed) }
+    ensures marks { KeepsMarks (St.marked store.old) (St.marked store.new) (St.seat store.old) (St.seat store.new) }
+{
+    let Ok(()) = reply.reserve() else {
+        return Tried::Memory;
+    };
+    let changes = attempt.act.is_some();
+    match store.settle(attempt) {
+        Settle::Done(drawn) => {
+            reply.finish(&drawn, job.form);
+            if changes {
+                Tried::Settled(PointKind::Change, drawn.front)
+            } else {
+                Tried::Settled(PointKind::At, drawn.front)
+            }
+        }
+        Settle::Stale(conflict) => Tried::Again(conflict),
+        Settle::Full(size) => match refusal_reply(reply, Refusal::FullLog, job.form) {
+            Ok(()) => Tried::Settled(PointKind::Full, size),
+            Err(_) => Tried::Memory,
+        },
+        Settle::Memory => Tried::Memory,
+    }
+}
+
+/// Settles an attempt at a purchase that was denied, which changes nothing, and finishes the reply that
+/// tells it.
+pub(crate) fn settle_denied<St: Store>(
+    store: &mut St,
+    job: &Job,
+    attempt: Attempt,
+    reason: Reason,
+    reply: &mut Reply,
+) -> Tried
+    requires faithful { Faithful (St.seat store.old).opening (St.seat store.old).seen attempt }
+    requires moment { attempt.moment ≤ stamp_limit }
+    requires reading { attempt.act ≡ None }
+    requires caller { (St.seat store.old).caller ≡ job.now.caller }
+    ensures tried { (start : Seat) (asked : PurchaseAsked) (kept : Option Answer) (answers : List Answer) → Looked start (St.seat store.old)
+        → job.now.request.now ≡ request_kinds.BuyConfirm asked → HasAsked job.now answers kept
+        → IsDenied start (St.seat store.old) (asking_for job.now) asked (called_by job.now) reply.old.draft kept attempt reason
+        → TriedAs start (St.seat store.new) job.now answers (bytes_of reply.new) result }
+    ensures never { ¬ (result ≡ Tried.Failed) }
+    ensures marks { KeepsMarks (St.marked store.old) (St.marked store.new) (St.seat store.old) (St.seat store.new) }
+{
+    let Ok(()) = reply.reserve() else {
+        return Tried::Memory;
+    };
+    match store.settle(attempt) {
+        Settle::Done(drawn) => {
+            reply.finish(&drawn, job.form);
+            Tried::Denied(reason, drawn.front)
+        }
+        Settle::Stale(conflict) => Tried::Again(conflict),
+        Settle::Full(_) | Settle::Memory => unreachable!(),
+    }
+}

@@ -1,0 +1,2 @@
+mod Charges
+mod Ledgers

@@ -1,0 +1,35 @@
+use Rattle.std.proofs.Common.{◌≡◌, ℕ, ◌+◌, ◌*◌, ◌^◌, ◌<◌, ◌≤◌, get_or, true, arith, add-one}
+use Rattle.std.specs.Char.{is_ascii_digit}
+use Rattle.std.proofs.lemmas.List.Sums.{AllPass-from_list_all}
+use Rattle.std.proofs.lemmas.Int.Digits.{digits_value_more}
+use Rattle.std.proofs.lemmas.Str.{digit_value_digit}
+use Rattle.std.proofs.Math.Nat.{pow-suc}
+use Rattle.std.specs.Int.{IsInRange}
+use native.Mathlib.Nat.{pow-le-pow_right}
+use Rattle.shop_gateway.proofs.first.number_of.Goals as goal
+
+in_range : (c : ℕ) → is_ascii_digit c ≡ true → IsInRange 48 57 c
+in_range c e = grind arith
+
+-- what at most 18 digits write has room for one more
+roomy : (number places : ℕ) → number < 10 ^ places → places ≤ 18 → number < 1_000_000_000_000_000_000
+roomy number places below few =
+    let most : 10 ^ places ≤ 10 ^ 18 = pow-le-pow_right {n = 10} (omega arith) few in omega (arith, below, most)
+
+pub overflow_mul-number : goal.overflow_mul-number
+overflow_mul-number c =
+    let room = roomy c.loop-digit.number c.loop-digit.digit-index c.loop-digit.invariant.1 (omega arith) in omega (arith, room)
+
+pub overflow_add-number : goal.overflow_add-number
+overflow_add-number c =
+    let room = roomy c.loop-digit.number c.loop-digit.digit-index c.loop-digit.invariant.1 (omega arith) in
+    let range = in_range (get_or c.args.digits.now c.loop-digit.digit-index 0) (AllPass-from_list_all is_ascii_digit c.args.digits.now c.requires.digits c.loop-digit.digit-index 0 c.loop-digit-test.true) in
+    omega (arith, room, range)
+
+pub loop-digit-preserved : goal.loop-digit-preserved
+loop-digit-preserved c =
+    let more = digits_value_more 10 c.args.digits.now c.loop-digit.digit-index c.loop-digit-test.true in
+    let range = in_range (get_or c.args.digits.now c.loop-digit.digit-index 0) (AllPass-from_list_all is_ascii_digit c.args.digits.now c.requires.digits c.loop-digit.digit-index 0 c.loop-digit-test.true) in
+    let value = digit_value_digit (get_or c.args.digits.now c.loop-digit.digit-index 0) range in
+    let power : 10 ^ (c.loop-digit.digit-index + 1) ≡ 10 ^ c.loop-digit.digit-index * 10 = rw add-one (pow-suc 10 c.loop-digit.digit-index) in
+    (omega (arith, more, value, range, c.loop-digit.invariant.0), omega (arith, power, value, range, c.loop-digit.invariant.1))

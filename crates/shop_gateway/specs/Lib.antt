@@ -1,0 +1,3 @@
+pub mod Verdicts
+pub mod Emulators
+pub mod Scripts
