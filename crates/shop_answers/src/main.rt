@@ -9,8 +9,10 @@ mod customers;
 mod faults;
 mod faulty;
 mod records;
+mod sales;
 mod sessions;
 mod twins;
+mod windows;
 
 use anyhow::{Context, Result};
 use shop_text::Memory;
@@ -25,6 +27,8 @@ fn main(rt: HostRuntime) -> Result<()> {
     connections::print(&rt)?;
     connections::print_messages(&rt)?;
     customers::print(&rt)?;
+    sales::print(&rt)?;
+    windows::print(&rt)?;
     sessions::print(&rt)?;
     faults::print(&rt)
 }

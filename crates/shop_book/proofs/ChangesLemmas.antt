@@ -37,6 +37,7 @@ use Rattle.shop_book.specs.Watching.{MayCome}
 use Rattle.shop_book.specs.RowsNow.{tables_with, HasRoom}
 use Rattle.shop_book.specs.Settles.{IsNext}
 use Rattle.shop_book.specs.Stored.{stored, HasPlaces, MorePlaces}
+use Rattle.shop_book.specs.Summaries.{cents_in}
 use Rattle.shop_book.proofs.Callers.{entries_mine, entries_theirs}
 use Rattle.shop_book.proofs.Readiness.{are_ready}
 
@@ -86,7 +87,7 @@ module _ (b now : BookValue) (is_book : IsBook b) (entry : Entry) (writes : List
       passes = next.makes.passes;
     }
 
-    book_after : IsBook (with_entry b entry)
+    pub book_after : IsBook (with_entry b entry)
     book_after = record {
       opens = is_book.opens;
       legal = push entry is_book.legal follows;
@@ -114,7 +115,7 @@ module _ (b now : BookValue) (is_book : IsBook b) (entry : Entry) (writes : List
         cond-false _ _ _ (ne_eqb entry.caller caller theirs) ∙ were caller ∙ sym (ap length (entries_theirs caller b.log entry (ne_eqb entry.caller caller theirs))))
         (cases_eq entry.caller caller)
 
-    module _ (rows : Rows) (versions : Versions) (counts : Counts) (lists : Lists) (kept : IsKept b rows versions counts lists) where
+    module _ (rows : Rows) (versions : Versions) (counts : Counts) (lists : Lists) (cents : ℕ) (kept : IsKept b rows versions counts lists cents) where
       fits_kept : IdsFit (written (tables_with b.opening.tables rows) entry.stamp writes)
       fits_kept = subst (λ (t : Tables). IdsFit (written t entry.stamp writes)) (sym kept.rows_are) ids_fit
 
@@ -149,12 +150,12 @@ module _ (b now : BookValue) (is_book : IsBook b) (entry : Entry) (writes : List
         }
 
         -- and what a change makes of them, and of the versions and counts with room
-        pub kept_after : (later : Rows) (wider raised : Versions) (counted : Counts) (moved : Lists)
+        pub kept_after : (later : Rows) (wider raised : Versions) (counted : Counts) (moved : Lists) (charged : ℕ)
             → tables_with (tables_of b) later ≡ after (tables_of b) entry.stamp entry.act → HasPlaces raised later → ((key : Key) → stored wider key ≡ stored versions key)
             → RaisedFor (tables_of b) (after (tables_of b) entry.stamp entry.act) (length b.log + 1) (may_change (tables_of b) entry.act) (stored wider) (stored raised)
             → ((caller : ℕ) → count_in counted caller ≡ with_count (count_in counts) entry.caller entry.number caller) → AreLists (after (tables_of b) entry.stamp entry.act) moved
-            → IsKept (with_entry b entry) later raised counted moved
-        kept_after later wider raised counted moved made places same_versions rises counts_are lists_are =
+            → charged ≡ cents_in (after (tables_of b) entry.stamp entry.act) → IsKept (with_entry b entry) later raised counted moved charged
+        kept_after later wider raised counted moved charged made places same_versions rises counts_are lists_are cents_are =
             let pushed : after (tables_of b) entry.stamp entry.act ≡ tables_of (with_entry b entry) = sym (tables_push b.opening.tables b.log entry) in
             record {
               is_book = book_after;
@@ -166,13 +167,14 @@ module _ (b now : BookValue) (is_book : IsBook b) (entry : Entry) (writes : List
                   stays;
               counts_are = λ caller. counts_are caller ∙ counts_after (count_in counts) kept.counts_are caller;
               lists_are = subst (λ (t : Tables). AreLists t moved) pushed lists_are;
+              cents_are = cents_are ∙ ap cents_in pushed;
             }
 
 -- rows, versions, counts and lists with more room are kept too
-pub kept_roomy : (b : BookValue) (rows roomy : Rows) (versions wide : Versions) (counts counted : Counts) (lists more_lists : Lists) → IsKept b rows versions counts lists → ((t : Tables) → tables_with t roomy ≡ tables_with t rows)
+pub kept_roomy : (b : BookValue) (rows roomy : Rows) (versions wide : Versions) (counts counted : Counts) (lists more_lists : Lists) (cents : ℕ) → IsKept b rows versions counts lists cents → ((t : Tables) → tables_with t roomy ≡ tables_with t rows)
     → ((key : Key) → stored wide key ≡ stored versions key) → MorePlaces versions wide → ((caller : ℕ) → count_in counted caller ≡ count_in counts caller) → ((t : Tables) → AreLists t lists → AreLists t more_lists)
-    → IsKept b roomy wide counted more_lists
-kept_roomy b rows roomy versions wide counts counted lists more_lists kept same same_versions more same_counts same_lists =
+    → IsKept b roomy wide counted more_lists cents
+kept_roomy b rows roomy versions wide counts counted lists more_lists cents kept same same_versions more same_counts same_lists =
     record {
       is_book = kept.is_book;
       rows_are = same b.opening.tables ∙ kept.rows_are;
@@ -180,4 +182,5 @@ kept_roomy b rows roomy versions wide counts counted lists more_lists kept same 
       versions_are = λ key. same_versions key ∙ kept.versions_are key;
       counts_are = λ caller. same_counts caller ∙ kept.counts_are caller;
       lists_are = same_lists (tables_of b) kept.lists_are;
+      cents_are = kept.cents_are;
     }

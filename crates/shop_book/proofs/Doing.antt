@@ -1,40 +1,48 @@
 -- A change whose writes were made: what the plan of its act tells of the lists and of the versions.
-use Rattle.std.proofs.Common.{◌≡◌, ℕ, List, get_or, refl, sym, ◌∙◌, ap, subst}
+use Rattle.std.proofs.Common.{◌≡◌, ℕ, List, [], ◌∷◌, get_or, Option, Some, inl, refl, sym, ◌∙◌, ap, subst, arith}
 use Rattle.std.specs.Global.{Global}
 use Rattle.std.specs.Prelude.{All, None, Vec}
 use Rattle.shop_model.specs.declared.tables.Tables.{Tables}
+use Rattle.shop_model.specs.asked.AdminAsked.{AdminAsked}
 use Rattle.shop_model.specs.asked.PurchaseAsked.{PurchaseAsked}
-use Rattle.shop_model.specs.rows.Rows.{OrderRow}
+use Rattle.shop_model.specs.declared.refusal.Refusal.TheVariants.{NoItem}
+use Rattle.shop_model.specs.rows.Lookups.{row_numbered}
+use Rattle.shop_model.specs.rows.Rows.{ItemRow, OrderRow}
 use Rattle.shop_model.specs.rows.Sound.{Sound}
-use Rattle.shop_model.specs.pages.Show.{check}
+use Rattle.shop_model.specs.pages.Show.{check, check_there}
+use Rattle.shop_model.specs.trade.Mending.{tables_mended}
 use Rattle.shop_model.specs.trade.Sales.{check_purchase, new_order, with_order, with_purchase, tables_bought}
 use Rattle.shop_history.specs.declared.acts.Act.{Act}
 use Rattle.shop_history.specs.declared.acts.Act.TheVariants as act
 use Rattle.shop_history.specs.declared.keys.Key.{Key}
+use Rattle.shop_history.specs.declared.keys.Key.TheVariants as key
+use Rattle.shop_history.specs.declared.keys.Row.{Row}
 use Rattle.shop_history.specs.Acts.{request_of}
-use Rattle.shop_history.specs.MayChange.{may_change, lists_change, items_of, purchase_changes}
+use Rattle.shop_history.specs.MayChange.{may_change, lists_change, items_of, purchase_changes, subject_at}
 use Rattle.shop_history.proofs.cited.MayChange.{Buys, who_buys}
 use Rattle.shop_history.proofs.cited.Versions.{RaisedFor}
 use Rattle.shop_book.specs.declared.lists.Lists.{Lists}
 use Rattle.shop_book.specs.declared.plan.Plan.{Plan}
-use Rattle.shop_book.specs.declared.plan.Plan.TheVariants.{Compare, Sell}
+use Rattle.shop_book.specs.declared.plan.Plan.TheVariants.{Compare, Sell, Mend}
 use Rattle.shop_book.specs.declared.rows.Rows.{Rows}
 use Rattle.shop_book.specs.declared.versions.Versions.{Versions}
 use Rattle.shop_book.specs.declared.watching.Watched.{Watched}
 use Rattle.shop_book.specs.Changing.{after, IsChange, IsDone, AreWatchable, RaisesAll}
 use Rattle.shop_book.specs.KeptLists.{AreLists}
+use Rattle.shop_book.specs.Mending.{IsMended}
 use Rattle.shop_book.specs.Named.{AreNamed}
 use Rattle.shop_book.specs.Planning.{certain_changes, IsCompared, IsPlanOf}
 use Rattle.shop_book.specs.declared.puts.Put.{Put}
 use Rattle.shop_book.specs.Puts.{all_put}
 use Rattle.shop_book.specs.RowsNow.{tables_with}
 use Rattle.shop_book.specs.Sales.{IsSale}
-use Rattle.shop_book.specs.Stored.{HasPlace, HasPlaces, MorePlaces}
-use Rattle.shop_book.specs.Watching.{keys_of, AreOf}
+use Rattle.shop_book.specs.Stored.{stored, HasPlace, HasPlaces, MorePlaces}
+use Rattle.shop_book.specs.Watching.{keys_of, AreOf, RaisesOne}
 use Rattle.shop_book.proofs.ChangesLemmas.{sound_named, rows_again}
 use Rattle.shop_book.proofs.KeptLists.{lists_kept}
 use Rattle.shop_history.specs.Keys.{row_of}
 use Rattle.shop_book.proofs.Placed.{more_place, place_shown}
+use Rattle.shop_book.proofs.WatchingLemmas.{raised_and, raised_more}
 use Rattle.shop_book.proofs.SaleChanges.{purchase_raised, lists_bought, is_sale, certain_places}
 
 -- some change was done
@@ -57,6 +65,19 @@ done_of t a rows lists plan stamp puts later change made = record {
   sound_after = change.sound_after;
 }
 
+-- an act that administers this item, whose key showed this row
+pub record Mending (t : Tables) (a : Act) (item : ℕ) (row : Row) : Type 0 where
+  pub asked : AdminAsked
+  pub does : a ≡ act.Admin asked
+  pub asks : item ≡ asked.item
+  pub row_is : row ≡ row_of t (key.Item item)
+
+mending : (t : Tables) (a : Act) (item : ℕ) (row : Row) → IsPlanOf t a (Mend item row) → Mending t a item row
+mending t (act.Cart asked draw) item row planned = absurd planned
+mending t (act.Enter asked draw) item row planned = absurd planned
+mending t (act.Confirm asked draw auth) item row planned = absurd planned
+mending t (act.Admin asked) item row planned = record { asked = asked; does = refl; asks = planned.0; row_is = planned.1 }
+
 -- watched keys have places where they showed rows
 pub watchable_done : (t : Tables) (a : Act) (rows : Rows) (lists : Lists) (plan : Plan) (stamp : ℕ) (puts : List Put) → IsChange t a rows lists plan stamp puts
     → (old new : Versions) → HasPlaces old rows → MorePlaces old new → AreWatchable new plan
@@ -64,6 +85,14 @@ watchable_done t a rows lists plan stamp puts change old new places longer = by 
   where
     by : (p : Plan) → plan ≡ p → AreWatchable new p
     by (Sell keys) is = tt
+    by (Mend item row) is =
+        let mends : Mending t a item row = mending t a item row (subst (IsPlanOf t a) is change.plan_is) in
+        record {
+          kind = tt;
+          place = λ some.
+              more_place old new (key.Item item) longer
+              (place_shown old rows t (key.Item item) tt places (λ absent. some (mends.row_is ∙ sym (ap (λ (u : Tables). row_of u (key.Item item)) change.rows_are) ∙ absent)));
+        }
     by (Compare watched) is =
         let compared : IsCompared t a watched.items = subst (IsPlanOf t a) is change.plan_is in
         λ k d within.
@@ -83,7 +112,7 @@ module _ (t : Tables) (a : Act) (stamp : ℕ) (rows : Rows) (lists : Lists) (pla
   compared = subst (IsPlanOf t a) same done.plan_is
 
   pub compared_lists : AreLists (after t stamp a) lists
-  compared_lists = lists_kept t stamp a lists compared.sells done.lists_are
+  compared_lists = lists_kept t stamp a lists compared.still done.lists_are
 
   pub compared_raised : (number : ℕ) (old new : Key → ℕ) → ((before u : Tables) → AreOf before watched.items → RaisedFor before (tables_with u rows) number (keys_of watched.items) old new)
       → RaisedFor t (after t stamp a) number (may_change t a) old new
@@ -104,6 +133,7 @@ selling : (t : Tables) (a : Act) (keys : Vec Key Global) → IsPlanOf t a (Sell 
 selling t (act.Cart asked draw) keys planned = absurd planned
 selling t (act.Enter asked draw) keys planned = absurd planned
 selling t (act.Confirm asked draw auth) keys planned = record { asked = asked; draw = draw; auth = auth; does = refl; keys_are = planned }
+selling t (act.Admin asked) keys planned = absurd planned
 
 module _ (t : Tables) (a : Act) (stamp : ℕ) (rows : Rows) (lists : Lists) (plan : Plan) (keys : Vec Key Global) (same : plan ≡ Sell keys) (done : IsDone t a stamp rows lists plan) where
   sells : Selling t a keys.items
@@ -152,3 +182,49 @@ module _ (t : Tables) (a : Act) (stamp : ℕ) (rows : Rows) (lists : Lists) (pla
       (subst (λ (u : Tables). RaisedFor t u number (purchase_changes t sells.asked) first end) (sym after_is)
       (purchase_raised t done.sound sells.asked stamp sells.draw sells.auth who.customer who.cart who.buys who.bought who.some number first mid end
       (subst (λ (ks : List Key). RaisesAll ks number first mid) sells.keys_are certain) (listed t order sale done.lists_are)))
+
+-- the administration of an item
+
+module _ (t : Tables) (a : Act) (stamp : ℕ) (rows : Rows) (lists : Lists) (plan : Plan) (item : ℕ) (row : Row) (same : plan ≡ Mend item row) (done : IsDone t a stamp rows lists plan) where
+  mends : Mending t a item row
+  mends = mending t a item row (subst (IsPlanOf t a) same done.plan_is)
+
+  some_item : (o : Option ItemRow) → row_numbered t.items mends.asked.item ≡ o → check_there NoItem o ≡ None → (i : ItemRow) × (row_numbered t.items mends.asked.item ≡ Some i)
+  some_item None is passes = absurd cc
+  some_item (Some i) is passes = (i, is)
+
+  found : (i : ItemRow) × (row_numbered t.items mends.asked.item ≡ Some i)
+  found = some_item (row_numbered t.items mends.asked.item) refl (subst (λ (b : Act). check t (request_of b) ≡ None) mends.does done.passes)
+
+  -- the tables after it
+  mended_is : after t stamp a ≡ tables_mended t stamp mends.asked
+  mended_is = ap (after t stamp) mends.does
+
+  is_mended : IsMended t stamp mends.asked item rows
+  is_mended = record {
+    sound = done.sound;
+    asks = mends.asks;
+    row = found.0;
+    there = found.1;
+    items = ap (λ (u : Tables). u.items) (done.rows_are ∙ mended_is);
+  }
+
+  pub mend_done : (u : Tables) × (s : ℕ) × (asked : AdminAsked) × IsMended u s asked item rows × AreLists u lists
+  mend_done = (t, stamp, mends.asked, is_mended, done.lists_are)
+
+  pub mended_lists : (moved : Lists) → ((u : Tables) (s : ℕ) (asked : AdminAsked) → IsMended u s asked item rows → AreLists u lists → AreLists (tables_mended u s asked) moved) → AreLists (after t stamp a) moved
+  mended_lists moved mended = subst (λ (u : Tables). AreLists u moved) (sym mended_is) (mended t stamp mends.asked is_mended done.lists_are)
+
+  pub mended_raised : (number : ℕ) (first mid : Versions) (end : Key → ℕ) → RaisesOne rows number (record { key = key.Item item; row = row }) first mid
+      → ((u : Tables) (s : ℕ) (asked : AdminAsked) → IsMended u s asked item rows → AreLists u lists → RaisedFor u (tables_mended u s asked) number (key.NewIn (subject_at u item) ∷ []) (stored mid) end)
+      → RaisedFor t (after t stamp a) number (may_change t a) (stored first) end
+  mended_raised number first mid end one listed =
+      subst (λ (b : Act). RaisedFor t (after t stamp a) number (may_change t b) (stored first) end) (sym mends.does)
+      (subst (λ n. RaisedFor t (after t stamp a) number (key.Item n ∷ key.NewIn (subject_at t n) ∷ []) (stored first) end) mends.asks
+      (raised_and t (after t stamp a) number (key.Item item ∷ []) (key.NewIn (subject_at t item) ∷ []) (stored first) (stored mid) end
+      (subst (λ (u : Tables). RaisedFor t u number (key.Item item ∷ []) (stored first) (stored mid)) done.rows_are
+      (raised_more t t rows number [] (stored first) first mid (record { key = key.Item item; row = row }) mends.row_is one none))
+      (subst (λ (u : Tables). RaisedFor t u number (key.NewIn (subject_at t item) ∷ []) (stored mid) end) (sym mended_is) (listed t stamp mends.asked is_mended done.lists_are))))
+    where
+      none : RaisedFor t (tables_with t rows) number [] (stored first) (stored first)
+      none = record { each = λ k. inl refl; all = λ k has differs. absurd (omega (arith, has.1)) }

@@ -18,7 +18,7 @@ use Rattle.shop_history.specs.declared.acts.Act.{Act}
 use Rattle.shop_history.specs.declared.acts.Act.TheVariants as act
 use Rattle.shop_history.specs.Acts.{play}
 use Rattle.shop_book.specs.declared.lists.Lists.{Lists}
-use Rattle.shop_book.specs.Planning.{SellsNothing}
+use Rattle.shop_book.specs.Planning.{MovesNoList}
 use Rattle.shop_book.specs.Auths.{AreAuths}
 use Rattle.shop_book.specs.KeptLists.{IsAdmitted, AreLists}
 
@@ -148,7 +148,7 @@ module _ (t u : Tables) (items : u.items ≡ t.items) (orders : u.orders ≡ t.o
     auths = subst (λ (os : List OrderRow). AreAuths os lists.auths) (sym orders) are.auths;
   }
 
--- an act that sells nothing leaves items and orders as they are
+-- an act that moves no list leaves items and orders as they are
 
 enter_items : (t : Tables) (stamp draw : ℕ) (buyer : Buyer) → (tables_entered t stamp draw buyer).items ≡ t.items
 enter_items t stamp draw (Returning asked) = refl
@@ -158,8 +158,9 @@ enter_orders : (t : Tables) (stamp draw : ℕ) (buyer : Buyer) → (tables_enter
 enter_orders t stamp draw (Returning asked) = refl
 enter_orders t stamp draw (Newcomer asked) = refl
 
-pub lists_kept : (t : Tables) (stamp : ℕ) (a : Act) (lists : Lists) → SellsNothing a → AreLists t lists → AreLists (play t stamp a).tables lists
+pub lists_kept : (t : Tables) (stamp : ℕ) (a : Act) (lists : Lists) → MovesNoList a → AreLists t lists → AreLists (play t stamp a).tables lists
 lists_kept t stamp (act.Cart asked draw) lists nothing are = lists_same t (play t stamp (act.Cart asked draw)).tables refl refl lists are
 lists_kept t stamp (act.Enter asked draw) lists nothing are =
     lists_same t (tables_entered t stamp draw asked.buyer) (enter_items t stamp draw asked.buyer) (enter_orders t stamp draw asked.buyer) lists are
 lists_kept t stamp (act.Confirm asked draw auth) lists nothing are = absurd nothing
+lists_kept t stamp (act.Admin asked) lists nothing are = absurd nothing

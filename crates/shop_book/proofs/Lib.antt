@@ -24,5 +24,6 @@ pub mod RememberedSales
 pub mod SaleChanges
 pub mod Doing
 pub mod SaleSteps
+pub mod MendedLists
 pub mod RankLemmas
 pub mod BuyerLemmas

@@ -34,7 +34,7 @@ more_place old new (key.TheVariants.Item id) more has = more_places _ _ id more.
 more_place old new (key.TheVariants.Label id) more has = absurd has
 more_place old new (key.TheVariants.Customer id) more has = more_places _ _ id more.customers has
 more_place old new (key.TheVariants.Cart id) more has = more_places _ _ id more.carts has
-more_place old new (key.TheVariants.NewIn subject) more has = absurd has
+more_place old new (key.TheVariants.NewIn subject) more has = more_places _ _ (subject_id subject) (omega (arith, more.new_in)) has
 more_place old new (key.TheVariants.BestIn subject) more has = more_places _ _ (subject_id subject) (omega (arith, more.best_in)) has
 more_place old new (key.TheVariants.Buyers item) more has = more_places _ _ item more.buyers has
 more_place old new (key.TheVariants.Bought customer) more has = more_places _ _ customer more.bought has
@@ -55,6 +55,7 @@ shown_has make rows id size few is_shown =
 
 -- a watched key that shows a row has a place
 pub place_shown : (v : Versions) (rows : Rows) (t : Tables) (k : Key) → IsWatchable k → HasPlaces v rows → row_of (tables_with t rows) k ≢ row.Absent → HasPlace v k
+place_shown v rows t (key.TheVariants.Item id) kind places is_shown = shown_has row.Item rows.items.items id _ places.items is_shown
 place_shown v rows t (key.TheVariants.Customer id) kind places is_shown = shown_has row.Customer rows.customers.items id _ places.customers is_shown
 place_shown v rows t (key.TheVariants.Cart id) kind places is_shown = shown_has row.Cart rows.carts.items id _ places.carts is_shown
 place_shown v rows t (key.TheVariants.Address id) kind places is_shown = shown_has row.Address rows.addresses.rows id _ places.addresses is_shown

@@ -1,9 +1,9 @@
 -- The steps by which an order's coming moves the kept lists on, put together.
-use Rattle.std.proofs.Common.{◌≡◌, ℕ, ◌+◌, ◌-◌, ◌≤◌, nat_lt, Bool, true, false, cond, List, [], ◌∷◌, ◌++◌, length, map, get_or, Option, Some, None, option_map, slice_get, Contains, inl, inr, ⊎_elim, append_assoc, length-append, ap₂, refl, sym, ◌∙◌, ap, subst, arith}
+use Rattle.std.proofs.Common.{◌≡◌, ℕ, ◌+◌, ◌-◌, ◌≤◌, nat_lt, Bool, true, false, cond, List, [], ◌∷◌, ◌++◌, length, map, get_or, Option, Some, None, option_map, slice_get, inl, append_assoc, length-append, ap₂, refl, sym, ◌∙◌, ap, subst, arith}
 use Rattle.std.specs.Prelude.{◌||◌, All, IfSome, bytes_eq, option_and_then}
 use Rattle.std.specs.List.{list_any}
 use Rattle.std.proofs.lemmas.List.{length-map}
-use Rattle.std.proofs.lemmas.List.Elements.{All-weaker, Contains-append_cases}
+use Rattle.std.proofs.lemmas.List.Elements.{All-weaker}
 use Rattle.std.proofs.lemmas.List.Folds.{list_any-append}
 use Rattle.std.proofs.lemmas.Option.{slice_get_within, get_or_from_slice_get}
 use Rattle.shop_model.specs.declared.subject.Subject.{Subject}
@@ -31,6 +31,7 @@ use Rattle.shop_book.specs.Auths.{AreAuths, has_in}
 use Rattle.shop_book.specs.KeptLists.{IsAdmitted, AreLists}
 use Rattle.shop_book.specs.Sales.{IsSale, AreThere, AreRanked, IsRemembered, Bumps, Renews, subjects_in, gone_items, gone_subjects}
 use Rattle.shop_book.proofs.RankedSales.{value_there, units_after, lists_after, ranks_raised}
+use Rattle.shop_book.proofs.WatchingLemmas.{raised_and}
 use Rattle.shop_book.proofs.WindowMoves.{gone_found, window_after}
 
 -- nothing is set yet
@@ -200,17 +201,9 @@ pub raised_both : (t : Tables) (order : OrderRow) (number : ℕ) (first mid end 
     → RaisedFor t (with_order t order) number (changes.ranks_change t (items_of order) ++ changes.unranked_changes t (changes.leaving counted_orders t.orders)) first mid
     → RaisedFor t (with_order t order) number (changes.buyers_change order.customer (items_of order) ++ changes.forgotten_changes (changes.leaving recent_orders t.orders)) mid end
     → RaisedFor t (with_order t order) number (changes.lists_change t order.customer (items_of order)) first end
-raised_both t order number first mid end ranks buyers = record {
-  each = λ k.
-      ⊎_elim
-      (λ (same : end k ≡ mid k). ⊎_elim (λ stays. inl (same ∙ stays)) (λ raised. inr (raised.0, same ∙ raised.1)) (ranks.each k))
-      (λ raised. inr raised)
-      (buyers.each k);
-  all = λ k has differs.
-      ⊎_elim
-      (λ here. let raised : mid k ≡ number = ranks.all k here differs in ⊎_elim (λ same. same ∙ raised) (λ again. again.1) (buyers.each k))
-      (λ there. buyers.all k there differs)
-      (Contains-append_cases (changes.ranks_change t (items_of order) ++ changes.unranked_changes t (changes.leaving counted_orders t.orders))
-      (changes.buyers_change order.customer (items_of order) ++ changes.forgotten_changes (changes.leaving recent_orders t.orders)) k
-      (subst (λ ks. Contains ks k) (append_assoc (changes.ranks_change t (items_of order) ++ changes.unranked_changes t (changes.leaving counted_orders t.orders)) (changes.buyers_change order.customer (items_of order)) (changes.forgotten_changes (changes.leaving recent_orders t.orders))) has));
-}
+raised_both t order number first mid end ranks buyers =
+    let ranks_keys : List Key = changes.ranks_change t (items_of order) ++ changes.unranked_changes t (changes.leaving counted_orders t.orders) in
+    let buyers_keys : List Key = changes.buyers_change order.customer (items_of order) in
+    let forgotten_keys : List Key = changes.forgotten_changes (changes.leaving recent_orders t.orders) in
+    subst (λ ks. RaisedFor t (with_order t order) number ks first end) (sym (append_assoc ranks_keys buyers_keys forgotten_keys))
+    (raised_and t (with_order t order) number ranks_keys (buyers_keys ++ forgotten_keys) first mid end ranks buyers)

@@ -33,6 +33,7 @@ pub record Agree (old new : Versions) (k : Key) : Type 0 where
   pub addresses : (id : ℕ) → k ≡ key.Address id → at new.addresses.items id ≡ at old.addresses.items id
   pub orders : (id : ℕ) → k ≡ key.Order id → at new.orders.items id ≡ at old.orders.items id
   pub last_orders : (id : ℕ) → k ≡ key.LastOrder id → at new.last_orders.items id ≡ at old.last_orders.items id
+  pub new_in : (subject : Subject) → k ≡ key.NewIn subject → at new.new_in.items (subject_id subject) ≡ at old.new_in.items (subject_id subject)
   pub best_in : (subject : Subject) → k ≡ key.BestIn subject → at new.best_in.items (subject_id subject) ≡ at old.best_in.items (subject_id subject)
   pub buyers : (id : ℕ) → k ≡ key.Buyers id → at new.buyers.items id ≡ at old.buyers.items id
   pub bought : (id : ℕ) → k ≡ key.Bought id → at new.bought.items id ≡ at old.bought.items id
@@ -44,7 +45,7 @@ same_stored old new (key.Item id) agree = agree.items id refl
 same_stored old new (key.Label id) agree = refl
 same_stored old new (key.Customer id) agree = agree.customers id refl
 same_stored old new (key.Cart id) agree = agree.carts id refl
-same_stored old new (key.NewIn subject) agree = refl
+same_stored old new (key.NewIn subject) agree = agree.new_in subject refl
 same_stored old new (key.BestIn subject) agree = agree.best_in subject refl
 same_stored old new (key.Buyers item) agree = agree.buyers item refl
 same_stored old new (key.Bought customer) agree = agree.bought customer refl
@@ -63,6 +64,7 @@ pub record AreSame (old new : Versions) : Type 0 where
   pub addresses : (id : ℕ) → at new.addresses.items id ≡ at old.addresses.items id
   pub orders : (id : ℕ) → at new.orders.items id ≡ at old.orders.items id
   pub last_orders : (id : ℕ) → at new.last_orders.items id ≡ at old.last_orders.items id
+  pub new_in : (id : ℕ) → at new.new_in.items id ≡ at old.new_in.items id
   pub best_in : (id : ℕ) → at new.best_in.items id ≡ at old.best_in.items id
   pub buyers : (id : ℕ) → at new.buyers.items id ≡ at old.buyers.items id
   pub bought : (id : ℕ) → at new.bought.items id ≡ at old.bought.items id
@@ -77,6 +79,7 @@ all_same old new same k = same_stored old new k (record {
   addresses = λ id is. same.addresses id;
   orders = λ id is. same.orders id;
   last_orders = λ id is. same.last_orders id;
+  new_in = λ subject is. same.new_in (subject_id subject);
   best_in = λ subject is. same.best_in (subject_id subject);
   buyers = λ id is. same.buyers id;
   bought = λ id is. same.bought id;

@@ -2,7 +2,7 @@
 use Rattle.std.proofs.Common.{◌≡◌, ◌≢◌, ℕ, ◌+◌, List, [], ◌∷◌, ◌++◌, length, arith, Contains, ◌⊎◌, inl, inr, ⊎_elim, sym, ◌∙◌, ap, subst}
 use Rattle.std.proofs.lemmas.List.{map-append}
 use Rattle.std.specs.Prelude.{All, Option, Some, None}
-use Rattle.std.proofs.lemmas.List.Elements.{All-nil, All-cons, Contains-push, Contains-append_left, Contains-push_cases}
+use Rattle.std.proofs.lemmas.List.Elements.{All-nil, All-cons, Contains-push, Contains-append_left, Contains-append_cases, Contains-push_cases}
 use Rattle.shop_model.specs.declared.address.Address.{Address}
 use Rattle.shop_model.specs.declared.address.AddressText.{AddressText}
 use Rattle.shop_model.specs.declared.buying.Buyer.{Buyer}
@@ -23,7 +23,7 @@ use Rattle.shop_history.proofs.cited.Versions.{RaisedFor}
 use Rattle.shop_history.specs.Same.{same}
 use Rattle.shop_book.specs.declared.rows.Rows.{Rows}
 use Rattle.shop_book.specs.declared.versions.Versions.{Versions}
-use Rattle.shop_book.specs.Planning.{SellsNothing}
+use Rattle.shop_book.specs.Planning.{MovesNoList}
 use Rattle.shop_book.specs.RowsNow.{tables_with}
 use Rattle.shop_book.specs.Changing.{RaisesAll}
 use Rattle.shop_book.specs.Stored.{stored, HasSpare, SpareFor, SparesFor, SparesOne}
@@ -39,6 +39,21 @@ pub raised_from : (before now : Tables) (number : ℕ) (keys : List Key) (old be
 raised_from before now number keys old began new same raised = record {
   each = λ key. ⊎_elim (λ (stays : new key ≡ began key). inl (stays ∙ same key)) (λ differs. inr differs) (raised.each key);
   all = raised.all;
+}
+
+-- versions that were raised for some keys, and then for others
+pub raised_and : (before now : Tables) (number : ℕ) (keys more : List Key) (first mid end : Key → ℕ) → RaisedFor before now number keys first mid → RaisedFor before now number more mid end → RaisedFor before now number (keys ++ more) first end
+raised_and before now number keys more first mid end one other = record {
+  each = λ k.
+      ⊎_elim
+      (λ (same : end k ≡ mid k). ⊎_elim (λ stays. inl (same ∙ stays)) (λ raised. inr (raised.0, same ∙ raised.1)) (one.each k))
+      (λ raised. inr raised)
+      (other.each k);
+  all = λ k has differs.
+      ⊎_elim
+      (λ here. let raised : mid k ≡ number = one.all k here differs in ⊎_elim (λ same. same ∙ raised) (λ again. again.1) (other.each k))
+      (λ there. other.all k there differs)
+      (Contains-append_cases keys more k has);
 }
 
 -- one watched key more
@@ -118,9 +133,10 @@ spares_one (key.LastOrder customer) old new spares = λ more room. spares more (
 pub keys_more : (watched : List Watched) (kept : Watched) → keys_of (watched ++ kept ∷ []) ≡ keys_of watched ++ kept.key ∷ []
 keys_more watched kept = map-append (λ (w : Watched). w.key) watched (kept ∷ [])
 
--- the keys that an act may change that sells nothing are watched
-pub may_change_watchable : (t : Tables) (a : Act) → SellsNothing a → All IsWatchable (may_change t a)
+-- the keys that an act may change that moves no list are watched
+pub may_change_watchable : (t : Tables) (a : Act) → MovesNoList a → All IsWatchable (may_change t a)
 may_change_watchable t (act.Confirm asked draw auth) nothing = absurd nothing
+may_change_watchable t (act.Admin asked) nothing = absurd nothing
 may_change_watchable t (act.Cart asked draw) nothing = All-cons IsWatchable _ [] tt (All-nil IsWatchable)
 may_change_watchable t (act.Enter asked draw) nothing = of asked.buyer
   where

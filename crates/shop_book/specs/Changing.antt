@@ -4,11 +4,12 @@ use Rattle.shop_model.specs.declared.tables.Tables.{Tables}
 use Rattle.shop_model.specs.pages.Show.{check}
 use Rattle.shop_model.specs.rows.Sound.{Sound}
 use Rattle.shop_history.specs.declared.acts.Act.{Act}
+use Rattle.shop_history.specs.declared.keys.Key as key
 use Rattle.shop_history.specs.declared.keys.Key.{Key}
 use Rattle.shop_history.specs.Acts.{play, request_of}
 use Rattle.shop_book.specs.declared.lists.Lists.{Lists}
 use Rattle.shop_book.specs.declared.plan.Plan.{Plan}
-use Rattle.shop_book.specs.declared.plan.Plan.TheVariants.{Compare, Sell}
+use Rattle.shop_book.specs.declared.plan.Plan.TheVariants.{Compare, Sell, Mend}
 use Rattle.shop_book.specs.declared.puts.Put.{Put}
 use Rattle.shop_book.specs.declared.rows.Rows.{Rows}
 use Rattle.shop_book.specs.declared.versions.Versions.{Versions}
@@ -45,6 +46,7 @@ pub record IsDone (t : Tables) (act : Act) (stamp : ℕ) (rows : Rows) (lists : 
 abbrev pub AreWatchable : Versions → Plan → Type 0
 AreWatchable versions (Compare watched) = All (CanWatch versions) watched.items
 AreWatchable versions (Sell keys) = Unit {0}
+AreWatchable versions (Mend item row) = CanWatch versions (record { key = key.TheVariants.Item item; row = row })
 
 -- these keys get this number as their version, and no other does
 pub record RaisesAll (keys : List Key) (number : ℕ) (old new : Key → ℕ) : Type 0 where

@@ -11,13 +11,15 @@ use Rattle.shop_book.specs.Counted.{count_in}
 use Rattle.shop_book.specs.KeptLists.{AreLists}
 use Rattle.shop_book.specs.RowsNow.{tables_with}
 use Rattle.shop_book.specs.Stored.{stored, HasPlaces}
+use Rattle.shop_book.specs.Summaries.{cents_in}
 
 -- the rows are those of the tables now, each with a place for its version, the versions and the counts are those of the log, and
--- the lists are those of the tables now
-pub record IsKept (b : BookValue) (rows : Rows) (versions : Versions) (counts : Counts) (lists : Lists) : Type 0 where
+-- the lists and what orders were charged are those of the tables now
+pub record IsKept (b : BookValue) (rows : Rows) (versions : Versions) (counts : Counts) (lists : Lists) (cents : ℕ) : Type 0 where
   pub is_book : IsBook b
   pub rows_are : tables_with b.opening.tables rows ≡ tables_of b
   pub places : HasPlaces versions rows
   pub versions_are : (key : Key) → stored versions key ≡ version_of b.opening.tables b.log key
   pub counts_are : (caller : ℕ) → count_in counts caller ≡ length (entries_of caller b.log)
   pub lists_are : AreLists (tables_of b) lists
+  pub cents_are : cents ≡ cents_in (tables_of b)

@@ -15,10 +15,11 @@ pub mod Auths
 pub mod Listings
 pub mod KeptLists
 pub mod Sales
+pub mod Mending
 pub mod Planning
 pub mod Changing
+pub mod Summaries
 pub mod Keeping
 pub mod Settles
-pub mod Summaries
 pub mod Solos
 pub mod SoloView

@@ -7,9 +7,10 @@ use Rattle.shop_history.specs.declared.acts.Act as act
 use Rattle.shop_history.specs.declared.acts.Act.{Act}
 use Rattle.shop_history.specs.declared.keys.Key as key
 use Rattle.shop_history.specs.declared.keys.Key.{Key}
+use Rattle.shop_history.specs.Keys.{row_of}
 use Rattle.shop_history.specs.MayChange.{may_change, ship_changes}
 use Rattle.shop_book.specs.declared.plan.Plan.{Plan}
-use Rattle.shop_book.specs.declared.plan.Plan.TheVariants.{Compare, Sell}
+use Rattle.shop_book.specs.declared.plan.Plan.TheVariants.{Compare, Sell, Mend}
 use Rattle.shop_book.specs.declared.watching.Watched.{Watched}
 use Rattle.shop_book.specs.Watching.{AreOf, IsWatchable, keys_of}
 
@@ -26,15 +27,16 @@ certain_changes t asked =
     ∷ map key.TheVariants.Item (items_in t asked.cart)
     ++ ship_changes t asked.address
 
--- an act that sells nothing
-abbrev pub SellsNothing : Act → Type 0
-SellsNothing (act.TheVariants.Cart asked draw) = Unit {0}
-SellsNothing (act.TheVariants.Enter asked draw) = Unit {0}
-SellsNothing (act.TheVariants.Confirm asked draw auth) = ⊥
+-- an act that moves none of the lists that are kept
+abbrev pub MovesNoList : Act → Type 0
+MovesNoList (act.TheVariants.Cart asked draw) = Unit {0}
+MovesNoList (act.TheVariants.Enter asked draw) = Unit {0}
+MovesNoList (act.TheVariants.Confirm asked draw auth) = ⊥
+MovesNoList (act.TheVariants.Admin asked) = ⊥
 
 -- all keys that an act may change are watched, with what they show
 pub record IsCompared (t : Tables) (a : Act) (watched : List Watched) : Type 0 where
-  pub sells : SellsNothing a
+  pub still : MovesNoList a
   pub keys : keys_of watched ≡ may_change t a
   pub rows : AreOf t watched
   pub kinds : All (λ w. IsWatchable w.key) watched
@@ -42,9 +44,12 @@ pub record IsCompared (t : Tables) (a : Act) (watched : List Watched) : Type 0 w
 abbrev pub IsPlanOf : Tables → Act → Plan → Type 0
 IsPlanOf t a (Compare watched) = IsCompared t a watched.items
 IsPlanOf t (act.TheVariants.Confirm asked draw auth) (Sell keys) = keys.items ≡ certain_changes t asked
+IsPlanOf t (act.TheVariants.Admin asked) (Mend item row) = (item ≡ asked.item) × (row ≡ row_of t (key.TheVariants.Item item))
 IsPlanOf t _ (Sell keys) = ⊥
+IsPlanOf t _ (Mend item row) = ⊥
 
 -- as many keys may get a version
 abbrev pub keys_in : Plan → ℕ
 keys_in (Compare watched) = length watched.items
 keys_in (Sell keys) = length keys.items
+keys_in (Mend item row) = 1

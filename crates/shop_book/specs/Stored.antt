@@ -19,13 +19,13 @@ at numbers id = unwrap_or (row_numbered numbers id) 0
 unfoldable pub subject_id : Subject → ℕ
 subject_id subject = length (take_while (λ other. not (bytes_eq (subject_name other) (subject_name subject))) subjects) + 1
 
--- the version of a key, where it has one, or 0; labels, countries and the days of publication never change yet
+-- the version of a key, where it has one, or 0; labels and countries never change
 abbrev pub stored : Versions → Key → ℕ
 stored v (key.TheVariants.Item id) = at v.items.items id
 stored v (key.TheVariants.Label id) = 0
 stored v (key.TheVariants.Customer id) = at v.customers.items id
 stored v (key.TheVariants.Cart id) = at v.carts.items id
-stored v (key.TheVariants.NewIn subject) = 0
+stored v (key.TheVariants.NewIn subject) = at v.new_in.items (subject_id subject)
 stored v (key.TheVariants.BestIn subject) = at v.best_in.items (subject_id subject)
 stored v (key.TheVariants.Buyers item) = at v.buyers.items item
 stored v (key.TheVariants.Bought customer) = at v.bought.items customer
@@ -42,7 +42,7 @@ HasPlace v (key.TheVariants.Item id) = Has (length v.items.items) id
 HasPlace v (key.TheVariants.Label id) = ⊥
 HasPlace v (key.TheVariants.Customer id) = Has (length v.customers.items) id
 HasPlace v (key.TheVariants.Cart id) = Has (length v.carts.items) id
-HasPlace v (key.TheVariants.NewIn subject) = ⊥
+HasPlace v (key.TheVariants.NewIn subject) = Has (length v.new_in.items) (subject_id subject)
 HasPlace v (key.TheVariants.BestIn subject) = Has (length v.best_in.items) (subject_id subject)
 HasPlace v (key.TheVariants.Buyers item) = Has (length v.buyers.items) item
 HasPlace v (key.TheVariants.Bought customer) = Has (length v.bought.items) customer
@@ -61,6 +61,7 @@ pub record HasPlaces (v : Versions) (rows : Rows) : Type 0 where
   pub addresses : length rows.addresses.rows ≤ length v.addresses.items
   pub orders : length rows.orders.items ≤ length v.orders.items
   pub last_orders : length rows.customers.items ≤ length v.last_orders.items
+  pub new_in : length v.new_in.items ≡ 24
   pub best_in : length v.best_in.items ≡ 24
   pub buyers : length rows.items.items ≤ length v.buyers.items
   pub bought : length rows.customers.items ≤ length v.bought.items
@@ -73,6 +74,7 @@ pub record MorePlaces (old new : Versions) : Type 0 where
   pub addresses : length old.addresses.items ≤ length new.addresses.items
   pub orders : length old.orders.items ≤ length new.orders.items
   pub last_orders : length old.last_orders.items ≤ length new.last_orders.items
+  pub new_in : length new.new_in.items ≡ length old.new_in.items
   pub best_in : length new.best_in.items ≡ length old.best_in.items
   pub buyers : length old.buyers.items ≤ length new.buyers.items
   pub bought : length old.bought.items ≤ length new.bought.items
@@ -120,6 +122,7 @@ pub record Fits (v : Versions) (rows : Rows) : Type 0 where
   pub addresses : length rows.addresses.rows ≤ vec_capacity v.addresses
   pub orders : length rows.orders.items ≤ vec_capacity v.orders
   pub last_orders : length rows.customers.items ≤ vec_capacity v.last_orders
+  pub new_in : length v.new_in.items ≡ 24
   pub best_in : length v.best_in.items ≡ 24
   pub buyers : length rows.items.items ≤ vec_capacity v.buyers
   pub bought : length rows.customers.items ≤ vec_capacity v.bought

@@ -15,12 +15,16 @@ charge_limit = 300_000_000_000
 abbrev pub new_orders : Tables → List OrderRow
 new_orders t = filter (λ o. nat_lt t.born_orders o.id) t.orders
 
+-- what these were charged, in cents
+abbrev pub cents_in : Tables → ℕ
+cents_in t = sum_by (λ o. o.total) (new_orders t)
+
 -- how many changes there were, how many orders came, and what they cost
 unfoldable pub summary_of : BookValue → Summary
 summary_of b = record {
   entries = length b.log;
   orders = length (new_orders (tables_of b));
-  cents = sum_by (λ o. o.total) (new_orders (tables_of b));
+  cents = cents_in (tables_of b);
 }
 
 -- some order has this authorisation

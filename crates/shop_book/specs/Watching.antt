@@ -12,8 +12,9 @@ use Rattle.shop_book.specs.Named.{AreNamed}
 use Rattle.shop_book.specs.RowsNow.{tables_with}
 use Rattle.shop_book.specs.Stored.{stored, HasPlace}
 
--- the kinds of keys whose rows are compared: those that acts may change; one that changes another table adds its kind
+-- the kinds of keys whose rows are compared: those that acts may change
 abbrev pub IsWatchable : Key → Type 0
+IsWatchable (key.TheVariants.Item id) = Unit {0}
 IsWatchable (key.TheVariants.Customer id) = Unit {0}
 IsWatchable (key.TheVariants.Cart id) = Unit {0}
 IsWatchable (key.TheVariants.Name user) = Unit {0}

@@ -43,6 +43,8 @@ pub struct Book {
     lists: Lists,
     log: Vec<Entry>,
     latest: u64,
+    /// What the orders that came since the opening were charged together, in cents.
+    cents: u64,
 }
 
 impl Model for Book {
@@ -55,7 +57,7 @@ impl Model for Book {
 
     ghost view = { book_of };
 
-    ghost invariant = { λ i. IsKept (book_of i) i.rows i.versions i.counts i.lists };
+    ghost invariant = { λ i. IsKept (book_of i) i.rows i.versions i.counts i.lists i.cents };
 }
 
 impl Book {
@@ -76,6 +78,7 @@ impl Book {
             lists,
             log: Vec::new(alloc),
             latest: 0,
+            cents: 0,
         })
     }
 
@@ -140,11 +143,11 @@ impl Book {
         ensures value { result ≡ spec.summary_of self.now }
         ensures kept { IsBook self.now }
     {
-        let orders = &self.rows.orders[self.opening.tables.born_orders as usize..];
+        let born = u64::from(self.opening.tables.born_orders);
         Summary {
             entries: self.log.len() as u64,
-            orders: orders.len() as u64,
-            cents: cents_of(orders),
+            orders: self.rows.orders.len() as u64 - born,
+            cents: self.cents,
         }
     }
 
@@ -272,6 +275,7 @@ impl Book {
             return Settle::Memory;
         }
         let (stamp, front) = (entry.stamp, self.log.len() as u64 + 1);
+        let orders = self.rows.orders.len();
         let ids = change_rows(
             &mut self.rows,
             &mut self.versions,
@@ -281,6 +285,8 @@ impl Book {
             front,
             puts,
         );
+        // One order came at most.
+        self.cents += cents_of(&self.rows.orders[orders..]);
         self.counts.set(entry.caller, entry.number);
         self.log.push_reserved(entry);
         self.latest = stamp;

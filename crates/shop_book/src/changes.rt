@@ -1,4 +1,4 @@
-ghost use Rattle.std.specs.Prelude.{◌≡◌, ℕ, ◌+◌, ◌<◌, ◌≤◌, All, length, vec_len, vec_capacity};
+ghost use Rattle.std.specs.Prelude.{◌≡◌, ℕ, ◌<◌, All, length, vec_len, vec_capacity};
 ghost use Rattle.std.specs.Bool.{OnTrue};
 ghost use Rattle.shop_model.specs.declared.tables.Tables.{Tables};
 ghost use Rattle.shop_history.specs.declared.acts.Act.{Act};
@@ -23,7 +23,7 @@ use crate::plan::Plan;
 use crate::puts::Put;
 use crate::rows::Rows;
 use crate::versions::Versions;
-use crate::watching::raise_changed;
+use crate::watching::{Watched, raise_changed, raise_if_changed};
 use shop_history::{Entry, Ids, Key};
 
 /// Makes room for an entry, for as many rows with their versions, and for those of as many keys; answers
@@ -88,6 +88,11 @@ fn carry_out(rows: &Rows, versions: &mut Versions, lists: &mut Lists, plan: Plan
         Plan::Sell(keys) => {
             raise_all(versions, keys, number);
             lists.sell(rows, versions, number);
+        }
+        Plan::Mend(item, row) => {
+            let key = Key::Item(item);
+            raise_if_changed(versions, rows, Watched { key, row }, number);
+            lists.mend(rows, item, versions, number);
         }
     }
 }

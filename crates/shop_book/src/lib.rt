@@ -13,6 +13,7 @@ mod ids;
 mod listing;
 mod lists;
 mod may_change;
+mod mending;
 mod opening;
 mod orders;
 mod plan;

@@ -6,17 +6,15 @@ ghost use Rattle.shop_model.specs.lists.Related.{sold_of, last, units_in_orders}
 ghost use Rattle.shop_model.specs.rows.Limits.{recent_orders};
 ghost use Rattle.shop_model.specs.rows.Sound.{Sound, Runs};
 ghost use Rattle.shop_model.specs.rows.Subjects.{subjects};
-ghost use Rattle.shop_ranking.specs.StandingBest.{standing_best};
-ghost use Rattle.shop_ranking.specs.StandingNewest.{standing_newest};
 ghost use Rattle.std.specs.Bool.{OnTrue};
 ghost use Rattle.shop_book.specs.KeptLists.{AreLists, HasRoom, IsAdmitted, UnitsAre};
 
 use crate::auths::Auths;
-use crate::listing::Listing;
+use crate::listing::{Listing, listings};
 use shop_history::Row;
 use shop_model::{Item, Order, Subject, Tables};
 use shop_ranking::{Best, Newest};
-use shop_text::{Listed, Memory, Shared};
+use shop_text::{Memory, Shared};
 use shop_window::OrderWindow;
 use std::alloc::Global;
 
@@ -32,7 +30,7 @@ pub(crate) struct Lists {
     /// The best sold items of each subject, by its number, as they are shown.
     pub(crate) best_rows: Vec<Listing>,
     /// The newest ones.
-    newest_rows: Vec<Shared<Listed<u32>>>,
+    pub(crate) newest_rows: Vec<Listing>,
     pub(crate) auths: Auths,
 }
 
@@ -67,31 +65,6 @@ fn best_of(alloc: Global, items: &[Item], sold: &OrderWindow<3_333>) -> Result<B
     Ok(best)
 }
 
-/// The best sold items of each subject, by its number.
-fn best_rows(alloc: Global, best: &Best) -> Result<Vec<Listing>, Memory>
-    ensures { IfOk result (λ rows. rows.items ≡ map (standing_best best.now) subjects) }
-{
-    let mut rows = Vec::with_capacity(alloc, 24)?;
-    for subject in &Subject::all() {
-        let mut list = Listing::new(alloc)?;
-        list.renew(best, *subject);
-        rows.push(list)?;
-    }
-    Ok(rows)
-}
-
-/// The newest items of each subject, by its number.
-fn newest_rows(alloc: Global, newest: &Newest) -> Result<Vec<Shared<Listed<u32>>>, Memory>
-    ensures { IfOk result (λ rows. rows.items ≡ map (standing_newest newest.now) subjects) }
-{
-    let mut rows = Vec::with_capacity(alloc, 24)?;
-    for subject in &Subject::all() {
-        let list = Shared::new(alloc, newest.top50(alloc, *subject)?)?;
-        rows.push(list)?;
-    }
-    Ok(rows)
-}
-
 impl Lists {
     /// Those of these tables.
     pub(crate) fn of(alloc: Global, tables: &Tables) -> Result<Lists, Memory>
@@ -105,8 +78,8 @@ impl Lists {
         let newest = Newest::new(alloc, items)?;
         let auths = Auths::of(alloc, orders)?;
         Ok(Lists {
-            best_rows: best_rows(alloc, &best)?,
-            newest_rows: newest_rows(alloc, &newest)?,
+            best_rows: listings(alloc, &best)?,
+            newest_rows: listings(alloc, &newest)?,
             sold,
             recent,
             best,
@@ -115,12 +88,15 @@ impl Lists {
         })
     }
 
-    /// What the key of a subject's newest items shows; takes no memory.
-    pub(crate) fn newest_row(&self, subject: Subject) -> Result<Row, Memory>
-        requires { length self.now.newest_rows.items ≡ length subjects }
-        ensures { (t : Tables) → AreLists t self.now → IfOk result (λ row. row ≡ Row.Items (spec.newest t subject)) }
+    /// What the key of a subject's newest items shows.
+    pub(crate) fn newest_row(&mut self, subject: Subject) -> Result<Row, Memory>
+        requires { length self.old.newest_rows.items ≡ length subjects }
+        ensures row { (t : Tables) → AreLists t self.old → IfOk result (λ row. row ≡ Row.Items (spec.newest t subject)) }
+        ensures lists { (t : Tables) → AreLists t self.old → AreLists t self.new }
+        ensures size { length self.new.newest_rows.items ≡ length self.old.newest_rows.items }
     {
-        Ok(Row::Items(self.newest_rows[subject.number() as usize].share()?))
+        let list = &mut self.newest_rows[subject.number() as usize];
+        Ok(Row::Items(list.row()?))
     }
 
     /// What the key of a subject's best sold items shows.

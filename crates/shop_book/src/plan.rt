@@ -1,7 +1,6 @@
 //! What is kept of an act before it is done, to tell afterwards which keys it changed.
-ghost use Rattle.std.specs.Prelude.{◌≡◌, IfOk, All, Option, length, unwrap_or};
+ghost use Rattle.std.specs.Prelude.{◌≡◌, IfOk};
 ghost use Rattle.shop_model.specs.declared.tables.Tables.{Tables};
-ghost use Rattle.shop_model.specs.trade.Carts.{lines_named};
 ghost use Rattle.shop_history.specs.Acts.{IsInForm};
 ghost use Rattle.shop_book.specs.Planning as spec;
 ghost use Rattle.shop_book.specs.RowsNow.{tables_with};
@@ -10,7 +9,7 @@ ghost use Rattle.shop_book.specs.Watching.{MayCome};
 use crate::may_change::{buyer_changes, cart_changes, certain_changes};
 use crate::rows::Rows;
 use crate::watching::{Watched, watch};
-use shop_history::{Act, Key};
+use shop_history::{Act, Key, Row};
 use shop_text::Memory;
 use std::alloc::Global;
 
@@ -20,6 +19,8 @@ pub(crate) enum Plan {
     Compare(Vec<Watched>),
     /// Keys that a purchase changes for certain; the lists tell of the rest.
     Sell(Vec<Key>),
+    /// An item that is administered, with what its key shows; the lists tell of its subject.
+    Mend(u32, Row),
 }
 
 impl Plan {
@@ -41,6 +42,10 @@ impl Plan {
             Act::Confirm(asked, _, _) => {
                 Ok(Plan::Sell(certain_changes(alloc, rows, asked.get())?))
             }
+            Act::Admin(asked) => {
+                let item = asked.get().item;
+                Ok(Plan::Mend(item, rows.item_row(item)?))
+            }
         }
     }
 
@@ -51,6 +56,7 @@ impl Plan {
         match self {
             Plan::Compare(watched) => watched.len(),
             Plan::Sell(keys) => keys.len(),
+            Plan::Mend(_, _) => 1,
         }
     }
 }

@@ -1,5 +1,5 @@
 //! Writes that take no more memory: it is taken before the first of them is made.
-ghost use Rattle.std.specs.Prelude.{◌≡◌, ◌+◌, ◌^◌, ◌<◌, ◌≤◌, IfOk, OnOk, All, length};
+ghost use Rattle.std.specs.Prelude.{◌≡◌, ◌+◌, ◌^◌, ◌<◌, ◌≤◌, IfOk, All};
 ghost use Rattle.shop_model.specs.declared.tables.Tables.{Tables};
 ghost use Rattle.shop_model.specs.rows.Limits.{stamp_limit};
 ghost use Rattle.shop_attempt.specs.Writes as write;

@@ -4,8 +4,49 @@ ghost use Rattle.shop_model.specs.rows.Lookups as lookups;
 ghost use Rattle.shop_history.specs.Keys.{shown};
 
 use shop_history::Row;
-use shop_model::{Address, Cart, Customer, CustomerDetails, row_numbered};
+use shop_model::{Address, Cart, Customer, CustomerDetails, Item, ItemDetails, row_numbered};
 use shop_text::Shared;
+
+/// Whether what an item is described by is equal.
+fn same_descriptions(details: &ItemDetails, other: &ItemDetails) -> bool
+    ensures { IsTrue result ↔ (details.now ≡ other.now) }
+{
+    details.title == other.title
+        && details.author == other.author
+        && details.subject == other.subject
+        && details.publisher == other.publisher
+        && details.about == other.about
+        && details.related == other.related
+        && details.thumb == other.thumb
+        && details.image == other.image
+        && details.srp == other.srp
+        && details.cost == other.cost
+        && details.first_stock == other.first_stock
+        && details.pages == other.pages
+        && details.backing == other.backing
+}
+
+/// Whether two items are equal.
+fn same_item(item: &Item, other: &Item) -> bool
+    ensures { IsTrue result ↔ (item.now ≡ other.now) }
+{
+    item.id == other.id
+        && item.published == other.published
+        && item.stock == other.stock
+        && item.restocks == other.restocks
+        && same_descriptions(item.details.get(), other.details.get())
+}
+
+/// Whether a row is that of the item with an id.
+pub(crate) fn shows_item(items: &[Item], id: u32, row: &Row) -> bool
+    ensures { IsTrue result ↔ (shown Row.Item (lookups.row_numbered items.now id) ≡ row.now) }
+{
+    match (row_numbered(items, id), row) {
+        (Some(item), Row::Item(kept)) => same_item(item, kept),
+        (None, Row::Absent) => true,
+        _ => false,
+    }
+}
 
 /// Whether two carts are equal.
 fn same_cart(cart: &Cart, other: &Cart) -> bool

@@ -26,7 +26,9 @@ pub(crate) struct Versions {
     orders: Vec<u64>,
     /// By the ids of customers.
     last_orders: Vec<u64>,
-    /// Of the best sold items of each subject, by its number.
+    /// Of the newest items of each subject, by its number.
+    new_in: Vec<u64>,
+    /// Of the best sold ones.
     best_in: Vec<u64>,
     /// By the ids of items.
     buyers: Vec<u64>,
@@ -123,6 +125,7 @@ impl Versions {
             addresses: zeros(alloc, rows.addresses.len())?,
             orders: zeros(alloc, rows.orders.len())?,
             last_orders: zeros(alloc, rows.customers.len())?,
+            new_in: zeros(alloc, SUBJECTS)?,
             best_in: zeros(alloc, SUBJECTS)?,
             buyers: zeros(alloc, rows.items.len())?,
             bought: zeros(alloc, rows.customers.len())?,
@@ -140,7 +143,7 @@ impl Versions {
             Key::Label(_) => 0,
             Key::Customer(id) => at(&self.customers, *id),
             Key::Cart(id) => at(&self.carts, *id),
-            Key::NewIn(_) => 0,
+            Key::NewIn(subject) => at(&self.new_in, u32::from(subject.number()) + 1),
             Key::BestIn(subject) => at(&self.best_in, u32::from(subject.number()) + 1),
             Key::Buyers(item) => at(&self.buyers, *item),
             Key::Bought(customer) => at(&self.bought, *customer),
@@ -223,7 +226,9 @@ impl Versions {
             Key::Label(_) => unreachable!(),
             Key::Customer(id) => set_at(&mut self.customers, id, version),
             Key::Cart(id) => set_at(&mut self.carts, id, version),
-            Key::NewIn(_) => unreachable!(),
+            Key::NewIn(subject) => {
+                set_at(&mut self.new_in, u32::from(subject.number()) + 1, version);
+            }
             Key::BestIn(subject) => {
                 set_at(&mut self.best_in, u32::from(subject.number()) + 1, version);
             }

@@ -8,7 +8,7 @@ ghost use Rattle.shop_book.specs.Stored.{stored, HasPlaces, MorePlaces, HasSpare
 ghost use Rattle.shop_book.specs.Watching as spec;
 
 use crate::rows::{Rows, id_row};
-use crate::same_rows::{shows_address, shows_cart, shows_customer, shows_id};
+use crate::same_rows::{shows_address, shows_cart, shows_customer, shows_id, shows_item};
 use crate::versions::Versions;
 use shop_history::{Key, Row};
 use shop_text::Memory;
@@ -28,6 +28,7 @@ fn row_now(rows: &Rows, key: &Key) -> Result<Row, Memory>
     ensures { IfOk result (λ row. (t : Tables) → row ≡ row_of (tables_with t rows.now) key.now) }
 {
     match key {
+        Key::Item(id) => rows.item_row(*id),
         Key::Customer(id) => rows.customer_row(*id),
         Key::Cart(id) => rows.cart_row(*id),
         Key::Name(user) => Ok(id_row(rows.customer_named(user))),
@@ -60,6 +61,7 @@ fn shows(rows: &Rows, key: &Key, row: &Row) -> bool
     ensures { (t : Tables) → (IsTrue result ↔ (row_of (tables_with t rows.now) key.now ≡ row.now)) }
 {
     match key {
+        Key::Item(id) => shows_item(&rows.items, *id, row),
         Key::Customer(id) => shows_customer(&rows.customers, *id, row),
         Key::Cart(id) => shows_cart(&rows.carts, *id, row),
         Key::Name(user) => shows_id(rows.customer_named(user), row),
@@ -70,7 +72,7 @@ fn shows(rows: &Rows, key: &Key, row: &Row) -> bool
 }
 
 /// Gives a watched key this number as its version, if its row is no longer the one kept.
-fn raise_if_changed(versions: &mut Versions, rows: &Rows, kept: Watched, number: u64)
+pub(crate) fn raise_if_changed(versions: &mut Versions, rows: &Rows, kept: Watched, number: u64)
     requires watchable { spec.CanWatch versions.old kept }
     requires places { HasPlaces versions.old rows.now }
     requires spare { HasSpare versions.old 1 }

@@ -1,6 +1,6 @@
 -- The item that Admin Request reads, and what it shows.
 use Rattle.std.proofs.Common.{◌≡◌, ℕ, zero, suc, List, [], ◌∷◌, Option, Some, None, option_map, refl, sym, ◌∙◌, ap}
-use Rattle.shop_model.specs.declared.buying.AdminRequest as asked_for
+use Rattle.shop_model.specs.declared.administration.AdminRequest as asked_for
 use Rattle.shop_model.specs.declared.refusal.Refusal.TheVariants.{NoItem}
 use Rattle.shop_model.specs.declared.requests.Request.TheVariants.{AdminRequest}
 use Rattle.shop_model.specs.declared.tables.Tables.{Tables}

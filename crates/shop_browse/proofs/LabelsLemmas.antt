@@ -1,5 +1,5 @@
--- Reads of labels: which ids they are of, that they may be read, and the links that they give.
-use Rattle.std.proofs.Common.{◌≡◌, ℕ, zero, suc, ◌+◌, ◌<◌, cond, true, false, List, [], ◌∷◌, ◌++◌, length, map, filter, take, drop, get_or, All, Option, Some, None, option_map, unwrap_or, refl, sym, ◌∙◌, ap, subst, inr, arith}
+-- Reads of labels: which ids they are of, what is asked for next, and the links of a promotion.
+use Rattle.std.proofs.Common.{◌≡◌, ℕ, zero, suc, ◌+◌, ◌<◌, cond, true, false, List, [], ◌∷◌, ◌++◌, length, map, filter, take, drop, get_or, All, Option, Some, None, option_map, unwrap_or, refl, sym, ◌∙◌, ap, subst, arith}
 use Rattle.std.specs.declared.cmp.Ordering.{Ordering}
 use Rattle.std.specs.Ordering.{is_gt}
 use Rattle.std.specs.List.{flat_map}
@@ -37,8 +37,9 @@ use Rattle.shop_browse.specs.declared.driver.Next.{Next}
 use Rattle.shop_browse.specs.declared.driver.Next.TheVariants.{ReadOne, Read, Show, Change, Pay, Never}
 use Rattle.shop_browse.specs.Driver.{keys_of, Fits, AreSeen, IsNext}
 use Rattle.shop_browse.specs.Footprints.{drawn_item, InFootprint, IsAbout}
-use Rattle.shop_browse.specs.Labels.{ids_in, HaveLabels, FollowsLabels, AsksLabels, title_in, promoted_in}
-use Rattle.shop_browse.proofs.cited.Sizes.{size_of, size_after}
+use Rattle.shop_browse.specs.Labels.{ids_in, HaveLabels, FollowsLabels, AsksLabels, promoted_in}
+use Rattle.shop_browse.proofs.cited.Labels.{labels_may, links_shown}
+use Rattle.shop_browse.proofs.cited.Sizes.{size_of}
 
 -- what holds of all elements holds of all in order
 
@@ -122,13 +123,6 @@ module _ (t : Tables) (sound : Sound t) where
   named_within (key.Order id) = none_named row.Order (λ x. refl) (row_numbered t.orders id)
   named_within (key.LastOrder id) = none_named row.Id (λ x. refl) (joined (row_numbered t.last id))
 
--- the labels of items that there are may be read by any request
-pub labels_may : (c : Catalogue) (opening : Tables) (log : List Entry) (request : Request) (draw : ℕ) (ids : List ℕ) → c ≡ catalogue opening → All (Has (length c.items)) ids
-    → All (InFootprint opening log request draw) (map key.Label ids)
-labels_may c opening log request draw ids named within =
-    All-map (InFootprint opening log request draw) key.Label ids
-    (λ k d lt. inr (get_or ids k d, subst (λ n. Has n (get_or ids k d)) (sym (size_after c opening log named)) (within k d lt), refl))
-
 -- what is asked for next
 
 pub asks_labels : (k : Key) (ask : Ask) (round : ℕ) (reads : List ReadOf) (first : ReadOf) (keys : List Key) → round ≡ 1 → FollowsLabels k round reads → AreSeen ask.index.now reads → first ≡ get_or reads 0 first
@@ -174,19 +168,6 @@ labels_fit c t k (first ∷ labels) have fits =
     let same : have.labels ≡ labels = cc in
     record { keys_are = subst (λ l. keys_of l ≡ map key.Label (ids_in (row_of t k))) same (have.labels_are ∙ ap (λ (r : Row). map key.Label (ids_in r)) row_is); shows = fits.shows.1 }
 
--- what is made of each read of a label is what is made of the item
-module _ {B : Type 0} (t : Tables) (make : ReadOf → B) (of : ℕ → B) (one : (read : ReadOf) (id : ℕ) → read.key ≡ key.Label id → row_of t read.key ≡ read.row → make read ≡ of id) where
-  pub each_shown : (ids : List ℕ) (labels : List ReadOf) → keys_of labels ≡ map key.Label ids → Shows t labels → map make labels ≡ map of ids
-  each_shown [] [] are shows = refl
-  each_shown [] (read ∷ labels) are shows = absurd cc
-  each_shown (id ∷ ids) [] are shows = absurd cc
-  each_shown (id ∷ ids) (read ∷ labels) are shows =
-      let head : read.key ≡ key.Label id = cc are in
-      let tail : keys_of labels ≡ map key.Label ids = cc are in
-      let first : make read ≡ of id = one read id head shows.0 in
-      let rest : map make labels ≡ map of ids = each_shown ids labels tail shows.1 in
-      cc (first, rest)
-
 -- one more, behind those of the first reads
 pub blocks_more : (make : ReadOf → Block) (labels : List ReadOf) (i : ℕ) (read : ReadOf) (old before after : List ℕ) → i < length labels → read ≡ get_or labels i read
     → before ≡ old ++ flat_map block_line (map make (take i labels)) → after ≡ before ++ block_line (make read) → after ≡ old ++ flat_map block_line (map make (take (i + 1) labels))
@@ -199,17 +180,6 @@ blocks_more make labels i read old before after within at so_far added =
 
 -- the links of a promotion
 
-title_shown : (t : Tables) (o : Option ItemRow) → title_in (shown (λ item. row.Label (label_of t item)) o) ≡ unwrap_or (option_map (λ i. i.title) o) []
-title_shown t None = refl
-title_shown t (Some x) = refl
-
-promoted_shown : (t : Tables) (ids : IdsAsked) (read : ReadOf) (id : ℕ) → read.key ≡ key.Label id → row_of t read.key ≡ read.row → promoted_in ids read ≡ promoted t ids id
-unfolding promoted
-promoted_shown t ids read id is shows =
-    let title = title_shown t (row_numbered t.items id) in
-    let row_is : read.row ≡ row_of t (key.Label id) = sym shows ∙ ap (row_of t) is in
-    cc
-
 related_shown : (o : Option ItemRow) → ids_in (shown row.Item o) ≡ unwrap_or (option_map (λ i. i.related) o) []
 related_shown None = refl
 related_shown (Some x) = refl
@@ -217,5 +187,5 @@ related_shown (Some x) = refl
 pub promotion_shown : (t : Tables) (ids : IdsAsked) (draw : ℕ) (labels : List ReadOf) → ShowsLabels t (key.Item (drawn_item t draw)) labels → map (promoted_in ids) labels ≡ promo t ids draw
 unfolding promo
 promotion_shown t ids draw labels shows =
-    each_shown t (promoted_in ids) (promoted t ids) (promoted_shown t ids) (ids_in (row_of t (key.Item (drawn_item t draw)))) labels shows.keys_are shows.shows
+    links_shown t ids (ids_in (row_of t (key.Item (drawn_item t draw)))) labels shows.keys_are shows.shows
     ∙ ap (map (promoted t ids)) (related_shown (row_numbered t.items (drawn_item t draw)))

@@ -23,7 +23,8 @@ use Rattle.shop_attempt.specs.Reads.{Shows}
 use Rattle.shop_browse.specs.Driver.{keys_of, Fits}
 use Rattle.shop_browse.specs.Labels.{ids_in, HaveLabels}
 use Rattle.shop_browse.specs.Lists.{label_in, line_in, lines_in, list_end, page_in}
-use Rattle.shop_browse.proofs.LabelsLemmas.{each_shown, labels_fit}
+use Rattle.shop_browse.proofs.cited.Labels.{each_shown}
+use Rattle.shop_browse.proofs.LabelsLemmas.{labels_fit}
 
 label_shown : (t : Tables) (o : Option ItemRow)
     → label_in (shown (λ item. row.Label (label_of t item)) o) ≡ unwrap_or (option_map (λ i. line_label i.title (author_of t i).first (author_of t i).last) o) []

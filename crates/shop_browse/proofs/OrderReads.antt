@@ -21,7 +21,7 @@ use Rattle.shop_attempt.specs.Reads.{AreTrue}
 use Rattle.shop_browse.specs.declared.attempted.Ask.{Ask}
 use Rattle.shop_browse.specs.Driver.{keys_of, AsksFor}
 use Rattle.shop_browse.specs.Footprints.{InFootprint, WasShown, IsOfOrder}
-use Rattle.shop_browse.proofs.LabelsLemmas.{labels_may}
+use Rattle.shop_browse.proofs.cited.Labels.{labels_may}
 use Rattle.shop_browse.specs.OrderDisplay.{Then, Ends, HasUser, HasLogin, HasLast, HasOrder, HasAddress, HasAll, AtCustomer, FollowsDisplay}
 
 -- one read more, behind what holds of those so far

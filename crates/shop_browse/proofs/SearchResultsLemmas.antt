@@ -15,8 +15,9 @@ use Rattle.shop_browse.specs.Driver.{keys_of, Fits, AsksFor}
 use Rattle.shop_browse.specs.Footprints.{InFootprint}
 use Rattle.shop_browse.specs.Lists.{page_in}
 use Rattle.shop_browse.specs.SearchResults.{FollowsSearch, head_of}
+use Rattle.shop_browse.proofs.cited.Labels.{labels_may}
 use Rattle.shop_browse.proofs.cited.Sizes.{size_of}
-use Rattle.shop_browse.proofs.LabelsLemmas.{labels_may, found_within}
+use Rattle.shop_browse.proofs.LabelsLemmas.{found_within}
 use Rattle.shop_browse.proofs.ListsLemmas.{page_shown}
 
 pub asks_found : (asked : SearchAsked) (ask : Ask) (round : ℕ) (reads : List ReadOf) (keys : List Key) → round ≡ 0 → FollowsSearch asked ask round reads

@@ -28,7 +28,7 @@ fn ids_in(row: &Row) -> &[u32]
 }
 
 /// The keys of the labels of items.
-pub(crate) fn label_keys(alloc: Global, ids: &[u32]) -> Result<Listed<Key>, Memory>
+pub fn label_keys(alloc: Global, ids: &[u32]) -> Result<Listed<Key>, Memory>
     ensures { IfOk result (λ keys. keys ≡ map Label ids.now) }
 {
     let mut keys = Listed::with_capacity(alloc, ids.len())?;
@@ -82,7 +82,7 @@ fn promoted(page: &mut Template, ids: PageIds, read: &ReadOf) -> Result<(), Memo
 }
 
 /// Adds a link to the page of each item whose label was read.
-pub(crate) fn promotion(page: &mut Template, ids: PageIds, labels: &[ReadOf]) -> Result<(), Memory>
+pub fn promotion(page: &mut Template, ids: PageIds, labels: &[ReadOf]) -> Result<(), Memory>
     ensures { OnOk result (Adds page.old page.new (λ drawn. flat_map block_line (map (spec.promoted_in (ids_at drawn ids)) labels.now))) }
 {
     for read in labels {

@@ -21,3 +21,4 @@ pub mod search_results;
 
 pub use attempted::{Ask, Attempted};
 pub use driver::{Interaction, Next, attempt_by};
+pub use labels::{label_keys, promotion};

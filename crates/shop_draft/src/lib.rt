@@ -4,6 +4,7 @@
 //! A word that is refused for want of memory leaves a page that was only added to; `begin` drops it.
 #![tactic(auto)]
 
+mod administration;
 mod blocks;
 mod customers;
 mod draft;

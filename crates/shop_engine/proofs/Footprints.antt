@@ -7,7 +7,7 @@ use Rattle.shop_model.specs.declared.address.AddressText.{AddressText}
 use Rattle.shop_model.specs.declared.buying.Buyer.{Buyer}
 use Rattle.shop_model.specs.declared.buying.Buyer.TheVariants.{Returning, Newcomer}
 use Rattle.shop_model.specs.declared.requests.Request.{Request}
-use Rattle.shop_model.specs.declared.requests.Request.TheVariants.{Home, NewProducts, BestSellers, ProductDetail, SearchRequest, SearchResults, CartRequest, CustomerRegistration, BuyRequest, BuyConfirm, OrderInquiry, OrderDisplay, AdminRequest}
+use Rattle.shop_model.specs.declared.requests.Request.TheVariants.{Home, NewProducts, BestSellers, ProductDetail, SearchRequest, SearchResults, CartRequest, CustomerRegistration, BuyRequest, BuyConfirm, OrderInquiry, OrderDisplay, AdminRequest, AdminConfirm}
 use Rattle.shop_model.specs.declared.tables.Tables.{Tables}
 use Rattle.shop_model.specs.asked.CartAsked.{CartAsked}
 use Rattle.shop_model.specs.trade.Carts.{lines_named}
@@ -21,7 +21,7 @@ use Rattle.shop_history.specs.declared.keys.Row.TheVariants as rows
 use Rattle.shop_history.specs.Keys.{row_of}
 use Rattle.shop_history.specs.Logs.{tables}
 use Rattle.shop_attempt.specs.Seats.{Seat, Follows}
-use Rattle.shop_browse.specs.Footprints.{IsAmong, WasOnCart, LeavesNoLine, IsCartItem, WasShown, IsShipAddress, IsLastOrder, IsUser, IsOfOrder, IsBuyer, IsShippedTo, drawn_item, IsAbout, InFootprint, IsLabel}
+use Rattle.shop_browse.specs.Footprints.{IsAmong, WasOnCart, LeavesNoLine, IsCartItem, WasShown, IsShipAddress, IsLastOrder, IsUser, IsOfOrder, IsBuyer, IsShippedTo, IsBoughtBeside, drawn_item, IsAbout, InFootprint, IsLabel}
 use Rattle.shop_browse.proofs.cited.Sizes.{same_size}
 
 drawn_later : (t : Tables) (log longer : List Entry) (draw : ℕ) → drawn_item (tables t log) draw ≡ drawn_item (tables t longer) draw
@@ -99,6 +99,9 @@ module _ (t : Tables) (log longer : List Entry) (extends : Extends log longer) w
   shipped_later c None key is = (is.0, shown_later (keys.Customer c) (rows.Customer is.0) is.1, is.2)
   shipped_later c (Some text) key is = is
 
+  beside_later : (item : ℕ) (key : Key) → IsBoughtBeside t log item key → IsBoughtBeside t longer item key
+  beside_later item key is = (is.0, shown_later (keys.Buyers item) (rows.Customers is.0) is.1, is.2, is.3, is.4)
+
 bought_later : (t : Tables) (log longer : List Entry) (cart : ℕ) (key : Key) → Extends log longer → (item : ℕ) × WasOnCart t log cart item × (key ≡ keys.Item item)
     → (item : ℕ) × WasOnCart t longer cart item × (key ≡ keys.Item item)
 bought_later t log longer cart key extends item = (item.0, on_cart_later t log longer cart item.0 extends item.1, item.2)
@@ -136,6 +139,10 @@ about_later t log longer (OrderDisplay asked) draw key extends may = ⊎_elim
     (λ (order : IsOfOrder t log asked.login.user key). inr (of_order_later t log longer extends asked.login.user key order))
     may
 about_later t log longer (AdminRequest asked) draw key extends may = may
+about_later t log longer (AdminConfirm asked) draw key extends may = ⊎_elim
+    (λ (named : (key ≡ keys.Item asked.item) ⊎ (key ≡ keys.Buyers asked.item)). inl named)
+    (λ (bought : IsBoughtBeside t log asked.item key). inr (beside_later t log longer extends asked.item key bought))
+    may
 
 footprint_longer : (t : Tables) (log longer : List Entry) (request : Request) (draw : ℕ) (key : Key) → Extends log longer → InFootprint t log request draw key → InFootprint t longer request draw key
 footprint_longer t log longer request draw key extends may = ⊎_elim

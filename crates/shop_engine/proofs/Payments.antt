@@ -11,7 +11,7 @@ use Rattle.shop_edges.specs.Gateways.{Answered}
 use Rattle.shop_edges.specs.Payments.{Keeps, AsksOnce}
 use Rattle.shop_edges.proofs.cited.Answering.{answered_nothing, answered_more}
 use Rattle.shop_history.specs.declared.acts.Act.{Act}
-use Rattle.shop_history.specs.declared.acts.Act.TheVariants.{Cart, Enter, Confirm}
+use Rattle.shop_history.specs.declared.acts.Act.TheVariants.{Cart, Enter, Confirm, Admin}
 use Rattle.shop_attempt.specs.Seats.{Seat}
 use Rattle.shop_browse.specs.Attempts.{IsFree}
 use Rattle.shop_order.specs.Payments.{Call}
@@ -98,4 +98,5 @@ pub free_paid : (act : Option Act) → IsFree act → (t : Tables) (call : Call)
 free_paid None free t call answers = tt
 free_paid (Some (Cart asked draw)) free t call answers = tt
 free_paid (Some (Enter asked draw)) free t call answers = tt
+free_paid (Some (Admin asked)) free t call answers = tt
 free_paid (Some (Confirm asked draw auth)) free t call answers = absurd free

@@ -36,8 +36,8 @@ use Rattle.shop_engine.specs.declared.tries.Job.{Job}
 use Rattle.shop_engine.specs.declared.tries.Tried.TheVariants.{Denied, Failed}
 use Rattle.shop_engine.specs.Tries.{HasAsked, IsPaidFor, MaySettle, TriedAs, asking_for, called_by}
 use Rattle.shop_engine.proofs.Payments.{asked_for, kept_said}
-use Rattle.shop_engine.proofs.Seats.{stays_looked}
-use Rattle.shop_engine.proofs.SettleLemmas.{stays_confirmed, agrees_found}
+use Rattle.shop_engine.proofs.Seats.{stays_looked, stays_confirmed}
+use Rattle.shop_engine.proofs.SettleLemmas.{agrees_found}
 
 -- what came of a purchase whose rows are read
 

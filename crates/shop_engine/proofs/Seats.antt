@@ -1,10 +1,14 @@
 -- What settles leave of a caller's entries, its counts and its latest stamp, one after another.
-use Rattle.std.proofs.Common.{◌≡◌, ℕ, ◌+◌, ◌≤◌, min, max, List, [], ◌++◌, Some, None, IsSome, refl, sym, ◌∙◌, ap, subst, arith, append_assoc, append-nil}
+use Rattle.std.proofs.Common.{◌≡◌, ℕ, ◌+◌, ◌≤◌, min, max, List, [], ◌∷◌, ◌++◌, Some, None, IsSome, refl, sym, ◌∙◌, ap, subst, arith, append_assoc, append-nil, eqb}
 use Rattle.std.specs.declared.option.Option.{Option}
+use Rattle.std.proofs.lemmas.Bool.{eq-eqb, cond-true}
+use Rattle.std.proofs.lemmas.List.Elements.{filter-append}
+use Rattle.shop_history.specs.declared.acts.Drawn.{Drawn}
 use Rattle.shop_history.specs.declared.acts.Entry.{Entry}
 use Rattle.shop_history.specs.Logs.{entries_of}
-use Rattle.shop_attempt.specs.Seats.{Seat, Looked, last_count}
-use Rattle.shop_attempt.specs.Settles.{raised}
+use Rattle.shop_attempt.specs.declared.attempts.Attempt.{Attempt}
+use Rattle.shop_attempt.specs.Seats.{Seat, Looked, last_count, Follows, RoseOnce}
+use Rattle.shop_attempt.specs.Settles.{raised, Found, Refused, Confirmed}
 use Rattle.shop_attempt.proofs.cited.Looks.{follows_trans, looked_self}
 use Rattle.shop_engine.specs.Seats.{Stays}
 use Rattle.shop_engine.specs.Tries.{StaysWithin}
@@ -105,3 +109,46 @@ within_trans a b c entries others one more most moment p q few = record {
 
 pub within_of : (old new : Seat) (entries : List Entry) (settles most moment : ℕ) → Stays old new entries settles moment → settles ≤ most → StaysWithin old new entries most moment
 within_of old new entries settles most moment stays few = record { made = settles; few = few; stays = stays }
+
+-- an attempt and its settle, behind whose log found these entries of the caller stand
+
+entries_none : (caller : ℕ) → entries_of caller [] ≡ []
+entries_none caller = refl
+
+pub entries_one : (caller : ℕ) (entry : Entry) → entry.caller ≡ caller → entries_of caller (entry ∷ []) ≡ entry ∷ []
+entries_one caller entry same = cond-true (eqb entry.caller caller) (entry ∷ []) [] (eq-eqb entry.caller caller same)
+
+pub stays_found : (start old new : Seat) (found entries : List Entry) (moment : ℕ) → Looked start old → Follows old new → RoseOnce old.settles new.settles → Found old found
+    → new.seen ≡ found ++ entries → entries_of old.caller entries ≡ entries → new.own ≡ old.own ++ entries → new.greatest ≤ max old.greatest moment → StampRose old.latest new.latest moment
+    → Stays start new entries 1 moment
+stays_found start old new found entries moment looked follows rose is_found seen own_are own greatest stamp = record {
+  follows = follows_trans start old new looked.follows follows;
+  mine =
+      ap (λ c. entries_of c new.seen) follows.caller
+      ∙ ap (entries_of old.caller) seen
+      ∙ filter-append (λ (e : Entry). eqb e.caller old.caller) found entries
+      ∙ ap (λ (l : List Entry). l ++ entries_of old.caller entries) (is_found.mine ∙ looked.mine)
+      ∙ ap (λ (l : List Entry). entries_of start.caller start.seen ++ l) own_are;
+  own = own ∙ ap (λ (l : List Entry). l ++ entries) looked.own;
+  rose = omega (arith, rose.rose, looked.settles);
+  kept = omega (arith, rose.kept, looked.settles);
+  most = omega (arith, rose.once, looked.settles);
+  greatest = omega (arith, greatest, looked.greatest);
+  stamp = subst (λ o. StampRose o new.latest moment) looked.latest stamp;
+  alone = λ told.
+      seen ∙ ap (λ (l : List Entry). l ++ entries) (is_found.alone (subst IsSome (sym looked.latest) told) ∙ looked.alone told);
+}
+
+-- a refusal
+pub stays_refused : (start old new : Seat) (moment : ℕ) → Looked start old → Follows old new → RoseOnce old.settles new.settles → Refused old new → Stays start new [] 1 moment
+stays_refused start old new moment looked follows rose refused =
+    stays_found start old new new.seen [] moment looked follows rose refused.found (sym (append-nil new.seen)) (entries_none old.caller) (refused.own ∙ sym (append-nil old.own))
+    (omega (arith, refused.greatest)) (stamp_kept old.latest new.latest moment refused.latest)
+
+-- a settle that changes nothing
+pub stays_confirmed : (start old new : Seat) (moment : ℕ) (attempt : Attempt) (drawn : Drawn) → Looked start old → Follows old new → RoseOnce old.settles new.settles → attempt.moment ≡ moment
+    → Confirmed old new attempt drawn → Stays start new [] 1 moment
+stays_confirmed start old new moment attempt drawn looked follows rose at was =
+    stays_found start old new new.seen [] moment looked follows rose was.accepted.is_found (sym (append-nil new.seen)) (entries_none old.caller) (was.own ∙ sym (append-nil old.own))
+    (omega (arith, was.accepted.greatest, at))
+    (stamp_raised old.latest new.latest moment (was.accepted.latest ∙ ap (raised old.latest) at))

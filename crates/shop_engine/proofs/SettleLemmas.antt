@@ -1,8 +1,6 @@
 -- What a settle shows of an attempt whose page is written.
-use Rattle.std.proofs.Common.{◌≡◌, ℕ, ◌+◌, ◌-◌, ◌≤◌, max, true, false, eqb, List, [], ◌∷◌, ◌++◌, length, Option, Some, None, IsSome, is_some, slice_get, refl, sym, ◌∙◌, ap, subst, arith, append-nil, append_assoc, length-append}
-use Rattle.std.proofs.lemmas.Bool.{eq-eqb, cond-true}
+use Rattle.std.proofs.Common.{◌≡◌, ℕ, ◌+◌, ◌-◌, ◌≤◌, max, true, false, List, [], ◌∷◌, ◌++◌, length, Option, Some, None, IsSome, is_some, slice_get, refl, sym, ◌∙◌, ap, subst, arith, append_assoc, length-append}
 use Rattle.std.proofs.lemmas.List.{take-append-le, take_all}
-use Rattle.std.proofs.lemmas.List.Elements.{filter-append}
 use Rattle.shop_log.specs.Histories.{Extends}
 use Rattle.shop_log.proofs.cited.Extends.{extends_self, extends_trans}
 use Rattle.shop_log.proofs.cited.Legality.{legal_shorter, legal_last}
@@ -15,13 +13,13 @@ use Rattle.shop_model.specs.pages.Show.{is_changing, check}
 use Rattle.shop_model.specs.asked.Refusals.{page_of}
 use Rattle.shop_edges.specs.declared.gateway.Answer.{Answer}
 use Rattle.shop_history.specs.declared.acts.Act.{Act}
-use Rattle.shop_history.specs.declared.acts.Act.TheVariants.{Cart, Enter, Confirm}
+use Rattle.shop_history.specs.declared.acts.Act.TheVariants.{Cart, Enter, Confirm, Admin}
 use Rattle.shop_history.specs.declared.acts.Drawn.{Drawn}
 use Rattle.shop_history.specs.declared.acts.Entry.{Entry}
 use Rattle.shop_history.specs.declared.acts.Ids.{Ids}
 use Rattle.shop_history.specs.Acts.{play, request_of, IsActOf}
 use Rattle.shop_history.specs.Drawing.{new_ids}
-use Rattle.shop_history.specs.Logs.{tables, entries_of, page_at, Legal, MayFollow}
+use Rattle.shop_history.specs.Logs.{tables, page_at, Legal, MayFollow}
 use Rattle.shop_history.proofs.cited.Places.{push_here, row_there}
 use Rattle.shop_history.proofs.cited.Rows.{tables_push}
 use Rattle.shop_draft.specs.declared.draft.Draft.{Draft}
@@ -33,61 +31,16 @@ use Rattle.shop_attempt.specs.declared.attempts.Write.{Write}
 use Rattle.shop_attempt.specs.Faithful.{Faithful, MakesAct}
 use Rattle.shop_attempt.specs.Reads.{Agrees, AreTrue, first_stale}
 use Rattle.shop_attempt.specs.Seats.{Seat, IsSeat, Follows, Looked, RoseOnce}
-use Rattle.shop_attempt.specs.Settles.{Found, Refused, Accepted, Confirmed, Added, DoneAs, SettledAs, raised}
+use Rattle.shop_attempt.specs.Settles.{Accepted, Confirmed, Added, DoneAs, SettledAs, raised}
 use Rattle.shop_attempt.proofs.cited.Settles.{true_longer_all, agrees_now}
-use Rattle.shop_attempt.proofs.cited.Looks.{follows_trans}
 use Rattle.shop_pages.specs.Replies.{reply}
 use Rattle.shop_browse.specs.Attempts.{IsDraftOf, Becomes}
 use Rattle.shop_engine.specs.declared.report.PointKind.TheVariants.{At, Change, Full as FullKind}
 use Rattle.shop_engine.specs.declared.tries.Job.{Job}
 use Rattle.shop_engine.specs.Payments.{IsPaid}
-use Rattle.shop_engine.specs.Seats.{Stays}
 use Rattle.shop_engine.specs.Tries.{IsAnswer, IsPaidFor, MaySettle, asking_for, called_by}
 use Rattle.shop_engine.proofs.Payments.{asked_for}
-use Rattle.shop_engine.proofs.Seats.{StampRose, stamp_kept, stamp_raised}
-
--- an attempt and its settle, behind whose log found these entries of the caller stand
-
-entries_none : (caller : ℕ) → entries_of caller [] ≡ []
-entries_none caller = refl
-
-entries_one : (caller : ℕ) (entry : Entry) → entry.caller ≡ caller → entries_of caller (entry ∷ []) ≡ entry ∷ []
-entries_one caller entry same = cond-true (eqb entry.caller caller) (entry ∷ []) [] (eq-eqb entry.caller caller same)
-
-stays_found : (start old new : Seat) (found entries : List Entry) (moment : ℕ) → Looked start old → Follows old new → RoseOnce old.settles new.settles → Found old found
-    → new.seen ≡ found ++ entries → entries_of old.caller entries ≡ entries → new.own ≡ old.own ++ entries → new.greatest ≤ max old.greatest moment → StampRose old.latest new.latest moment
-    → Stays start new entries 1 moment
-stays_found start old new found entries moment looked follows rose is_found seen own_are own greatest stamp = record {
-  follows = follows_trans start old new looked.follows follows;
-  mine =
-      ap (λ c. entries_of c new.seen) follows.caller
-      ∙ ap (entries_of old.caller) seen
-      ∙ filter-append (λ (e : Entry). eqb e.caller old.caller) found entries
-      ∙ ap (λ (l : List Entry). l ++ entries_of old.caller entries) (is_found.mine ∙ looked.mine)
-      ∙ ap (λ (l : List Entry). entries_of start.caller start.seen ++ l) own_are;
-  own = own ∙ ap (λ (l : List Entry). l ++ entries) looked.own;
-  rose = omega (arith, rose.rose, looked.settles);
-  kept = omega (arith, rose.kept, looked.settles);
-  most = omega (arith, rose.once, looked.settles);
-  greatest = omega (arith, greatest, looked.greatest);
-  stamp = subst (λ o. StampRose o new.latest moment) looked.latest stamp;
-  alone = λ told.
-      seen ∙ ap (λ (l : List Entry). l ++ entries) (is_found.alone (subst IsSome (sym looked.latest) told) ∙ looked.alone told);
-}
-
--- a refusal
-pub stays_refused : (start old new : Seat) (moment : ℕ) → Looked start old → Follows old new → RoseOnce old.settles new.settles → Refused old new → Stays start new [] 1 moment
-stays_refused start old new moment looked follows rose refused =
-    stays_found start old new new.seen [] moment looked follows rose refused.found (sym (append-nil new.seen)) (entries_none old.caller) (refused.own ∙ sym (append-nil old.own))
-    (omega (arith, refused.greatest)) (stamp_kept old.latest new.latest moment refused.latest)
-
--- a settle that changes nothing
-pub stays_confirmed : (start old new : Seat) (moment : ℕ) (attempt : Attempt) (drawn : Drawn) → Looked start old → Follows old new → RoseOnce old.settles new.settles → attempt.moment ≡ moment
-    → Confirmed old new attempt drawn → Stays start new [] 1 moment
-stays_confirmed start old new moment attempt drawn looked follows rose at was =
-    stays_found start old new new.seen [] moment looked follows rose was.accepted.is_found (sym (append-nil new.seen)) (entries_none old.caller) (was.own ∙ sym (append-nil old.own))
-    (omega (arith, was.accepted.greatest, at))
-    (stamp_raised old.latest new.latest moment (was.accepted.latest ∙ ap (raised old.latest) at))
+use Rattle.shop_engine.proofs.Seats.{stamp_raised, entries_one, stays_found, stays_refused, stays_confirmed}
 
 -- where no read is stale in the log found, the tables after it agree with the reads
 
@@ -237,6 +190,7 @@ act_changes : (act : Act) → is_changing (request_of act) ≡ true
 act_changes (Cart asked draw) = refl
 act_changes (Enter asked draw) = refl
 act_changes (Confirm asked draw auth) = refl
+act_changes (Admin asked) = refl
 
 passes_there : (opening : Tables) (reads : List ReadOf) (act : Act) (writes : Option (List Write)) (t : Tables) (stamp : ℕ) → MakesAct opening reads (Some act) writes → Agrees opening t reads → stamp ≤ stamp_limit
     → check t (request_of act) ≡ None

@@ -27,8 +27,8 @@ use Rattle.shop_engine.specs.declared.tries.Tried.{Tried}
 use Rattle.shop_engine.specs.Tries.{IsAgain, IsTried, HasAsked, StaysWithin, TriedAs, Trying, asking_for}
 use Rattle.shop_engine.proofs.Footprints.{footprint_later}
 use Rattle.shop_engine.proofs.Payments.{asks_nothing, asks_once, has_asked}
-use Rattle.shop_engine.proofs.Seats.{stays_looked, within_of}
-use Rattle.shop_engine.proofs.SettleLemmas.{stays_refused, agrees_found}
+use Rattle.shop_engine.proofs.Seats.{stays_looked, stays_refused, within_of}
+use Rattle.shop_engine.proofs.SettleLemmas.{agrees_found}
 
 -- memory
 

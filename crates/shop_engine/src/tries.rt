@@ -85,15 +85,7 @@ fn try_once<St: Store, G: Gateway>(
             };
             let draft = reply.draft();
             match pay(
-                alloc,
-                &job.ask,
-                asked.get(),
-                job.caller,
-                job.call,
-                attempt,
-                kept,
-                gateway,
-                draft,
+                alloc, &job.ask, asked, job.caller, job.call, attempt, kept, gateway, draft,
             ) {
                 Paid::Approved(attempt) => settle_page(store, job, attempt, reply),
                 Paid::Denied(attempt, reason) => settle_denied(store, job, attempt, reason, reply),

@@ -9,3 +9,5 @@ pub mod SoundPurchases
 pub mod EnterFrame
 pub mod WindowFrame
 pub mod SaleFrame
+pub mod SoundMending
+pub mod MendFrame

@@ -1,7 +1,6 @@
 -- What a customer who buys a cart leaves as it was.
-use Rattle.std.proofs.Common.{◌≡◌, ℕ, zero, suc, ◌+◌, ◌-◌, ◌<◌, ◌≤◌, ◌==◌, ◌||◌, Bool, true, false, cond, eqb, List, [], ◌∷◌, ◌++◌, length, map, filter, take, sum_by, get_or, All, ltb, Option, Some, None, option_map, unwrap_or, slice_get, slice_set, Contains, ◌⊎◌, inl, inr, ⊎_elim, refl, sym, ◌∙◌, ap, subst, arith}
+use Rattle.std.proofs.Common.{◌≡◌, ℕ, zero, suc, ◌+◌, ◌-◌, ◌<◌, ◌≤◌, ◌==◌, ◌||◌, Bool, true, false, cond, eqb, List, [], ◌∷◌, ◌++◌, length, map, filter, take, get_or, All, ltb, Option, Some, None, option_map, unwrap_or, slice_get, Contains, ◌⊎◌, inl, inr, ⊎_elim, refl, sym, ◌∙◌, ap, subst, arith}
 use Rattle.std.specs.List.{list_any, flat_map, find}
-use Rattle.std.specs.Ordering.{is_gt}
 use Rattle.std.specs.Str.{bytes_eq}
 use Rattle.std.specs.declared.cmp.Ordering.{Ordering}
 use Rattle.std.proofs.lemmas.Bool.{cases_eq, eqb-true, cond-true, cond-false}
@@ -14,7 +13,7 @@ use Rattle.shop_model.specs.declared.address.AddressText.{AddressText}
 use Rattle.shop_model.specs.declared.subject.Subject.{Subject}
 use Rattle.shop_model.specs.declared.tables.Tables.{Tables}
 use Rattle.shop_model.specs.asked.PurchaseAsked.{PurchaseAsked}
-use Rattle.shop_model.specs.lists.Rankings.{put_among, in_order, newer, newest, better, Sale, sales, best, sold_lately, in_subject}
+use Rattle.shop_model.specs.lists.Rankings.{put_among, in_order, newer, newest, better, Sale, best, sold_lately, in_subject}
 use Rattle.shop_model.specs.lists.Related.{Sold, sold_of, has_item, is_of, ascending, totals_of, recent, buyers, bought}
 use Rattle.shop_model.specs.pages.Priced.{order_lines}
 use Rattle.shop_model.specs.rows.Limits.{list_limit, counted_orders, recent_orders}
@@ -26,7 +25,7 @@ use Rattle.shop_model.specs.rows.Subjects.{subjects, subject_name, subject_of}
 use Rattle.shop_model.specs.trade.Buyers.{says_same, address_saying, addresses_with}
 use Rattle.shop_model.specs.trade.Carts.{lines_named}
 use Rattle.shop_model.specs.trade.Sales.{ship_addresses, new_order, sold_item, with_order, with_purchase}
-use Rattle.shop_model.specs.trade.Stocks.{times_restocked, stock_after}
+use Rattle.shop_model.specs.trade.Stocks.{times_restocked}
 use Rattle.shop_model.proofs.cited.Restocking.{IsRestocked, restocked}
 use Rattle.shop_history.specs.MayChange.{items_of, subject_at, ranks_change, buyers_change, unranked_changes, forgotten_changes, lists_change, address_changes, ship_changes, purchase_changes, leaving}
 use Rattle.shop_history.specs.declared.keys.Key.{Key}

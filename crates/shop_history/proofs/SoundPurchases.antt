@@ -1,26 +1,23 @@
 -- Sound tables stay sound as a customer buys a cart.
-use Rattle.std.proofs.Common.{◌≡◌, ◌≢◌, ℕ, zero, suc, ◌+◌, ◌-◌, ◌*◌, ◌%◌, ◌^◌, ◌<◌, ◌≤◌, min, List, [], ◌∷◌, ◌++◌, length, map, All, Option, Some, None, IfSome, option_map, unwrap_or, get_or, refl, sym, ◌∙◌, ap, subst, arith, length-append, slice_set}
+use Rattle.std.proofs.Common.{◌≡◌, ℕ, suc, ◌+◌, ◌-◌, ◌*◌, ◌^◌, ◌<◌, ◌≤◌, List, [], ◌∷◌, length, map, All, Option, Some, None, IfSome, option_map, unwrap_or, get_or, refl, sym, ◌∙◌, ap, subst, arith, length-append, slice_set}
 use Rattle.std.specs.List.{range_with_len}
 use Rattle.std.proofs.lemmas.List.{length-map, length-set}
-use Rattle.std.proofs.lemmas.List.Elements.{All-weaker, All-map, All-nil}
-use Rattle.std.proofs.lemmas.Option.{slice_get_within, get_or_from_slice_get}
+use Rattle.std.proofs.lemmas.List.Elements.{All-map}
+use Rattle.std.proofs.lemmas.Option.{slice_get_within}
 use Rattle.shop_model.specs.declared.address.Address.{Address}
 use Rattle.shop_model.specs.declared.address.AddressText.{AddressText}
 use Rattle.shop_model.specs.declared.tables.Tables.{Tables}
 use Rattle.shop_model.specs.asked.CustomersAsked.{IsAddressAsked}
 use Rattle.shop_model.specs.asked.PurchaseAsked.{PurchaseAsked, IsPurchaseAsked}
-use Rattle.shop_model.specs.rows.Limits.{stamp_limit, day_limit, price_limit, quantity_limit, restocks_limit}
-use Rattle.shop_model.specs.rows.Lookups.{row_numbered, cost_of, country_of}
+use Rattle.shop_model.specs.rows.Limits.{stamp_limit, price_limit, restocks_limit}
+use Rattle.shop_model.specs.rows.Lookups.{row_numbered, cost_of}
 use Rattle.shop_model.specs.rows.Rows.{ItemRow, CustomerRow, CartRow, LineRow, OrderRow, IsItem, IsLine, IsCustomer}
-use Rattle.shop_model.specs.rows.Sound.{Sound, Room, Has, HasLines, IsQuantity, IsStocked, OrderNames, units_in}
-use Rattle.shop_model.specs.trade.Buyers.{says_same, address_saying, addresses_with, address_id}
-use Rattle.shop_model.specs.trade.Carts.{lines_named}
+use Rattle.shop_model.specs.rows.Sound.{Sound, Room, Has, IsQuantity, IsStocked, units_in}
+use Rattle.shop_model.specs.trade.Buyers.{says_same, address_saying, addresses_with}
 use Rattle.shop_model.specs.trade.Money.{totals}
 use Rattle.shop_model.specs.trade.Sales.{bought_lines, ship_addresses, ship_id, ship_country, order_for, new_order, sold_item, with_order, with_purchase}
 use Rattle.shop_model.specs.pages.Priced.{order_lines}
-use Rattle.shop_model.specs.trade.Stocks.{times_restocked}
 use Rattle.shop_model.proofs.cited.Restocking.{IsRestocked, restocked}
-use Rattle.shop_history.specs.Logs.{IsGood}
 use Rattle.shop_history.proofs.Lines.{AreFit, none_fit}
 use Rattle.shop_history.proofs.OrderLines.{lines_length, lines_numbered, lines_all, units_few}
 use Rattle.shop_history.proofs.SoundCarts.{AreSound, carts_sound, sound_with, set_sound}

@@ -1,18 +1,17 @@
 -- Sound tables stay sound with an order more.
-use Rattle.std.proofs.Common.{◌≡◌, ◌≢◌, ℕ, zero, suc, ◌+◌, ◌-◌, ◌*◌, ◌^◌, ◌<◌, ◌≤◌, List, [], ◌∷◌, ◌++◌, length, map, All, AllPairs, Some, None, Option, IfSome, slice_set, filter, sum_by, eqb, ltb, Bool, true, refl, sym, ◌∙◌, ap, subst, arith, length-append, get_or}
+use Rattle.std.proofs.Common.{◌≡◌, ℕ, ◌+◌, ◌-◌, ◌^◌, ◌<◌, ◌≤◌, List, [], ◌∷◌, ◌++◌, length, map, All, Some, None, Option, IfSome, slice_set, filter, sum_by, ltb, Bool, true, refl, sym, ◌∙◌, ap, subst, arith, length-append, get_or}
 use Rattle.std.specs.List.{range_with_len}
 use Rattle.std.proofs.lemmas.List.{length-map, map-append}
 use Rattle.std.proofs.lemmas.List.Elements.{All-weaker, All-map, All-push, All-set, filter-append}
 use Rattle.std.proofs.lemmas.List.Sums.{sum_by_push}
 use Rattle.std.proofs.lemmas.Bool.{cond-true}
 use Rattle.shop_model.specs.declared.tables.Tables.{Tables}
-use Rattle.shop_model.specs.rows.Limits.{stock_limit, restocks_limit}
+use Rattle.shop_model.specs.rows.Limits.{restocks_limit}
 use Rattle.shop_model.specs.rows.Rows.{ItemRow, OrderRow, CustomerRow, IsItem, IsOrder, IsLine, IsCardUse}
-use Rattle.shop_model.specs.rows.Sound.{Sound, Has, HasLines, HasFive, IsCharged, IsPaid, IsStocked, OrderNames, Runs, IdsRun, NamesExist, InBounds, AuthorsExist, units_in, sold, last_of}
+use Rattle.shop_model.specs.rows.Sound.{Sound, Has, HasLines, HasFive, IsCharged, IsPaid, IsStocked, OrderNames, Runs, units_in, sold, last_of}
 use Rattle.shop_model.proofs.cited.Lists.{id_of_place}
 use Rattle.shop_model.proofs.cited.LastOrders.{lasts_step}
 use Rattle.shop_history.proofs.SoundCarts.{runs_push}
-use Rattle.shop_model.specs.trade.Stocks.{stock_after, times_restocked}
 use Rattle.shop_model.specs.trade.Sales.{sold_item, with_order}
 use Rattle.shop_model.proofs.cited.Restocking.{IsRestocked, restocked}
 

@@ -5,23 +5,26 @@ use Rattle.shop_model.specs.declared.requests.Request.{Request}
 use Rattle.shop_model.specs.declared.buying.BuyRequest as buying
 use Rattle.shop_model.specs.declared.buying.Buyer.{Buyer}
 use Rattle.shop_model.specs.declared.buying.Buyer.TheVariants.{Returning, Newcomer}
-use Rattle.shop_model.specs.declared.refusal.Refusal.TheVariants.{NoUserName, NoCustomer}
-use Rattle.shop_model.specs.declared.requests.Request.TheVariants.{CartRequest, BuyRequest, BuyConfirm}
+use Rattle.shop_model.specs.declared.refusal.Refusal.TheVariants.{NoUserName, NoCustomer, NoItem}
+use Rattle.shop_model.specs.declared.requests.Request.TheVariants.{CartRequest, BuyRequest, BuyConfirm, AdminConfirm}
 use Rattle.shop_model.specs.declared.tables.Tables.{Tables}
+use Rattle.shop_model.specs.asked.AdminAsked.{AdminAsked, IsAdminAsked}
 use Rattle.shop_model.specs.asked.CartAsked.{CartAsked, IsCartAsked}
 use Rattle.shop_model.specs.asked.CustomersAsked.{IsLoginAsked, IsNewcomerAsked}
 use Rattle.shop_model.specs.asked.PurchaseAsked.{PurchaseAsked, IsPurchaseAsked}
 use Rattle.shop_model.specs.asked.Refusals.{page_of}
 use Rattle.shop_model.specs.rows.Lookups.{row_numbered}
-use Rattle.shop_model.specs.rows.Rows.{CustomerRow}
+use Rattle.shop_model.specs.rows.Rows.{CustomerRow, ItemRow}
 use Rattle.shop_model.specs.trade.Buyers.{buyer_row, tables_entered}
 use Rattle.shop_model.specs.trade.Carts.{lines_named, lines_after, cart_meant, carts_with}
+use Rattle.shop_model.specs.trade.Mending.{mended_item, tables_mended}
 use Rattle.shop_model.specs.trade.Sales.{new_order, tables_bought}
+use Rattle.shop_model.specs.pages.AdminConfirm.{mended_page}
 use Rattle.shop_model.specs.pages.BuyConfirm.{confirm_page, purchase_ids}
 use Rattle.shop_model.specs.pages.BuyRequest.{buy_request}
 use Rattle.shop_model.specs.pages.ShoppingCart.{cart_page, ids_with}
 use Rattle.shop_history.specs.declared.acts.Act.{Act}
-use Rattle.shop_history.specs.declared.acts.Act.TheVariants.{Cart, Enter, Confirm}
+use Rattle.shop_history.specs.declared.acts.Act.TheVariants.{Cart, Enter, Confirm, Admin}
 
 -- what an act gives: the tables, and the page
 pub record Played : Type 0 where
@@ -62,23 +65,38 @@ play_confirm t stamp asked draw auth = record {
   page = purchase_page t stamp draw auth asked (row_numbered t.customers asked.c);
 }
 
+-- what is shown of an item that was administered; there is one where the check is none
+abbrev pub administered_page : Tables → ℕ → AdminAsked → Option ItemRow → Page
+administered_page t stamp asked None = page_of NoItem
+administered_page t stamp asked (Some item) = mended_page t asked.ids (mended_item t stamp asked item)
+
+-- what the administration of an item gives
+abbrev pub play_admin : Tables → ℕ → AdminAsked → Played
+play_admin t stamp asked = record {
+  tables = tables_mended t stamp asked;
+  page = administered_page t stamp asked (row_numbered t.items asked.item);
+}
+
 -- what an act gives at a stamp, where the check of its request is none
 abbrev pub play : Tables → ℕ → Act → Played
 play t stamp (Cart asked draw) = play_cart t asked draw
 play t stamp (Enter asked draw) = play_enter t stamp asked draw
 play t stamp (Confirm asked draw auth) = play_confirm t stamp asked draw auth
+play t stamp (Admin asked) = play_admin t stamp asked
 
 -- the request that an act does
 abbrev pub request_of : Act → Request
 request_of (Cart asked draw) = CartRequest asked
 request_of (Enter asked draw) = BuyRequest asked
 request_of (Confirm asked draw auth) = BuyConfirm asked
+request_of (Admin asked) = AdminConfirm asked
 
--- an act has the word that was drawn for its request
+-- an act has the word that was drawn for its request, if it needs it
 abbrev pub HasDrawn : ℕ → Act → Type 0
 HasDrawn draw (Cart asked word) = word ≡ draw
 HasDrawn draw (Enter asked word) = word ≡ draw
 HasDrawn draw (Confirm asked word auth) = word ≡ draw
+HasDrawn draw (Admin asked) = Unit {0}
 
 -- an act does this request, with this word
 pub record IsActOf (request : Request) (draw : ℕ) (act : Act) : Type 0 where
@@ -95,3 +113,4 @@ abbrev pub IsInForm : Act → Type 0
 IsInForm (Cart asked draw) = IsCartAsked asked
 IsInForm (Enter asked draw) = IsBuyer asked.buyer
 IsInForm (Confirm asked draw auth) = IsPurchaseAsked asked
+IsInForm (Admin asked) = IsAdminAsked asked

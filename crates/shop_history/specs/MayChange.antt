@@ -1,5 +1,5 @@
 -- Which keys an act can change; what every other key shows stays.
-use Rattle.std.specs.Prelude.{ℕ, ◌+◌, ◌-◌, nat_lt, List, [], ◌∷◌, ◌++◌, length, map, flat_map, slice_get, Option, Some, None, option_map, unwrap_or, if◌then◌else◌}
+use Rattle.std.specs.Prelude.{ℕ, ◌+◌, ◌-◌, nat_lt, List, [], ◌∷◌, ◌++◌, length, map, slice_get, Option, Some, None, option_map, unwrap_or, if◌then◌else◌}
 use Rattle.shop_text.specs.Texts.{digsyl}
 use Rattle.shop_model.specs.declared.address.Address.{Address}
 use Rattle.shop_model.specs.declared.address.AddressText.{AddressText}
@@ -95,3 +95,5 @@ abbrev pub may_change : Tables → Act → List Key
 may_change t (act.TheVariants.Cart asked draw) = key.TheVariants.Cart (cart_meant t.carts asked.ids.cart) ∷ []
 may_change t (act.TheVariants.Enter asked draw) = buyer_changes t asked.buyer
 may_change t (act.TheVariants.Confirm asked draw auth) = purchase_changes t asked
+may_change t (act.TheVariants.Admin asked) =
+    key.TheVariants.Item asked.item ∷ key.TheVariants.NewIn (subject_at t asked.item) ∷ []

@@ -1,5 +1,5 @@
-use shop_model::{AuthId, BuyConfirm, BuyRequest, CartRequest};
-use shop_text::Boxed;
+use shop_model::{AdminConfirm, AuthId, BuyConfirm, BuyRequest, CartRequest};
+use shop_text::Shared;
 
 /// What an accepted request does.
 #[derive(Debug, Drop)]
@@ -10,7 +10,9 @@ pub enum Act {
     Enter(BuyRequest, u32),
     /// That a customer buys what a cart has, with the word that was drawn, and what the card's payment was
     /// authorised by.
-    Confirm(Boxed<BuyConfirm>, u32, AuthId),
+    Confirm(Shared<BuyConfirm>, u32, AuthId),
+    /// What Admin Confirm makes of an item.
+    Admin(Shared<AdminConfirm>),
 }
 
 /// An accepted change.

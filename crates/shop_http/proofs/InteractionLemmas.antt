@@ -13,7 +13,7 @@ use Rattle.matchit.specs.Order.{lookup}
 use Rattle.matchit.specs.Route.{parse_route}
 use Rattle.matchit.proofs.OnLiterals.{matchit_on_literals}
 use Rattle.shop_model.specs.declared.requests.Interaction.{Interaction}
-use Rattle.shop_model.specs.declared.requests.Interaction.TheVariants.{Home, NewProducts, BestSellers, ProductDetail, SearchRequest, SearchResults, ShoppingCart, CustomerRegistration, BuyRequest, BuyConfirm, OrderInquiry, OrderDisplay, AdminRequest}
+use Rattle.shop_model.specs.declared.requests.Interaction.TheVariants.{Home, NewProducts, BestSellers, ProductDetail, SearchRequest, SearchResults, ShoppingCart, CustomerRegistration, BuyRequest, BuyConfirm, OrderInquiry, OrderDisplay, AdminRequest, AdminConfirm}
 use Rattle.shop_model.specs.asked.Interactions.{paths, path_of, interaction_of}
 use Rattle.shop_http.specs.Routes.{plain_scan, row_of, rows_of, FindsAll}
 use Rattle.shop_http.proofs.RouteLemmas.{first_literal}
@@ -88,3 +88,4 @@ plain_paths BuyConfirm = refl
 plain_paths OrderInquiry = refl
 plain_paths OrderDisplay = refl
 plain_paths AdminRequest = refl
+plain_paths AdminConfirm = refl

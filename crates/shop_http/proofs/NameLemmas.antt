@@ -10,7 +10,7 @@ use Rattle.std.proofs.lemmas.List.{get_or-set_same, get_or-set_other}
 use Rattle.std.proofs.lemmas.Option.{slice_get_within}
 use Rattle.std.proofs.lemmas.Slice.Eq.{bytes_eq-Decides}
 use Rattle.shop_model.specs.declared.parameter.Parameter.{Parameter}
-use Rattle.shop_model.specs.declared.parameter.Parameter.TheVariants.{C, Cart, Item, Qty, Subject, Kind, Text, User, Pass, FirstName, LastName, Street1, Street2, City, State, Zip, Country, Phone, Email, Card, Number, Name, Expiry, Ship}
+use Rattle.shop_model.specs.declared.parameter.Parameter.TheVariants.{C, Cart, Item, Qty, Subject, Kind, Text, User, Pass, FirstName, LastName, Street1, Street2, City, State, Zip, Country, Phone, Email, Card, Number, Name, Expiry, Ship, Cost, Image, Thumb}
 use Rattle.shop_model.specs.asked.Parameters.{parameter_name}
 use Rattle.shop_http.specs.Firsts.{kept}
 use Rattle.shop_http.specs.Forms.{decoded_text, value_of}
@@ -46,6 +46,9 @@ by_name Number = refl
 by_name Name = refl
 by_name Expiry = refl
 by_name Ship = refl
+by_name Cost = refl
+by_name Image = refl
+by_name Thumb = refl
 
 by_place : (parameter : Parameter) → slice_get parameters (place_of parameter) ≡ Some parameter
 unfolding parameters
@@ -73,6 +76,9 @@ by_place Number = refl
 by_place Name = refl
 by_place Expiry = refl
 by_place Ship = refl
+by_place Cost = refl
+by_place Image = refl
+by_place Thumb = refl
 
 pub place-within : (parameter : Parameter) → place_of parameter < PARAMETERS
 unfolding parameters

@@ -7,7 +7,7 @@ use Rattle.std.specs.Str.{bytes_eq}
 use Rattle.std.specs.Str.Lossy.{utf8_lossy}
 use Rattle.form_urlencoded.specs.Form.{decode, parse}
 use Rattle.shop_model.specs.declared.parameter.Parameter.{Parameter}
-use Rattle.shop_model.specs.rows.Limits.{text_limit}
+use Rattle.shop_model.specs.rows.Limits.{price_limit, text_limit}
 use Rattle.shop_model.specs.asked.Cards.{is_card_number, is_month}
 use Rattle.shop_model.specs.asked.Parameters.{parameter_name}
 use Rattle.shop_text.specs.Numbers.{number_of}
@@ -72,6 +72,10 @@ short_text_of text = if nat_le (length text) text_limit then Some text else None
 -- the id of one of the 92 countries
 unfoldable pub country_of : Form ℕ
 country_of digits = option_and_then (λ id. if nat_le 1 id && nat_le id 92 then Some id else None) (number_of digits)
+
+-- a cost in cents
+unfoldable pub cost_of : Form ℕ
+cost_of digits = option_and_then (λ cost. if nat_le 1 cost && nat_le cost price_limit then Some cost else None) (number_of digits)
 
 -- the number of a card
 unfoldable pub card_number_of : Form (List ℕ)

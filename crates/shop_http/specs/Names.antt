@@ -3,7 +3,7 @@ use Rattle.std.specs.Prelude.{ℕ, List, [], ◌∷◌, Option}
 use Rattle.std.specs.List.{find}
 use Rattle.std.specs.Str.{bytes_eq}
 use Rattle.shop_model.specs.declared.parameter.Parameter.{Parameter}
-use Rattle.shop_model.specs.declared.parameter.Parameter.TheVariants.{C, Cart, Item, Qty, Subject, Kind, Text, User, Pass, FirstName, LastName, Street1, Street2, City, State, Zip, Country, Phone, Email, Card, Number, Name, Expiry, Ship}
+use Rattle.shop_model.specs.declared.parameter.Parameter.TheVariants.{C, Cart, Item, Qty, Subject, Kind, Text, User, Pass, FirstName, LastName, Street1, Street2, City, State, Zip, Country, Phone, Email, Card, Number, Name, Expiry, Ship, Cost, Image, Thumb}
 use Rattle.shop_model.specs.asked.Parameters.{parameter_name}
 
 -- all parameters
@@ -11,7 +11,7 @@ unfoldable pub parameters : List Parameter
 parameters =
     C ∷ Cart ∷ Item ∷ Qty ∷ Subject ∷ Kind ∷ Text ∷ User ∷ Pass ∷ FirstName ∷ LastName ∷
     Street1 ∷ Street2 ∷ City ∷ State ∷ Zip ∷ Country ∷ Phone ∷ Email ∷
-    Card ∷ Number ∷ Name ∷ Expiry ∷ Ship ∷ []
+    Card ∷ Number ∷ Name ∷ Expiry ∷ Ship ∷ Cost ∷ Image ∷ Thumb ∷ []
 
 -- the parameter with a name
 unfoldable pub parameter_named : List ℕ → Option Parameter
@@ -43,3 +43,6 @@ place_of Number = 20
 place_of Name = 21
 place_of Expiry = 22
 place_of Ship = 23
+place_of Cost = 24
+place_of Image = 25
+place_of Thumb = 26

@@ -7,11 +7,12 @@ use Rattle.std.specs.Str.{bytes_eq}
 use Rattle.shop_model.specs.declared.requests.Interaction.{Interaction}
 use Rattle.shop_model.specs.declared.requests.Interaction.TheVariants as interaction
 use Rattle.shop_model.specs.declared.parameter.Parameter.{Parameter}
-use Rattle.shop_model.specs.declared.parameter.Parameter.TheVariants.{C, Cart, Item, Qty, Subject, Kind, Text, User, Pass, FirstName, LastName, Street1, Street2, City, State, Zip, Country, Phone, Email, Card, Number, Name, Expiry, Ship}
+use Rattle.shop_model.specs.declared.parameter.Parameter.TheVariants.{C, Cart, Item, Qty, Subject, Kind, Text, User, Pass, FirstName, LastName, Street1, Street2, City, State, Zip, Country, Phone, Email, Card, Number, Name, Expiry, Ship, Cost, Image, Thumb}
 use Rattle.shop_model.specs.declared.address.AddressText.{AddressText}
 use Rattle.shop_model.specs.declared.buying.Buyer.{Buyer}
 use Rattle.shop_model.specs.declared.buying.Buyer.TheVariants as buyer
 use Rattle.shop_model.specs.declared.ship_type.ShipType.{ShipType}
+use Rattle.shop_model.specs.asked.AdminAsked.{AdminAsked}
 use Rattle.shop_model.specs.declared.ship_type.ShipType.TheVariants.{Mail}
 use Rattle.shop_model.specs.declared.requests.IdsAsked.{IdsAsked}
 use Rattle.shop_model.specs.declared.requests.Request.{Request}
@@ -26,7 +27,7 @@ use Rattle.shop_model.specs.declared.refusal.Refusal as told
 use Rattle.shop_model.specs.declared.refusal.Refusal.TheVariants as page
 use Rattle.shop_http.specs.declared.requests.Refusal.{Refusal}
 use Rattle.shop_http.specs.declared.requests.Refusal.TheVariants as refusal
-use Rattle.shop_http.specs.Forms.{Pair, pairs, value_of, required, optional, or_empty, text_of, short_text_of, country_of, card_number_of, month_of}
+use Rattle.shop_http.specs.Forms.{Pair, pairs, value_of, required, optional, or_empty, text_of, short_text_of, country_of, card_number_of, month_of, cost_of}
 use Rattle.shop_text.specs.Numbers.{number_of}
 use Rattle.shop_http.specs.Sets.{sets_asked}
 
@@ -174,6 +175,18 @@ admin_request pairs =
     in_turn (ids_asked pairs) (λ ids.
     Ok (request.AdminRequest (record { item = item; ids = ids }))))
 
+abbrev pub administration_asked : List Pair → Result AdminAsked Parameter
+administration_asked pairs =
+    in_turn (required number_of pairs Item) (λ item.
+    in_turn (required cost_of pairs Cost) (λ cost.
+    in_turn (required text_of pairs Image) (λ image.
+    in_turn (required text_of pairs Thumb) (λ thumb.
+    in_turn (ids_asked pairs) (λ ids.
+    Ok (record { item = item; cost = cost; image = image; thumb = thumb; ids = ids }))))))
+
+abbrev pub admin_confirm : List Pair → Result Request Parameter
+admin_confirm pairs = in_turn (administration_asked pairs) (λ asked. Ok (request.AdminConfirm asked))
+
 -- what the pairs ask for at an interaction, or the first parameter that is missing or not in its form
 abbrev pub request_by : Interaction → List Pair → Result Request Parameter
 request_by interaction.Home = home
@@ -189,6 +202,7 @@ request_by interaction.BuyConfirm = buy_confirm
 request_by interaction.OrderInquiry = order_inquiry
 request_by interaction.OrderDisplay = order_display
 request_by interaction.AdminRequest = admin_request
+request_by interaction.AdminConfirm = admin_confirm
 
 -- what stands before the first `?`, and what follows it
 abbrev pub path_of : List ℕ → List ℕ

@@ -6,10 +6,9 @@ ghost use Rattle.shop_http.specs.Forms.{pairs};
 ghost use Rattle.shop_http.specs.Requests as spec;
 
 use crate::router::Routes;
+use administration::{admin_confirm, admin_request};
 use browsing::{best_sellers, home, new_products, product_detail, search_request, search_results};
-use buying::{
-    admin_request, buy_confirm, buy_request, customer_registration, order_display, order_inquiry,
-};
+use buying::{buy_confirm, buy_request, customer_registration, order_display, order_inquiry};
 use cart::shopping_cart;
 use fault::Fault;
 use memchr::memchr;
@@ -20,6 +19,7 @@ use shop_text::Memory;
 use std::alloc::Global;
 use values::Values;
 
+mod administration;
 mod browsing;
 mod buying;
 mod cards;
@@ -134,6 +134,7 @@ fn read(
         Interaction::OrderInquiry => order_inquiry(alloc, &pairs),
         Interaction::OrderDisplay => order_display(alloc, &pairs),
         Interaction::AdminRequest => admin_request(alloc, &pairs),
+        Interaction::AdminConfirm => admin_confirm(alloc, &pairs),
     }
 }
 

@@ -42,11 +42,12 @@ impl Routes {
     }
 }
 
-/// Adds the first four paths of the table.
+/// Adds the first five paths of the table.
 fn add_first(router: &mut Router<Interaction>) -> Result<(), Memory>
     requires { router.old ≡ [] }
-    ensures { OnOk result (router.new ≡ rows_of (take 4 paths)) }
+    ensures { OnOk result (router.new ≡ rows_of (take 5 paths)) }
 {
+    add_linked(router, Interaction::AdminConfirm)?;
     add_linked(router, Interaction::AdminRequest)?;
     add_linked(router, Interaction::BestSellers)?;
     add_linked(router, Interaction::BuyConfirm)?;
@@ -55,8 +56,8 @@ fn add_first(router: &mut Router<Interaction>) -> Result<(), Memory>
 
 /// Adds the next five paths of the table.
 fn add_middle(router: &mut Router<Interaction>) -> Result<(), Memory>
-    requires { router.old ≡ rows_of (take 4 paths) }
-    ensures { OnOk result (router.new ≡ rows_of (take 9 paths)) }
+    requires { router.old ≡ rows_of (take 5 paths) }
+    ensures { OnOk result (router.new ≡ rows_of (take 10 paths)) }
 {
     add_linked(router, Interaction::CustomerRegistration)?;
     add_linked(router, Interaction::Home)?;
@@ -67,7 +68,7 @@ fn add_middle(router: &mut Router<Interaction>) -> Result<(), Memory>
 
 /// Adds the other paths of the table.
 fn add_last(router: &mut Router<Interaction>) -> Result<(), Memory>
-    requires { router.old ≡ rows_of (take 9 paths) }
+    requires { router.old ≡ rows_of (take 10 paths) }
     ensures { OnOk result (router.new ≡ rows_of paths) }
 {
     add_linked(router, Interaction::ProductDetail)?;

@@ -4,3 +4,4 @@ pub mod SetLines
 pub mod LastOrders
 pub mod Cards
 pub mod Restocking
+pub mod RelatedFive

@@ -8,6 +8,8 @@ pub mod Cards
 pub mod PurchaseAsked
 pub mod CardView
 pub mod PurchaseView
+pub mod AdminAsked
+pub mod AdminView
 pub mod LoginView
 pub mod NewcomerView
 pub mod Interactions

@@ -17,4 +17,5 @@ pub mod BuyConfirm
 pub mod OrderInquiry
 pub mod OrderDisplay
 pub mod AdminRequest
+pub mod AdminConfirm
 pub mod Show

@@ -3,3 +3,4 @@ pub mod Carts
 pub mod Buyers
 pub mod Stocks
 pub mod Sales
+pub mod Mending

@@ -123,9 +123,3 @@ impl Model for BuyConfirm {
 
     ghost invariant = { λ i. IsPurchaseAsked (asked_of i) };
 }
-
-#[derive(Clone, Copy, Debug, PartialEq, Eq)]
-pub struct AdminRequest {
-    pub item: u32,
-    pub ids: IdsAsked,
-}

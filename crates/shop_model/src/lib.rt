@@ -2,6 +2,7 @@
 #![tactic(auto)]
 
 mod address;
+mod administration;
 mod auth_id;
 mod author;
 mod backing;
@@ -30,12 +31,13 @@ mod tables;
 pub mod words;
 
 pub use address::{Address, AddressText};
+pub use administration::{AdminConfirm, AdminRequest};
 pub use auth_id::AuthId;
 pub use author::Author;
 pub use backing::Backing;
 pub use buying::{
-    AdminRequest, BuyConfirm, BuyRequest, Buyer, Card, CustomerRegistration, Login, Newcomer,
-    OrderDisplay, OrderInquiry,
+    BuyConfirm, BuyRequest, Buyer, Card, CustomerRegistration, Login, Newcomer, OrderDisplay,
+    OrderInquiry,
 };
 pub use card_type::CardType;
 pub use card_use::CardUse;

@@ -38,6 +38,12 @@ pub enum Parameter {
     Expiry,
     /// How an order is shipped.
     Ship,
+    /// What an item costs.
+    Cost,
+    /// The link to its large picture.
+    Image,
+    /// The link to its small picture.
+    Thumb,
 }
 
 impl Parameter {
@@ -69,6 +75,9 @@ impl Parameter {
             Parameter::Name => b"name",
             Parameter::Expiry => b"expiry",
             Parameter::Ship => b"ship",
+            Parameter::Cost => b"cost",
+            Parameter::Image => b"image",
+            Parameter::Thumb => b"thumb",
         }
     }
 
@@ -101,6 +110,9 @@ impl Parameter {
             Parameter::Name => b"Bad parameter name.",
             Parameter::Expiry => b"Bad parameter expiry.",
             Parameter::Ship => b"Bad parameter ship.",
+            Parameter::Cost => b"Bad parameter cost.",
+            Parameter::Image => b"Bad parameter image.",
+            Parameter::Thumb => b"Bad parameter thumb.",
         }
     }
 }

@@ -4,10 +4,9 @@ ghost use Rattle.shop_model.specs.asked.Interactions.{path_of};
 ghost use Rattle.shop_model.specs.asked.Kinds.{kind_of, kind_name};
 
 use crate::Subject;
-use crate::buying::{
-    AdminRequest, BuyConfirm, BuyRequest, CustomerRegistration, OrderDisplay, OrderInquiry,
-};
-use shop_text::{Boxed, Listed, Text};
+use crate::administration::{AdminConfirm, AdminRequest};
+use crate::buying::{BuyConfirm, BuyRequest, CustomerRegistration, OrderDisplay, OrderInquiry};
+use shop_text::{Listed, Shared, Text};
 use std::marker::Model;
 
 /// The web interactions that are served.
@@ -26,6 +25,7 @@ pub enum Interaction {
     OrderInquiry,
     OrderDisplay,
     AdminRequest,
+    AdminConfirm,
 }
 
 impl Interaction {
@@ -47,6 +47,7 @@ impl Interaction {
             Interaction::OrderInquiry => "/order_inquiry",
             Interaction::OrderDisplay => "/order_display",
             Interaction::AdminRequest => "/admin_request",
+            Interaction::AdminConfirm => "/admin_confirm",
         }
     }
 }
@@ -182,8 +183,9 @@ pub enum Request {
     CartRequest(CartRequest),
     CustomerRegistration(CustomerRegistration),
     BuyRequest(BuyRequest),
-    BuyConfirm(Boxed<BuyConfirm>),
+    BuyConfirm(Shared<BuyConfirm>),
     OrderInquiry(OrderInquiry),
     OrderDisplay(OrderDisplay),
     AdminRequest(AdminRequest),
+    AdminConfirm(Shared<AdminConfirm>),
 }

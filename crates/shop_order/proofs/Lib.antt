@@ -13,3 +13,6 @@ pub mod ChargingLemmas
 pub mod PaymentsLemmas
 pub mod BuyersLemmas
 pub mod ShoppingCartLemmas
+pub mod RelatedLemmas
+pub mod AdminConfirmLemmas
+pub mod MendingLemmas

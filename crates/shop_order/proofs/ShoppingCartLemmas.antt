@@ -187,7 +187,7 @@ some_read named (Some read) reads items is are some = let many = ap (length {A =
 
 -- what tables show that fit what was read
 
-shows_append : (t : Tables) (one other : List ReadOf) → Shows t (one ++ other) → Shows t one × Shows t other
+pub shows_append : (t : Tables) (one other : List ReadOf) → Shows t (one ++ other) → Shows t one × Shows t other
 shows_append t [] other shows = (tt, shows)
 shows_append t (read ∷ one) other shows = let rest = shows_append t one other shows.1 in ((shows.0, rest.0), rest.1)
 

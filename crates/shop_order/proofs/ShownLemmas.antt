@@ -1,7 +1,7 @@
 -- Rows that are shown are there.
 use Rattle.std.proofs.Common.{◌≡◌, ℕ, Option, Some, None, refl}
 use Rattle.shop_model.specs.declared.address.Address.{Address}
-use Rattle.shop_model.specs.rows.Rows.{CartRow, CustomerRow}
+use Rattle.shop_model.specs.rows.Rows.{CartRow, CustomerRow, ItemRow}
 use Rattle.shop_history.specs.declared.keys.Row.TheVariants as row
 use Rattle.shop_history.specs.Keys.{shown}
 
@@ -12,6 +12,10 @@ cart_found (Some other) cart is = cc
 pub customer_found : (o : Option CustomerRow) (customer : CustomerRow) → shown row.Customer o ≡ row.Customer customer → o ≡ Some customer
 customer_found None customer is = absurd cc
 customer_found (Some other) customer is = cc
+
+pub item_found : (o : Option ItemRow) (item : ItemRow) → shown row.Item o ≡ row.Item item → o ≡ Some item
+item_found None item is = absurd cc
+item_found (Some other) item is = cc
 
 pub address_found : (o : Option Address) (address : Address) → shown row.Address o ≡ row.Address address → o ≡ Some address
 address_found None address is = absurd cc

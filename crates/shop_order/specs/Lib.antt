@@ -4,6 +4,7 @@ pub mod ShoppingCart
 pub mod Stops
 pub mod BuyRequest
 pub mod BuyConfirm
+pub mod AdminConfirm
 pub mod BuyerPage
 pub mod Entries
 pub mod Purchases

@@ -17,7 +17,7 @@ use shop_browse::{Ask, Attempted, Interaction, Next, attempt_by};
 use shop_draft::Draft;
 use shop_edges::{Answer, Gateway, Reason};
 use shop_model::{BuyConfirm, Request};
-use shop_text::Memory;
+use shop_text::{Memory, Shared};
 use std::alloc::Global;
 
 /// What came of a purchase whose rows are read.
@@ -38,7 +38,7 @@ pub enum Paid {
 pub fn pay<G: Gateway>(
     alloc: Global,
     ask: &Ask,
-    asked: &BuyConfirm,
+    asked: &Shared<BuyConfirm>,
     caller: u32,
     call: u64,
     attempt: Attempt,

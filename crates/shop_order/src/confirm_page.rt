@@ -50,7 +50,7 @@ pub(crate) fn write_page(
     ensures { OnOk result ((t : Tables) → Shows t purchase.now.items.now → (drawn : Drawn)
         → IsPage draft.new drawn (confirm_page t (purchase_ids purchase.now.asked.now) (spec.drawn_order drawn (1 + draw % 7) (spec.order_of purchase.now bill.now auth.now)))) }
 {
-    let ids = page_ids(purchase.asked);
+    let ids = page_ids(purchase.asked.get());
     let customer = purchase.customer;
     let totals = bill.totals;
     draft.status = 200;

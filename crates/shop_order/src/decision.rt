@@ -15,7 +15,7 @@ use shop_draft::{Draft, refusal};
 use shop_edges::{Answer, Gateway, Reason, Verdict};
 use shop_history::Act;
 use shop_model::{AuthId, BuyConfirm};
-use shop_text::{Listed, Memory};
+use shop_text::{Listed, Memory, Shared};
 use std::alloc::Global;
 
 /// What is decided of a purchase.
@@ -44,7 +44,7 @@ fn approved(
     write_page(draft, purchase, bill, auth, draw)?;
     let placed = order(alloc, purchase, bill, *auth)?;
     let writes = purchase_writes(alloc, purchase, placed, draw)?;
-    let act = purchase_act(alloc, purchase.asked, draw, *auth)?;
+    let act = purchase_act(purchase.asked, draw, *auth)?;
     Ok(Decision::Approved(act, writes))
 }
 
@@ -60,7 +60,7 @@ fn denied(reason: Reason, draft: &mut Draft) -> Result<Decision, Memory>
 /// keeps its answer.
 pub(crate) fn decide<G: Gateway>(
     alloc: Global,
-    asked: &BuyConfirm,
+    asked: &Shared<BuyConfirm>,
     caller: u32,
     call: u64,
     draw: u32,
@@ -77,7 +77,7 @@ pub(crate) fn decide<G: Gateway>(
 {
     let purchase = Purchase::of(asked, reads);
     let bill = Bill::of(alloc, &purchase)?;
-    let charge = charge_of(alloc, asked, caller, call, bill.totals.total)?;
+    let charge = charge_of(alloc, asked.get(), caller, call, bill.totals.total)?;
     match ask_gateway(charge, kept, gateway) {
         Verdict::Approved(auth) => approved(alloc, &purchase, &bill, &auth, draw, draft),
         Verdict::Denied(reason) => denied(reason, draft),

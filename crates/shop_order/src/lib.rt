@@ -2,6 +2,7 @@
 //! the rows that it has read, which makes of them the act and its writes, and writes its page.
 #![tactic(auto)]
 
+pub mod admin_confirm;
 mod basket;
 pub mod buy_confirm;
 pub mod buy_request;
@@ -10,10 +11,13 @@ mod calls;
 mod confirm_page;
 mod decision;
 mod entries;
+mod mended_page;
+mod mending;
 mod new_order;
 mod page;
 mod payment;
 mod purchase;
+mod related;
 mod sale;
 pub mod shopping_cart;
 mod stops;

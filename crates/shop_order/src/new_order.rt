@@ -22,7 +22,7 @@ pub(crate) struct Place {
 fn ships_to(purchase: &Purchase) -> Place
     ensures { result ≡ spec.place_of purchase.now.asked.now.address purchase.now.customer.now.address purchase.now.ship.now }
 {
-    let asked = purchase.asked;
+    let asked = purchase.asked.get();
     let customer = purchase.customer;
     match (&asked.address, purchase.ship) {
         (None, Row::Address(address)) => Place {
@@ -93,7 +93,7 @@ pub(crate) fn order(
     requires { ArePriced bill.now.priced }
     ensures { IfOk result (λ order. order ≡ spec.order_of purchase.now bill.now auth) }
 {
-    let asked = purchase.asked;
+    let asked = purchase.asked.get();
     let customer = purchase.customer;
     let totals = bill.totals;
     let place = ships_to(purchase);

@@ -7,13 +7,13 @@ use shop_attempt::ReadOf;
 use shop_history::Row;
 use shop_model::{BuyConfirm, Customer};
 use shop_pricing::Totals;
-use shop_text::{Listed, Memory};
+use shop_text::{Listed, Memory, Shared};
 use std::alloc::Global;
 
 /// Who buys what, as it was read.
 #[derive(Clone, Copy)]
 pub(crate) struct Purchase<'a> {
-    pub(crate) asked: &'a BuyConfirm,
+    pub(crate) asked: &'a Shared<BuyConfirm>,
     pub(crate) customer: &'a Customer,
     /// The lines of the cart.
     pub(crate) lines: &'a [(u32, u32)],
@@ -25,7 +25,7 @@ pub(crate) struct Purchase<'a> {
 
 impl<'a> Purchase<'a> {
     /// The purchase that was read.
-    pub(crate) fn of(asked: &'a BuyConfirm, reads: &'a [ReadOf]) -> Purchase<'a>
+    pub(crate) fn of(asked: &'a Shared<BuyConfirm>, reads: &'a [ReadOf]) -> Purchase<'a>
         requires { spec.IsRead asked.now reads.now }
         ensures { spec.IsPurchase asked.now reads.now result }
     {

@@ -10,9 +10,9 @@ ghost use Rattle.shop_order.specs.Purchases as spec;
 use crate::purchase::Purchase;
 use shop_attempt::{ReadOf, Stock, Write};
 use shop_history::{Act, Row};
-use shop_model::{AuthId, BuyConfirm, Card, Cart, Item, Order};
+use shop_model::{AuthId, BuyConfirm, Cart, Item, Order};
 use shop_pricing::restock;
-use shop_text::{Boxed, Listed, Memory, Shared, Text};
+use shop_text::{Listed, Memory, Shared};
 use std::alloc::Global;
 
 /// How often an item may be restocked.
@@ -71,7 +71,7 @@ fn push_address(
 ) -> Result<(), Memory>
     ensures { OnOk result (writes.new ≡ writes.old ++ spec.ship_writes purchase.now.asked.now.address purchase.now.ship.now) }
 {
-    let asked = purchase.asked;
+    let asked = purchase.asked.get();
     match (&asked.address, purchase.ship) {
         (None, _) => {}
         (Some(_), Row::Id(_)) => {}
@@ -107,7 +107,7 @@ pub(crate) fn purchase_writes(
     requires { spec.AreGoods purchase.now.lines.now purchase.now.items.now }
     ensures { IfOk result (λ writes. (t : Tables) → Shows t purchase.now.items.now → writes ≡ spec.purchase_writes t purchase.now order (1 + draw % 7)) }
 {
-    let asked = purchase.asked;
+    let asked = purchase.asked.get();
     let mut writes = Listed::with_capacity(alloc, purchase.lines.len().saturating_add(3))?;
     writes.push(Write::PutCart(emptied(alloc, asked.cart)?))?;
     push_address(alloc, &mut writes, purchase)?;
@@ -116,42 +116,13 @@ pub(crate) fn purchase_writes(
     Ok(writes)
 }
 
-fn copy_card(alloc: Global, card: &Card) -> Result<Card, Memory>
-    ensures { IfOk result (λ copy. copy ≡ card.now) }
-{
-    Ok(Card {
-        card: card.card,
-        number: Text::copy(alloc, card.number.bytes())?,
-        name: Text::copy(alloc, card.name.bytes())?,
-        expiry: Text::copy(alloc, card.expiry.bytes())?,
-    })
-}
-
-fn copy_asked(alloc: Global, asked: &BuyConfirm) -> Result<BuyConfirm, Memory>
-    ensures { IfOk result (λ copy. copy ≡ asked.now) }
-{
-    let address = match &asked.address {
-        Some(text) => Some(text.copy(alloc)?),
-        None => None,
-    };
-    Ok(BuyConfirm {
-        c: asked.c,
-        cart: asked.cart,
-        payment: copy_card(alloc, &asked.payment)?,
-        ship: asked.ship,
-        address,
-    })
-}
-
-/// The act of a purchase, with the word that was drawn and the authorisation of its payment.
+/// The act of a purchase, with the word that was drawn and the authorisation of its payment; takes no memory.
 pub(crate) fn purchase_act(
-    alloc: Global,
-    asked: &BuyConfirm,
+    asked: &Shared<BuyConfirm>,
     draw: u32,
     auth: AuthId,
 ) -> Result<Act, Memory>
     ensures { IfOk result (λ act. act ≡ Act.Confirm asked.now draw auth) }
 {
-    let copy = copy_asked(alloc, asked)?;
-    Ok(Act::Confirm(Boxed::new(alloc, copy)?, draw, auth))
+    Ok(Act::Confirm(asked.share()?, draw, auth))
 }

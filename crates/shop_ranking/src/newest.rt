@@ -1,11 +1,12 @@
 //! The newest items of each subject, in order as days of publication change.
-ghost use Rattle.std.specs.Prelude.{◌≡◌, ◌-◌, IfOk, OnOk, length, map, set};
+ghost use Rattle.std.specs.Prelude.{◌≡◌, ◌≢◌, ◌-◌, ◌≤◌, true, false, IfOk, OnOk, length, map, set, vec_capacity};
+ghost use Rattle.shop_model.specs.rows.Limits.{list_limit};
 ghost use Rattle.shop_model.specs.rows.Sound.{Has, Runs};
 ghost use Rattle.shop_ranking.specs.Order.{IsInOrder};
 ghost use Rattle.shop_ranking.specs.Standing.{AreNew, AreKept, always};
 ghost use Rattle.shop_ranking.specs.StandingNewest.{book_of, later, standing_books, standing_newest};
 
-use crate::ranked::{Ranked, first_ids};
+use crate::ranked::{Ranked, first_ids, renew_ids};
 use crate::ranking::{put_in, take_out};
 use crate::subjects::{new_lists, subjects_of};
 use shop_model::{Item, ItemDetails, Subject};
@@ -156,5 +157,16 @@ impl Newest {
         ensures order { OnOk result (IsInOrder later (standing_books self.now subject)) }
     {
         first_ids(alloc, &self.lists[subject.number() as usize])
+    }
+    /// Writes the ids of the newest items of a subject, 50 at most, over those that were the newest
+    /// before; answers whether they differ. Takes no memory.
+    pub fn renew(&self, subject: Subject, ids: &mut Vec<u32>) -> bool
+        requires { list_limit ≤ vec_capacity ids.old }
+        ensures ids { ids.new.items ≡ standing_newest self.now subject }
+        ensures same { result ≡ false → ids.new.items ≡ ids.old.items }
+        ensures other { result ≡ true → ids.new.items ≢ ids.old.items }
+        ensures capacity { vec_capacity ids.new ≡ vec_capacity ids.old }
+    {
+        renew_ids(&self.lists[subject.number() as usize], ids)
     }
 }

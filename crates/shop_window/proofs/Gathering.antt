@@ -1,9 +1,9 @@
 -- The units of what buyers bought, gathered list by list, and the items that have most.
-use Rattle.std.proofs.Common.{◌≡◌, ℕ, zero, suc, ◌+◌, ◌-◌, ◌^◌, ◌<◌, ◌≤◌, ◌==◌, Bool, true, false, List, [], ◌∷◌, ◌++◌, length, map, filter, take, drop, get_or, refl, ap, ◌∙◌, cond, add-one, arith, if◌then◌else◌}
+use Rattle.std.proofs.Common.{◌≡◌, ℕ, zero, suc, ◌+◌, ◌-◌, ◌^◌, ◌<◌, ◌≤◌, ◌==◌, Bool, true, false, List, [], ◌∷◌, ◌++◌, Bor, length, map, filter, take, drop, get_or, refl, sym, ap, ◌∙◌, cond, add-one, arith, if◌then◌else◌}
 use Rattle.std.specs.List.{All, insert, range_with_len, sum_by}
 use Rattle.std.specs.Ordering.{is_gt}
 use Rattle.std.specs.declared.cmp.Ordering.{Ordering}
-use Rattle.std.proofs.lemmas.List.{take-take}
+use Rattle.std.proofs.lemmas.List.{get_or-map, length-map, take-take}
 use Rattle.std.proofs.lemmas.List.Sums.{sum_by-cons, sum_by-drop_more, sum_by-le-sum_by}
 use Rattle.shop_model.specs.rows.Sound.{Has}
 use Rattle.shop_model.specs.lists.Rankings.{Sale, better, put_among, in_order}
@@ -12,6 +12,15 @@ use Rattle.shop_window.specs.Gathered.{AreAmong, sale_in, is_beside, besides_fro
 use Rattle.shop_window.specs.Totals.{units_of}
 use Rattle.shop_window.specs.Units.{Adds, HasRoom}
 use Rattle.shop_window.proofs.Adding.{units_cons}
+
+-- a list that is lent, by its place
+
+pub lent_within : (lists : List (Bor (List (ℕ × ℕ)))) (i : ℕ) → i < length lists → i < length (map (λ l. l.now) lists)
+lent_within lists i within = omega (arith, within, length-map lists (λ (l : Bor (List (ℕ × ℕ))). l.now))
+
+pub lent_at : (lists : List (Bor (List (ℕ × ℕ)))) (i : ℕ) (d : Bor (List (ℕ × ℕ))) → i < length lists
+    → (get_or lists i d).now ≡ get_or (map (λ l. l.now) lists) i (get_or lists i d).now
+lent_at lists i d within = sym (get_or-map (λ (l : Bor (List (ℕ × ℕ))). l.now) lists i d (get_or lists i d).now within)
 
 -- the units of lists up to one were gathered
 pub record IsGathering (items : ℕ) (lists : List (List (ℕ × ℕ))) (i : ℕ) (units : List ℕ) : Type 0 where

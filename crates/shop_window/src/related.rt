@@ -8,7 +8,7 @@ ghost use Rattle.shop_window.specs.Gathered as gathered;
 ghost use Rattle.shop_window.specs.Totals.{units_of};
 
 use crate::units::add_totals;
-use shop_text::{Listed, Memory};
+use shop_text::Memory;
 use std::alloc::Global;
 use std::cmp::Ordering;
 use std::marker::Model;
@@ -62,14 +62,14 @@ fn put(top: &mut Vec<Sale>, sale: Sale) -> Result<(), Memory>
 }
 
 /// The units of each item in the lists, by its id.
-fn units_among(alloc: Global, lists: &[Listed<(u32, u64)>], items: u32) -> Result<Vec<u64>, Memory>
-    requires items { All (λ pairs. All (λ p. Has items p.0) pairs) lists.now }
-    requires fits { sum_by units_of lists.now < 2 ^ 64 }
-    ensures { IfOk result (λ units. gathered.AreAmong items lists.now units.items) }
+fn units_among(alloc: Global, lists: &[&[(u32, u64)]], items: u32) -> Result<Vec<u64>, Memory>
+    requires items { All (λ pairs. All (λ p. Has items p.0) pairs) (map (λ l. l.now) lists.now) }
+    requires fits { sum_by units_of (map (λ l. l.now) lists.now) < 2 ^ 64 }
+    ensures { IfOk result (λ units. gathered.AreAmong items (map (λ l. l.now) lists.now) units.items) }
 {
     let mut units = vec![in alloc; 0; items as usize + 1]?;
     for pairs in lists {
-        add_totals(&mut units, pairs.as_slice());
+        add_totals(&mut units, *pairs);
     }
     Ok(units)
 }
@@ -167,15 +167,15 @@ fn filled(most: &[u32], item: u32, items: u32) -> [u32; RELATED_ITEMS]
 /// bought fewer than five others, those that follow this one fill them up.
 pub fn five_related(
     alloc: Global,
-    buyers: &[Listed<(u32, u64)>],
+    buyers: &[&[(u32, u64)]],
     item: u32,
     items: u32,
 ) -> Result<[u32; 5], Memory>
     requires six { 6 ≤ items }
     requires item { Has items item }
-    requires pairs { All (λ pairs. All (λ p. Has items p.0) pairs) buyers.now }
-    requires fits { sum_by (λ pairs. sum_by (λ p. p.1) pairs) buyers.now < 2 ^ 64 }
-    ensures { IfOk result (λ five. five ≡ spec.five_of buyers.now item items) }
+    requires pairs { All (λ pairs. All (λ p. Has items p.0) pairs) (map (λ b. b.now) buyers.now) }
+    requires fits { sum_by (λ pairs. sum_by (λ p. p.1) pairs) (map (λ b. b.now) buyers.now) < 2 ^ 64 }
+    ensures { IfOk result (λ five. five ≡ spec.five_of (map (λ b. b.now) buyers.now) item items) }
 {
     let units = units_among(alloc, buyers, items)?;
     let top = most_bought(alloc, &units, item)?;

@@ -11,18 +11,21 @@ use Rattle.shop_model.specs.declared.address.AddressText.{AddressText}
 use Rattle.shop_model.specs.declared.buying.Buyer.{Buyer}
 use Rattle.shop_model.specs.declared.buying.Buyer.TheVariants.{Returning, Newcomer}
 use Rattle.shop_model.specs.declared.tables.Tables.{Tables}
+use Rattle.shop_model.specs.declared.refusal.Refusal.TheVariants.{NoItem}
+use Rattle.shop_model.specs.asked.AdminAsked.{AdminAsked, IsAdminAsked}
 use Rattle.shop_model.specs.asked.CartAsked.{CartAsked}
 use Rattle.shop_model.specs.trade.Buyers.{customer_named, logged_in, says_same, address_saying, addresses_with, new_customer, customers_with, tables_entered}
 use Rattle.shop_model.specs.trade.Carts.{check_cart, check_asked, lines_named, lines_after, cart_lines, carts_with}
 use Rattle.shop_model.specs.asked.PurchaseAsked.{PurchaseAsked, IsPurchaseAsked}
 use Rattle.shop_model.specs.trade.Sales.{check_purchase, tables_bought}
-use Rattle.shop_model.specs.pages.Show.{check}
+use Rattle.shop_model.specs.trade.Mending.{with_mended}
+use Rattle.shop_model.specs.pages.Show.{check, check_there}
 use Rattle.shop_model.specs.rows.Limits.{stamp_limit, restocks_limit}
 use Rattle.shop_model.specs.rows.Lookups.{row_numbered}
-use Rattle.shop_model.specs.rows.Rows.{CartRow, CustomerRow}
+use Rattle.shop_model.specs.rows.Rows.{CartRow, CustomerRow, ItemRow}
 use Rattle.shop_model.specs.rows.Sound.{Sound, Room}
 use Rattle.shop_history.specs.declared.acts.Act.{Act}
-use Rattle.shop_history.specs.declared.acts.Act.TheVariants.{Cart, Enter, Confirm}
+use Rattle.shop_history.specs.declared.acts.Act.TheVariants.{Cart, Enter, Confirm, Admin}
 use Rattle.shop_history.specs.declared.acts.Entry.{Entry}
 use Rattle.shop_history.specs.Acts.{play, request_of, IsBuyer, IsInForm}
 use Rattle.shop_history.specs.Logs.{history, after, tables, Legal, MayFollow, IsGood}
@@ -32,6 +35,7 @@ use Rattle.shop_history.proofs.cited.Places.{all_numbered}
 use Rattle.shop_history.proofs.Changed.{changed_length}
 use Rattle.shop_history.proofs.SoundCustomers.{login_sound, entered_sound, shared_sound, address_there}
 use Rattle.shop_history.proofs.SoundPurchases.{purchase_sound, purchase_room}
+use Rattle.shop_history.proofs.SoundMending.{mended_sound, same_length, holds}
 use Rattle.shop_history.proofs.SoundCarts.{AreSound, carts_sound, sound_with, push_sound, set_sound}
 
 -- room for fewer entries
@@ -146,11 +150,34 @@ confirm_good t stamp draw auth asked room bound form passes good =
       room_for = purchase_room t good.sound asked form stamp draw auth bound who.customer who.cart who.buys who.bought who.some addresses room good.room_for;
     })
 
+-- an item that is administered
+
+admin_good : (t : Tables) (stamp : ℕ) (asked : AdminAsked) (item : Option ItemRow) (room : ℕ) → stamp ≤ stamp_limit → IsAdminAsked asked → row_numbered t.items asked.item ≡ item → check_there NoItem item ≡ None
+    → IsGood t (suc room) → IsGood (with_mended t stamp asked item) room
+admin_good t stamp asked None room bound form there passes good = absurd cc
+admin_good t stamp asked (Some item) room bound form there passes good =
+    let less : Room t room = room_less t (suc room) room (omega arith) good.room_for in
+    record {
+      sound = mended_sound t good.sound stamp bound asked form item there;
+      room_for = record {
+        countries = less.countries;
+        addresses = less.addresses;
+        customers = less.customers;
+        authors = less.authors;
+        items = omega (arith, less.items, same_length t good.sound stamp bound asked form item there);
+        orders = less.orders;
+        carts = less.carts;
+        restocks = holds t good.sound stamp bound asked form item there (λ i. i.restocks + 49 * room ≤ restocks_limit) (λ h. h) less.restocks;
+      };
+    }
+
 -- an act that is not refused
 play_good : (t : Tables) (stamp : ℕ) (act : Act) (room : ℕ) → stamp ≤ stamp_limit → IsInForm act → check t (request_of act) ≡ None → IsGood t (suc room)
     → IsGood (play t stamp act).tables room
 play_good t stamp (Enter asked draw) room bound form passes good = enter_good t stamp draw asked.buyer room bound form good
 play_good t stamp (Confirm asked draw auth) room bound form passes good = confirm_good t stamp draw auth asked room bound form passes good
+play_good t stamp (Admin asked) room bound form passes good =
+    admin_good t stamp asked (row_numbered t.items asked.item) room bound form refl passes good
 play_good t stamp (Cart asked draw) room bound form passes good =
     let lines : List (ℕ × ℕ) = lines_after t asked draw in
     let carts : List CartRow = carts_with t.carts asked.ids.cart lines in

@@ -6,16 +6,19 @@ use Rattle.shop_model.specs.declared.buying.Buyer.{Buyer}
 use Rattle.shop_model.specs.declared.buying.Buyer.TheVariants.{Returning, Newcomer}
 use Rattle.shop_model.specs.declared.tables.Tables.{Tables}
 use Rattle.shop_model.specs.lists.Catalogues.{Catalogue, naming}
+use Rattle.shop_model.specs.asked.AdminAsked.{AdminAsked}
 use Rattle.shop_model.specs.asked.PurchaseAsked.{PurchaseAsked}
 use Rattle.shop_model.specs.rows.Lookups.{row_numbered}
-use Rattle.shop_model.specs.rows.Rows.{CustomerRow, OrderRow}
+use Rattle.shop_model.specs.rows.Rows.{ItemRow, CustomerRow, OrderRow}
 use Rattle.shop_model.specs.trade.Buyers.{tables_entered}
+use Rattle.shop_model.specs.trade.Mending.{mended_item, with_mended}
 use Rattle.shop_model.specs.trade.Sales.{new_order, sold_item, with_purchase, tables_bought}
 use Rattle.shop_history.specs.declared.acts.Act.{Act}
-use Rattle.shop_history.specs.declared.acts.Act.TheVariants.{Cart, Enter, Confirm}
+use Rattle.shop_history.specs.declared.acts.Act.TheVariants.{Cart, Enter, Confirm, Admin}
 use Rattle.shop_history.specs.declared.acts.Entry.{Entry}
 use Rattle.shop_history.specs.Acts.{play}
 use Rattle.shop_history.specs.Logs.{after, tables, SameCatalogue}
+use Rattle.shop_history.proofs.cited.Places.{seen_set}
 use Rattle.shop_history.proofs.cited.Rows.{tables_nil, tables_push}
 
 -- tables with the catalogue, the countries and the count of orders at the opening of others
@@ -44,10 +47,19 @@ confirm_keeps : (t : Tables) (stamp draw : ℕ) (auth : List ℕ) (asked : Purch
 confirm_keeps t stamp draw auth asked None = record { catalogue = refl; countries = refl; born_orders = refl }
 confirm_keeps t stamp draw auth asked (Some customer) = purchase_keeps t asked (new_order t stamp draw auth asked customer)
 
+admin_keeps : (t : Tables) (stamp : ℕ) (asked : AdminAsked) (item : Option ItemRow) → row_numbered t.items asked.item ≡ item → Keeps t (with_mended t stamp asked item)
+admin_keeps t stamp asked None there = record { catalogue = refl; countries = refl; born_orders = refl }
+admin_keeps t stamp asked (Some item) there = record {
+  catalogue = ap (λ items. record { items = items; authors = t.authors }) (seen_set naming t.items asked.item item (mended_item t stamp asked item) there refl);
+  countries = refl;
+  born_orders = refl;
+}
+
 pub play_keeps : (t : Tables) (stamp : ℕ) (act : Act) → Keeps t (play t stamp act).tables
 play_keeps t stamp (Cart asked draw) = record { catalogue = refl; countries = refl; born_orders = refl }
 play_keeps t stamp (Enter asked draw) = enter_keeps t stamp draw asked.buyer
 play_keeps t stamp (Confirm asked draw auth) = confirm_keeps t stamp draw auth asked (row_numbered t.customers asked.c)
+play_keeps t stamp (Admin asked) = admin_keeps t stamp asked (row_numbered t.items asked.item) refl
 
 keeps_then : (t u w : Tables) → Keeps t u → Keeps u w → Keeps t w
 keeps_then t u w first second = grind (arith, first, second)

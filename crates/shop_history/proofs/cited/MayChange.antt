@@ -1,27 +1,30 @@
 -- An act changes no other keys than those that it may.
-use Rattle.std.proofs.Common.{◌≡◌, ◌≢◌, ℕ, zero, suc, ◌+◌, ◌≤◌, cond, eqb, subst, List, length, Option, Some, None, option_map, Contains, ◌⊎◌, inl, inr, ⊎_elim, refl, sym, ap, arith}
+use Rattle.std.proofs.Common.{◌≡◌, ◌≢◌, ℕ, zero, suc, ◌+◌, ◌≤◌, cond, eqb, subst, List, [], ◌∷◌, length, Option, Some, None, option_map, Contains, ◌⊎◌, inl, inr, ⊎_elim, refl, sym, ap, arith}
 use Rattle.std.proofs.lemmas.Bool.{cases_eq}
 use Rattle.shop_model.specs.declared.tables.Tables.{Tables}
 use Rattle.shop_model.specs.asked.CartAsked.{CartAsked}
 use Rattle.shop_model.specs.trade.Carts.{first_of, check_asked, lines_named, lines_after, cart_meant, carts_with}
-use Rattle.shop_model.specs.declared.refusal.Refusal.TheVariants.{EmptyCart}
+use Rattle.shop_model.specs.declared.refusal.Refusal.TheVariants.{EmptyCart, NoItem}
+use Rattle.shop_model.specs.asked.AdminAsked.{AdminAsked}
 use Rattle.shop_model.specs.asked.PurchaseAsked.{PurchaseAsked}
 use Rattle.shop_model.specs.trade.Buyers.{check_bought}
 use Rattle.shop_model.specs.trade.Sales.{check_known, check_purchase, tables_bought}
-use Rattle.shop_model.specs.pages.Show.{check}
+use Rattle.shop_model.specs.trade.Mending.{with_mended}
+use Rattle.shop_model.specs.pages.Show.{check, check_there}
 use Rattle.shop_model.specs.rows.Lookups.{row_numbered}
 use Rattle.shop_model.specs.lists.Rankings.{newest, best, sold_lately}
-use Rattle.shop_model.specs.rows.Rows.{CartRow, CustomerRow}
+use Rattle.shop_model.specs.rows.Rows.{CartRow, CustomerRow, ItemRow}
 use Rattle.shop_model.specs.rows.Sound.{Sound}
 use Rattle.shop_history.specs.declared.acts.Act.{Act}
-use Rattle.shop_history.specs.declared.acts.Act.TheVariants.{Cart, Enter, Confirm}
+use Rattle.shop_history.specs.declared.acts.Act.TheVariants.{Cart, Enter, Confirm, Admin}
 use Rattle.shop_history.specs.declared.keys.Key as key
 use Rattle.shop_history.specs.declared.keys.Key.{Key}
 use Rattle.shop_history.specs.declared.keys.Row as row
 use Rattle.shop_history.specs.Acts.{play, request_of}
 use Rattle.shop_history.specs.Keys.{row_of, shown}
-use Rattle.shop_history.specs.MayChange.{may_change, purchase_changes}
+use Rattle.shop_history.specs.MayChange.{may_change, purchase_changes, subject_at}
 use Rattle.shop_history.proofs.EnterFrame.{enter_frame}
+use Rattle.shop_history.proofs.MendFrame.{mended_frame}
 use Rattle.shop_history.proofs.SaleFrame.{purchase_frame}
 use Rattle.shop_history.proofs.cited.Places.{row_set_other, row_push_other}
 
@@ -65,6 +68,11 @@ confirm_frame t stamp draw auth asked sound passes key =
     subst (λ o. Contains (purchase_changes t asked) key ⊎ (row_of (tables_bought t stamp draw auth asked o) key ≡ row_of t key)) (sym who.buys)
     (purchase_frame t sound asked stamp draw auth who.customer who.cart who.buys who.bought key)
 
+admin_frame : (t : Tables) (stamp : ℕ) (asked : AdminAsked) (item : Option ItemRow) → row_numbered t.items asked.item ≡ item → check_there NoItem item ≡ None → (any : Key)
+    → Contains (key.TheVariants.Item asked.item ∷ key.TheVariants.NewIn (subject_at t asked.item) ∷ []) any ⊎ (row_of (with_mended t stamp asked item) any ≡ row_of t any)
+admin_frame t stamp asked None there passes any = absurd cc
+admin_frame t stamp asked (Some item) there passes any = mended_frame t stamp asked item there any
+
 -- what a key shows after an act, unless the act may change it
 pub frame : (t : Tables) (stamp : ℕ) (act : Act) → Sound t → check t (request_of act) ≡ None → (key : Key) → Contains (may_change t act) key ⊎ (row_of (play t stamp act).tables key ≡ row_of t key)
 unfolding newest best sold_lately
@@ -87,3 +95,4 @@ frame t stamp (Cart asked draw) sound passes (key.TheVariants.Order id) = inr re
 frame t stamp (Cart asked draw) sound passes (key.TheVariants.LastOrder customer) = inr refl
 frame t stamp (Enter asked draw) sound passes key = enter_frame t stamp draw asked.buyer key
 frame t stamp (Confirm asked draw auth) sound passes key = confirm_frame t stamp draw auth asked sound passes key
+frame t stamp (Admin asked) sound passes key = admin_frame t stamp asked (row_numbered t.items asked.item) refl passes key

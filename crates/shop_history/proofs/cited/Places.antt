@@ -1,5 +1,6 @@
 -- Rows by their numbers, in lists that are written and that grow.
 use Rattle.std.proofs.Common.{◌≡◌, ℕ, zero, suc, ◌+◌, ◌-◌, ◌<◌, cond, true, false, List, [], ◌∷◌, ◌++◌, length, map, get_or, All, Some, None, slice_get, slice_set, eqb, refl, sym, ◌∙◌, ap, subst, ⊎_elim, arith}
+use Rattle.std.proofs.Math.Seq.{map-set_same}
 use Rattle.std.proofs.lemmas.Bool.{eqb-false, cond-true, cond-false, eq-eqb, ne_eqb, cases_eq}
 use Rattle.std.proofs.lemmas.Option.{slice_get_within, slice_get-get_or, get_or_from_slice_get}
 use Rattle.shop_model.specs.rows.Lookups.{row_numbered}
@@ -56,6 +57,18 @@ module _ {A : Type 0} where
   -- a row behind the others
   pub row_push_other : (xs : List A) (other : ℕ) (y : A) → (other ≡ length xs + 1 → ⊥) → row_numbered (xs ++ y ∷ []) other ≡ row_numbered xs other
   row_push_other xs other y apart = row_same (xs ++ y ∷ []) xs other (λ above. push_other xs (other - 1) y (λ e. apart (omega arith)))
+
+  -- what is seen of all rows, where another row comes of which the same is seen
+  pub seen_set : {B : Type 0} (see : A → B) (xs : List A) (id : ℕ) (x y : A) → row_numbered xs id ≡ Some x → see y ≡ see x → map see (slice_set xs (id - 1) y) ≡ map see xs
+  seen_set see xs id x y is same =
+      let there : IsThere xs id x = is_there xs id x is in
+      map-set_same see xs (id - 1) y x (same ∙ ap see (sym (get_or_from_slice_get xs (id - 1) x x there.at)))
+
+  -- a row that is there has a number that there is
+  pub has_row : (xs : List A) (id : ℕ) (x : A) → row_numbered xs id ≡ Some x → Has (length xs) id
+  has_row xs id x is =
+      let there : IsThere xs id x = is_there xs id x is in
+      record { first = omega (arith, there.above); last = omega (arith, there.above, slice_get_within xs (id - 1) x there.at) }
 
   -- a number that there is has a row
   pub some_row : (xs : List A) (id : ℕ) → Has (length xs) id → (x : A) × (row_numbered xs id ≡ Some x)

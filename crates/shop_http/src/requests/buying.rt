@@ -11,10 +11,10 @@ use super::forms::{
 };
 use super::pairs::Pairs;
 use shop_model::{
-    AddressText, AdminRequest, BuyConfirm, BuyRequest, Buyer, CustomerRegistration, Login,
-    Newcomer, OrderDisplay, OrderInquiry, Parameter, Request,
+    AddressText, BuyConfirm, BuyRequest, Buyer, CustomerRegistration, Login, Newcomer,
+    OrderDisplay, OrderInquiry, Parameter, Request,
 };
-use shop_text::Boxed;
+use shop_text::{Boxed, Shared};
 use std::alloc::Global;
 
 pub(crate) fn customer_registration(alloc: Global, pairs: &Pairs) -> Result<Request, Fault>
@@ -37,7 +37,7 @@ pub(crate) fn buy_confirm(alloc: Global, pairs: &Pairs) -> Result<Request, Fault
     ensures { Reads (spec.buy_confirm pairs.now) result }
 {
     let purchase = purchase_asked(alloc, pairs)?;
-    Ok(Request::BuyConfirm(Boxed::new(alloc, purchase)?))
+    Ok(Request::BuyConfirm(Shared::new(alloc, purchase)?))
 }
 
 pub(crate) fn order_inquiry(alloc: Global, pairs: &Pairs) -> Result<Request, Fault>
@@ -53,14 +53,6 @@ pub(crate) fn order_display(alloc: Global, pairs: &Pairs) -> Result<Request, Fau
     let login = login_asked(alloc, pairs)?;
     let ids = ids_asked(alloc, pairs)?;
     Ok(Request::OrderDisplay(OrderDisplay { login, ids }))
-}
-
-pub(crate) fn admin_request(alloc: Global, pairs: &Pairs) -> Result<Request, Fault>
-    ensures { Reads (spec.admin_request pairs.now) result }
-{
-    let item = required_number(alloc, pairs, Parameter::Item)?;
-    let ids = ids_asked(alloc, pairs)?;
-    Ok(Request::AdminRequest(AdminRequest { item, ids }))
 }
 
 /// Who buys: a customer where one is named.

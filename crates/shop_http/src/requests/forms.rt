@@ -1,5 +1,6 @@
 ghost use Rattle.std.specs.Prelude.{◌≡◌, IfOk, IfSome};
 ghost use Rattle.std.specs.Option.{option_map, ok_or};
+ghost use Rattle.shop_model.specs.asked.AdminAsked.{IsCost};
 ghost use Rattle.shop_model.specs.asked.CustomersAsked.{IsFilled, IsShort};
 ghost use Rattle.shop_model.specs.asked.Kinds.{kind_of};
 ghost use Rattle.shop_model.specs.rows.Sound.{Has};
@@ -13,7 +14,7 @@ ghost use Rattle.shop_http.specs.Requests as requests;
 use super::decoding::decoded;
 use super::fault::Fault;
 use super::pairs::Pairs;
-use shop_model::{IdsAsked, Parameter, SearchKind, Subject, TEXT_LIMIT};
+use shop_model::{IdsAsked, PRICE_LIMIT, Parameter, SearchKind, Subject, TEXT_LIMIT};
 use shop_text::{Text, number_of};
 use std::alloc::Global;
 
@@ -110,6 +111,32 @@ fn country_of(digits: &[u8]) -> Option<u32>
         return None;
     }
     Some(country)
+}
+
+/// A cost in cents.
+pub(crate) fn required_cost(alloc: Global, pairs: &Pairs) -> Result<u64, Fault>
+    ensures value { Reads (spec.required spec.cost_of pairs.now Parameter.Cost) result }
+    ensures form { IfOk result IsCost }
+{
+    let Some(value) = pairs.value_of(Parameter::Cost) else {
+        return Err(Fault::Parameter(Parameter::Cost));
+    };
+    match cost_of(decoded(alloc, value)?.as_slice()) {
+        Some(cost) => Ok(cost),
+        None => Err(Fault::Parameter(Parameter::Cost)),
+    }
+}
+
+#[tactic(auto, unfolding(crate::specs::Forms::cost_of))]
+fn cost_of(digits: &[u8]) -> Option<u64>
+    ensures value { result ≡ spec.cost_of digits.now }
+    ensures form { IfSome result IsCost }
+{
+    let cost = u64::from(number_of(digits)?);
+    if cost == 0 || cost > PRICE_LIMIT {
+        return None;
+    }
+    Some(cost)
 }
 
 /// A copy of a text that has to be there, and may not be empty.

@@ -4,7 +4,7 @@ ghost use Rattle.shop_http.specs.Names as spec;
 use shop_model::Parameter;
 
 /// How many parameters there are.
-pub(crate) const PARAMETERS: usize = 24;
+pub(crate) const PARAMETERS: usize = 27;
 
 /// The place of a parameter among all.
 #[inline(always)]
@@ -67,6 +67,12 @@ pub(crate) fn parameter_named(name: &[u8]) -> Option<Parameter>
         Some(Parameter::Expiry)
     } else if name == b"ship".as_slice() {
         Some(Parameter::Ship)
+    } else if name == b"cost".as_slice() {
+        Some(Parameter::Cost)
+    } else if name == b"image".as_slice() {
+        Some(Parameter::Image)
+    } else if name == b"thumb".as_slice() {
+        Some(Parameter::Thumb)
     } else {
         None
     }

@@ -1,9 +1,9 @@
 -- The least number of restocks, as a quotient, and what it leaves.
-use Rattle.std.proofs.Common.{◌≡◌, ℕ, zero, suc, ◌+◌, ◌-◌, ◌*◌, ◌/◌, ◌<◌, ◌≤◌, Bool, true, false, Some, refl, sym, ◌∙◌, ap, arith, cond, unwrap_or, ◌⊎◌, inl, inr, ⊎_elim}
+use Rattle.std.proofs.Common.{◌≡◌, ℕ, zero, suc, ◌+◌, ◌-◌, ◌*◌, ◌/◌, ◌<◌, ◌≤◌, Bool, true, false, Some, ◌∙◌, ap, arith, unwrap_or, ⊎_elim}
 use Rattle.std.specs.List.{range_with_len, find}
 use Rattle.std.proofs.lemmas.Bool.{cond-true, cond-false, le-leb, cases_eq}
 use Rattle.std.proofs.Math.Dec.{leb}
-use Rattle.shop_model.specs.trade.Stocks.{least_stock, times_restocked, stock_after}
+use Rattle.shop_model.specs.trade.Stocks.{times_restocked, stock_after}
 
 -- the first number of a range that passes a test
 find_first : (p : ℕ → Bool) (from n k : ℕ) → from ≤ k → k < from + n → p k ≡ true → ((j : ℕ) → from ≤ j → j < k → p j ≡ false) → find p (range_with_len from n) ≡ Some k

@@ -4,7 +4,7 @@ use Rattle.std.specs.List.{find}
 use Rattle.std.specs.Option.{option_map}
 use Rattle.std.specs.Str.{bytes_eq}
 use Rattle.shop_model.specs.declared.requests.Interaction.{Interaction}
-use Rattle.shop_model.specs.declared.requests.Interaction.TheVariants.{Home, NewProducts, BestSellers, ProductDetail, SearchRequest, SearchResults, ShoppingCart, CustomerRegistration, BuyRequest, BuyConfirm, OrderInquiry, OrderDisplay, AdminRequest}
+use Rattle.shop_model.specs.declared.requests.Interaction.TheVariants.{Home, NewProducts, BestSellers, ProductDetail, SearchRequest, SearchResults, ShoppingCart, CustomerRegistration, BuyRequest, BuyConfirm, OrderInquiry, OrderDisplay, AdminRequest, AdminConfirm}
 
 -- the path of each
 abbrev pub path_of : Interaction → List ℕ
@@ -21,11 +21,13 @@ path_of BuyConfirm = codes "/buy_confirm"
 path_of OrderInquiry = codes "/order_inquiry"
 path_of OrderDisplay = codes "/order_display"
 path_of AdminRequest = codes "/admin_request"
+path_of AdminConfirm = codes "/admin_confirm"
 
 -- all paths, each with its interaction: by their bytes, but that `/` stands last
 abbrev pub paths : List (List ℕ × Interaction)
 paths =
-    (path_of AdminRequest, AdminRequest)
+    (path_of AdminConfirm, AdminConfirm)
+    ∷ (path_of AdminRequest, AdminRequest)
     ∷ (path_of BestSellers, BestSellers)
     ∷ (path_of BuyConfirm, BuyConfirm)
     ∷ (path_of BuyRequest, BuyRequest)

@@ -1,7 +1,7 @@
 -- The parameters of requests; the names are this project's own.
 use Rattle.std.specs.Prelude.{ℕ, List, ◌++◌, codes}
 use Rattle.shop_model.specs.declared.parameter.Parameter.{Parameter}
-use Rattle.shop_model.specs.declared.parameter.Parameter.TheVariants.{C, Cart, Item, Qty, Subject, Kind, Text, User, Pass, FirstName, LastName, Street1, Street2, City, State, Zip, Country, Phone, Email, Card, Number, Name, Expiry, Ship}
+use Rattle.shop_model.specs.declared.parameter.Parameter.TheVariants.{C, Cart, Item, Qty, Subject, Kind, Text, User, Pass, FirstName, LastName, Street1, Street2, City, State, Zip, Country, Phone, Email, Card, Number, Name, Expiry, Ship, Cost, Image, Thumb}
 
 abbrev pub parameter_name : Parameter → List ℕ
 parameter_name C = codes "c"
@@ -28,6 +28,9 @@ parameter_name Number = codes "number"
 parameter_name Name = codes "name"
 parameter_name Expiry = codes "expiry"
 parameter_name Ship = codes "ship"
+parameter_name Cost = codes "cost"
+parameter_name Image = codes "image"
+parameter_name Thumb = codes "thumb"
 
 -- what refuses a parameter that is missing or not in its form
 abbrev pub bad_parameter : Parameter → List ℕ

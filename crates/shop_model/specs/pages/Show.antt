@@ -2,7 +2,7 @@
 use Rattle.std.specs.Prelude.{ℕ, Option, Some, None, Bool, true, false}
 use Rattle.shop_model.specs.declared.page.Page.{Page}
 use Rattle.shop_model.specs.declared.requests.Request.{Request}
-use Rattle.shop_model.specs.declared.requests.Request.TheVariants.{Home, NewProducts, BestSellers, ProductDetail, SearchRequest, SearchResults, CartRequest, CustomerRegistration, BuyRequest, BuyConfirm, OrderInquiry, OrderDisplay, AdminRequest}
+use Rattle.shop_model.specs.declared.requests.Request.TheVariants.{Home, NewProducts, BestSellers, ProductDetail, SearchRequest, SearchResults, CartRequest, CustomerRegistration, BuyRequest, BuyConfirm, OrderInquiry, OrderDisplay, AdminRequest, AdminConfirm}
 use Rattle.shop_model.specs.declared.tables.Tables.{Tables}
 use Rattle.shop_model.specs.declared.refusal.Refusal.{Refusal}
 use Rattle.shop_model.specs.pages.NewProducts.{new_products}
@@ -37,6 +37,7 @@ is_changing (BuyConfirm asked) = true
 is_changing (OrderInquiry asked) = false
 is_changing (OrderDisplay asked) = false
 is_changing (AdminRequest asked) = false
+is_changing (AdminConfirm asked) = true
 
 -- a row that has to be there
 abbrev pub check_there : {Row : Type 0} → Refusal → Option Row → Option Refusal
@@ -63,6 +64,7 @@ check t (BuyConfirm asked) = check_purchase t asked
 check t (OrderInquiry asked) = check_customer t asked.ids.c
 check t (OrderDisplay asked) = check_login t asked.login
 check t (AdminRequest asked) = check_there NoItem (row_numbered t.items asked.item)
+check t (AdminConfirm asked) = check_there NoItem (row_numbered t.items asked.item)
 
 -- what a request that only reads shows where nothing refuses it
 abbrev pub page_for : Tables → Request → ℕ → Option Page
@@ -79,6 +81,7 @@ page_for tables (BuyConfirm asked) draw = None
 page_for tables (OrderInquiry asked) draw = Some (order_inquiry asked.ids (customer_asked tables asked.ids.c))
 page_for tables (OrderDisplay asked) draw = order_display tables asked.login asked.ids
 page_for tables (AdminRequest asked) draw = admin_request tables asked.item asked.ids
+page_for tables (AdminConfirm asked) draw = None
 
 -- the page of a refusal, where there is one, or else another
 abbrev pub refused_or : Option Refusal → Option Page → Option Page

@@ -1,7 +1,8 @@
 use Rattle.std.proofs.Common.{◌≡◌, refl, arith, [], ◌+◌, ◌==◌, length, ap, ◌∙◌}
 use Rattle.shop_attempt.proofs.cited.Marks.{keeps_self, keeps_then}
 use Rattle.shop_edges.proofs.cited.Known.{Consumes-nothing}
-use Rattle.shop_engine.proofs.ConnectionLemmas.{nothing_met, nothing_begun, still_standing, one_point, SoFar-message, Served-closed, Served-inside, Served-broken, Served-memory, Served-spent, Served-message, Served-refusal}
+use Rattle.shop_engine.proofs.ConnectionLemmas.{nothing_met, nothing_begun, still_standing, one_point, SoFar-message}
+use Rattle.shop_engine.proofs.ServedLemmas.{Served-closed, Served-inside, Served-broken, Served-memory, Served-spent, Served-message, Served-refusal}
 use Rattle.shop_engine.specs.Steps.{ANSWERS}
 use Rattle.shop_engine.proofs.serve.serve_all.Goals as goal
 

@@ -29,6 +29,6 @@ returns c t shows drawn =
           (rw (sym cells) at (c.in_ok-table.ensures t shows drawn))
           (c.in_ok-totals.ensures drawn)
           (c.in_ok-authorised.ensures drawn)
-          (rw (c.page_ids-ids.ensures drawn) at (c.in_ok-nav.ensures drawn)))
+          (rw (c.page_ids-ids.ensures drawn ∙ ap purchase_ids c.get.ensures) at (c.in_ok-nav.ensures drawn)))
           (c.in_ok-end.ensures drawn);
     }

@@ -1,6 +1,5 @@
 use Rattle.std.proofs.Common.{◌≡◌, min, take, length, ap, ◌∙◌, arith}
 use Rattle.std.proofs.lemmas.List.{take_min}
-use Rattle.shop_model.specs.rows.Limits.{list_limit}
 use Rattle.shop_ranking.proofs.ranked.first.Goals as goal
 
 pub returns-clause-first : goal.returns-clause-first

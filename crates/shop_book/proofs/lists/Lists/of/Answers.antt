@@ -40,7 +40,7 @@ returns c =
       recent = c.in_ok-recent.ensures.kept ∙ ap (λ (os : List OrderRow). map sold_of (last recent_orders os)) orders;
       units = units;
       days = days;
-      best_rows = c.in_ok-best_rows.ensures ∙ ap (λ (f : Subject → List ℕ). map f subjects) (λ i subject. standing_best_is t c.in_ok-best.best subject c.requires.ids.items units i);
-      newest_rows = c.in_ok-newest_rows.ensures ∙ ap (λ (f : Subject → List ℕ). map f subjects) (λ i subject. standing_newest_is t c.in_ok-newest.newest subject c.requires.ids.items days i);
+      best_rows = c.in_ok-listings.ensures ∙ ap (λ (f : Subject → List ℕ). map f subjects) (λ i subject. standing_best_is t c.in_ok-best.best subject c.requires.ids.items units i);
+      newest_rows = c.in_ok-listings-2.ensures ∙ ap (λ (f : Subject → List ℕ). map f subjects) (λ i subject. standing_newest_is t c.in_ok-newest.newest subject c.requires.ids.items days i);
       auths = subst (λ (os : List OrderRow). AreAuths os c.in_ok-auths.auths) orders c.in_ok-auths.ensures;
     }

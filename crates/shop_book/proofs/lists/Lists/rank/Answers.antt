@@ -14,7 +14,7 @@ use Rattle.shop_book.specs.Stored.{stored}
 use Rattle.shop_book.proofs.SaleSteps.{found_is, gone_there, items_size, units_size, some_mapped, nothing_set, nothing_listed, items_kept, ranked_units, ranked_rows, ranked_raised}
 use Rattle.shop_book.proofs.WindowMoves.{window_after}
 use Rattle.shop_book.proofs.lists.Lists.rank.Goals as goal
-use Rattle.shop_book.proofs.lists.Lists.rank.Goals.{After-order_with-gone, After-bump_gone, After-renew_lists, After-renew_gone}
+use Rattle.shop_book.proofs.lists.Lists.rank.Goals.{After-order_with-gone, After-bump_gone, After-renew_gone}
 
 -- which order leaves
 gone_now : (c : After-order_with-gone) (t : Tables) → IsSale t c.args.coming.now c.args.rows.now → AreRanked t c.args.self.now

@@ -6,9 +6,17 @@ use Rattle.shop_book.specs.Stored.{at, stored, subject_id}
 use Rattle.shop_book.proofs.SubjectIds.{subject_at_place}
 use Rattle.shop_book.proofs.versions.Versions.of.Goals as goal
 
+pub returns-in-NewIn : goal.returns-in-NewIn
+returns-in-NewIn c =
+    let id : c.from.result + 1 ≡ subject_id c.in-NewIn.subject = omega (arith, c.from.ensures, subject_at_place c.number.result c.in-NewIn.subject c.number.ensures) in
+    c.at-in-NewIn.ensures
+    ∙ ap (λ n. at c.deref-in-NewIn.result.now n) id
+    ∙ ap (λ (numbers : List ℕ). at numbers (subject_id c.in-NewIn.subject)) c.deref-in-NewIn.ensures.value
+    ∙ sym (ap (stored c.args.self.now) c.in-NewIn.is)
+
 pub returns-in-BestIn : goal.returns-in-BestIn
 returns-in-BestIn c =
-    let id : c.from.result + 1 ≡ subject_id c.in-BestIn.subject = omega (arith, c.from.ensures, subject_at_place c.number.result c.in-BestIn.subject c.number.ensures) in
+    let id : c.from-in-BestIn.result + 1 ≡ subject_id c.in-BestIn.subject = omega (arith, c.from-in-BestIn.ensures, subject_at_place c.number-in-BestIn.result c.in-BestIn.subject c.number-in-BestIn.ensures) in
     c.at-in-BestIn.ensures
     ∙ ap (λ n. at c.deref-in-BestIn.result.now n) id
     ∙ ap (λ (numbers : List ℕ). at numbers (subject_id c.in-BestIn.subject)) c.deref-in-BestIn.ensures.value

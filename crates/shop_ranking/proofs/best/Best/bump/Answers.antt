@@ -9,7 +9,7 @@ use Rattle.shop_ranking.proofs.Kept.{Stands, list_within, list_at, room_besides,
 use Rattle.shop_ranking.proofs.Listed.{besides}
 use Rattle.shop_ranking.proofs.Sales.{sale, length_sales, sale_before, sale_after}
 use Rattle.shop_ranking.proofs.best.Best.bump.Goals as goal
-use Rattle.shop_ranking.proofs.best.Best.bump.Goals.{After-index, After-number-number, After-index_mut-list, After-take_sale}
+use Rattle.shop_ranking.proofs.best.Best.bump.Goals.{After-index, After-number-number, After-index_mut-list}
 
 has : (c : After-index) → Has (length c.self.inside.units.items) c.args.item
 has c =

@@ -1,4 +1,4 @@
-use Rattle.std.proofs.Common.{◌≡◌, ap, ◌∙◌, Vec, Global, rules}
+use Rattle.std.proofs.Common.{◌≡◌, ap, ◌∙◌, Vec, Global}
 use Rattle.shop_model.specs.lists.Rankings.{Sale, in_order, better}
 use Rattle.shop_ranking.specs.StandingBest.{standing_best, standing_sales}
 use Rattle.shop_ranking.proofs.best.Best.renew.Goals as goal

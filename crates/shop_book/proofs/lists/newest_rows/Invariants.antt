@@ -1,7 +1,0 @@
-use Rattle.std.proofs.Common.{◌≡◌, map, take}
-use Rattle.shop_ranking.specs.StandingNewest.{standing_newest}
-use Rattle.shop_book.proofs.lists.newest_rows.Given as goal
-
--- the lists of the first subjects
-abbrev pub invariant-loop-subject : goal.invariant-loop-subject
-invariant-loop-subject l = l.rows.items ≡ map (standing_newest l.newest) (take l.subject-index l.subject-items)

@@ -1,0 +1,111 @@
+-- Admin Confirm: what it reads, round by round, and the change that it makes.
+use Rattle.std.specs.Prelude.{◌≡◌, ℕ, zero, suc, ◌^◌, ◌<◌, ◌≤◌, List, [], ◌∷◌, ◌++◌, map, sum_by, All, Option, Some}
+use Rattle.shop_model.specs.declared.tables.Tables.{Tables}
+use Rattle.shop_model.specs.asked.AdminAsked.{AdminAsked}
+use Rattle.shop_model.specs.lists.Related.{five_of}
+use Rattle.shop_model.specs.pages.AdminConfirm.{mended_page}
+use Rattle.shop_model.specs.rows.Rows.{ItemRow}
+use Rattle.shop_model.specs.rows.Sound.{Has}
+use Rattle.shop_history.specs.declared.acts.Act.TheVariants.{Admin}
+use Rattle.shop_history.specs.declared.acts.Drawn.{Drawn}
+use Rattle.shop_history.specs.declared.keys.Key.{Key}
+use Rattle.shop_history.specs.declared.keys.Key.TheVariants as key
+use Rattle.shop_history.specs.declared.keys.Row.{Row}
+use Rattle.shop_history.specs.declared.keys.Row.TheVariants as rows
+use Rattle.shop_draft.specs.declared.draft.Draft.{Draft}
+use Rattle.shop_draft.specs.Drawing.{day_after}
+use Rattle.shop_draft.specs.Pages.{IsPage}
+use Rattle.shop_attempt.specs.declared.attempts.ReadOf.{ReadOf}
+use Rattle.shop_attempt.specs.declared.attempts.Write.TheVariants.{PutItem}
+use Rattle.shop_attempt.specs.Reads.{Shows}
+use Rattle.shop_browse.specs.declared.attempted.Ask.{Ask}
+use Rattle.shop_browse.specs.declared.driver.Next.{Next}
+use Rattle.shop_browse.specs.declared.driver.Next.TheVariants.{Change}
+use Rattle.shop_browse.specs.Driver.{keys_of}
+
+-- the customers in a row; another row has none
+abbrev pub customers_in : Row → List ℕ
+customers_in (rows.Customers customers) = customers
+customers_in _ = []
+
+-- the items in a row, with how many units of each; another row has none
+abbrev pub totals_in : Row → List (ℕ × ℕ)
+totals_in (rows.Totals totals) = totals
+totals_in _ = []
+
+-- what buyers bought, as it was read
+abbrev pub lists_in : List ReadOf → List (List (ℕ × ℕ))
+lists_in bought = map (λ r. totals_in r.row) bought
+
+-- the keys of the first round
+abbrev pub first_keys : ℕ → List Key
+first_keys item = key.Item item ∷ key.Buyers item ∷ []
+
+-- the reads of the first round, and others behind them
+pub record HasFirst (item : ℕ) (reads : List ReadOf) : Type 0 where
+  pub book : ReadOf
+  pub buyers : ReadOf
+  pub more : List ReadOf
+  pub reads_are : reads ≡ book ∷ buyers ∷ more
+  pub book_is : book.key ≡ key.Item item
+  pub buyers_is : buyers.key ≡ key.Buyers item
+
+-- behind these come reads of what each buyer bought
+pub record HasSecond (item : ℕ) (reads : List ReadOf) : Type 0 where
+  pub first : HasFirst item reads
+  pub more_are : keys_of first.more ≡ map key.Bought (customers_in first.buyers.row)
+
+-- the item is there
+pub record HasItem (item : ℕ) (reads : List ReadOf) : Type 0 where
+  pub second : HasSecond item reads
+  pub book : ItemRow
+  pub row_is : second.first.book.row ≡ rows.Item book
+
+-- and then those of the labels of the five items that are related by what was read, of so many, which are kept
+pub record HasAll (item items : ℕ) (kept : Option (List ℕ)) (reads : List ReadOf) : Type 0 where
+  pub first : HasFirst item reads
+  pub bought : List ReadOf
+  pub labels : List ReadOf
+  pub five : List ℕ
+  pub more_are : first.more ≡ bought ++ labels
+  pub bought_are : keys_of bought ≡ map key.Bought (customers_in first.buyers.row)
+  pub kept_is : kept ≡ Some five
+  pub five_are : five ≡ five_of (lists_in bought) item items
+  pub labels_are : keys_of labels ≡ map key.Label five
+
+-- the reads by the rounds
+abbrev pub FollowsAdmin : AdminAsked → Option (List ℕ) → Ask → ℕ → List ReadOf → Type 0
+FollowsAdmin asked kept ask zero reads = reads ≡ []
+FollowsAdmin asked kept ask (suc zero) reads = keys_of reads ≡ first_keys asked.item
+FollowsAdmin asked kept ask (suc (suc zero)) reads = HasSecond asked.item reads
+FollowsAdmin asked kept ask (suc (suc (suc more))) reads = HasAll asked.item ask.scale.now.items kept reads
+
+-- of so many items this one is there, and so are those that were bought, whose units can be added
+pub record MayRelate (item items : ℕ) (bought : List ReadOf) : Type 0 where
+  pub six : 6 ≤ items
+  pub there : Has items item
+  pub named : All (λ pairs. All (λ p. Has items p.0) pairs) (lists_in bought)
+  pub fits : sum_by (λ pairs. sum_by (λ p. p.1) pairs) (lists_in bought) < 2 ^ 64
+
+-- an item as it is asked for, with those that are related to it; the settle publishes it
+abbrev pub mended_row : AdminAsked → List ℕ → ItemRow → ItemRow
+mended_row asked five item = record item {
+  related = five;
+  thumb = asked.thumb;
+  image = asked.image;
+  cost = asked.cost;
+}
+
+-- an item that is published on the day of a stamp
+abbrev pub published_at : ℕ → ItemRow → ItemRow
+published_at stamp item = record item { published = day_after stamp 0 }
+
+-- tables show these reads, which are of the labels of the items that are related to one
+pub record AreLabelled (t : Tables) (item : ItemRow) (labels : List ReadOf) : Type 0 where
+  pub keys_are : keys_of labels ≡ map key.Label item.related
+  pub shows : Shows t labels
+
+-- the change that leaves this item, with the draft of its page in whichever tables show the labels
+pub record IsChangeTo (asked : AdminAsked) (item : ItemRow) (labels : List ReadOf) (draft : Draft) (next : Next) : Type 0 where
+  pub written : (t : Tables) → AreLabelled t item labels → (drawn : Drawn) → IsPage draft drawn (mended_page t asked.ids (published_at drawn.stamp item))
+  pub is : next ≡ Change (Admin asked) (PutItem item ∷ [])

@@ -1,0 +1,67 @@
+//! The items that are related to one by what was read of its buyers.
+ghost use Rattle.std.specs.Prelude.{◌≡◌, IfOk, map};
+ghost use Rattle.shop_model.specs.lists.Related.{five_of};
+ghost use Rattle.shop_history.specs.declared.keys.Key.TheVariants as key_kinds;
+ghost use Rattle.shop_order.specs.AdminConfirm as spec;
+
+use shop_attempt::ReadOf;
+use shop_history::{Key, Row};
+use shop_text::{Listed, Memory};
+use shop_window::five_related;
+use std::alloc::Global;
+
+/// The customers in a row; another row has none.
+pub(crate) fn customers_in(row: &Row) -> &[u32]
+    ensures { result.now ≡ spec.customers_in row.now }
+{
+    match row {
+        Row::Customers(customers) => customers.as_slice(),
+        _ => &[],
+    }
+}
+
+/// The keys of what customers bought.
+pub(crate) fn bought_keys(alloc: Global, customers: &[u32]) -> Result<Listed<Key>, Memory>
+    ensures { IfOk result (λ keys. keys ≡ map key_kinds.Bought customers.now) }
+{
+    let mut keys = Listed::with_capacity(alloc, customers.len())?;
+    for customer in customers {
+        keys.push(Key::Bought(*customer))?;
+    }
+    Ok(keys)
+}
+
+/// The items in a row, with how many units of each; another row has none.
+fn totals_in(row: &Row) -> &[(u32, u64)]
+    ensures { result.now ≡ spec.totals_in row.now }
+{
+    match row {
+        Row::Totals(totals) => totals.as_slice(),
+        _ => &[],
+    }
+}
+
+/// What buyers bought, as it was read.
+fn lists_in<'a>(alloc: Global, bought: &'a [ReadOf]) -> Result<Vec<&'a [(u32, u64)]>, Memory>
+    ensures { IfOk result (λ lists. map (λ l. l.now) lists.items ≡ spec.lists_in bought.now) }
+{
+    let mut lists = Vec::with_capacity(alloc, bought.len())?;
+    for read in bought {
+        lists.push(totals_in(&read.row))?;
+    }
+    Ok(lists)
+}
+
+/// The five items, of so many, that are related to one by what was read of each of its buyers.
+pub(crate) fn related(
+    alloc: Global,
+    item: u32,
+    items: u32,
+    bought: &[ReadOf],
+) -> Result<[u32; 5], Memory>
+    requires { spec.MayRelate item items bought.now }
+    ensures { IfOk result (λ five. five ≡ five_of (spec.lists_in bought.now) item items) }
+{
+    let lists = lists_in(alloc, bought)?;
+    five_related(alloc, &lists, item, items)
+}
