@@ -5,9 +5,11 @@
 #![tactic(auto)]
 
 mod answers;
+mod browsers;
 mod catalogue;
 mod drafts;
 mod edges;
+mod links;
 mod listing;
 mod model;
 mod pages;
@@ -49,6 +51,8 @@ fn main(rt: HostRuntime) -> Result<(), Stop> {
     drafts::print(&rt)?;
     pages::print(&rt)?;
     replies::print(&rt)?;
+    links::print(&rt)?;
+    browsers::print(&rt)?;
     let routes = Routes::new(rt.alloc())?;
     print_lines(&rt, &routes)?;
     requests::print_no_text(&rt, &routes)?;

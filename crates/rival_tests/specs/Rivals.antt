@@ -21,7 +21,8 @@ pub record IsFitting (solo : SoloValue) (index : Catalogue) (scale : ScaleRow) :
 abbrev pub among : Seat → Seat
 among seat = record seat { latest = None }
 
--- where the caller is the only one, the log seen has no more entries of others than before
+-- where the caller is the only one, it still is, and the log seen has no more entries of others than before
 abbrev pub LeavesOthers : Seat → Seat → Type 0
 LeavesOthers old new =
-    IsSome old.latest → (caller : ℕ) → caller ≢ old.caller → entries_of caller new.seen ≡ entries_of caller old.seen
+    IsSome old.latest
+    → IsSome new.latest × ((caller : ℕ) → caller ≢ old.caller → entries_of caller new.seen ≡ entries_of caller old.seen)

@@ -1,14 +1,18 @@
-//! A book at which a second caller changes a cart again and again before the first one's settles;
-//! and tests of what the first one is then told, of settles with writes that cancel, and of two callers
-//! who buy as newcomers.
+//! A book at which a second caller changes a cart or buys an item before the first one's settles; and
+//! tests of what the first one is then told, and its gateway asked, of settles with writes that cancel,
+//! and of two callers who buy as newcomers.
 #![tactic(auto)]
 
 #[cfg(test)]
 mod cancelling;
+mod deeds;
 #[cfg(test)]
 mod newcomers;
 mod rivalled;
 #[cfg(test)]
+mod selling;
+#[cfg(test)]
 mod tests;
 
+pub use deeds::Deed;
 pub use rivalled::Rivalled;

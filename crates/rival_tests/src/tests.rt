@@ -3,7 +3,7 @@ ghost use Rattle.std.specs.Arc.{arc_value};
 ghost use Rattle.std.specs.Prelude.{◌≡◌, IfOk, length};
 ghost use Rattle.shop_model.specs.lists.Catalogues.{catalogue};
 
-use crate::Rivalled;
+use crate::{Deed, Rivalled};
 use shop_attempt::Conflict;
 use shop_book::Book;
 use shop_draft::{Draft, Template};
@@ -58,14 +58,18 @@ fn twin(index: &Arc<Index, Global>) -> Result<Arc<Index, Global>, Fail>
     }
 }
 
-/// A worker of caller 1, at whose cart caller 2 makes so many changes.
-fn worker_among(alloc: Global, changes: u32) -> Result<Worker<Rivalled>, Fail> {
+/// A worker of caller 1, among whose settles caller 2 does a deed so often.
+pub(crate) fn worker_among(
+    alloc: Global,
+    deed: Deed,
+    changes: u32,
+) -> Result<Worker<Rivalled>, Fail> {
     let scale = Scale::desk();
     let (book, index) = desk(alloc, &scale)?;
     let index = Arc::new(alloc, index)?;
     let shared = twin(&index)?;
     let draft = empty_draft(alloc)?;
-    let store = Rivalled::new(alloc, book, shared, scale, changes, draft);
+    let store = Rivalled::new(alloc, book, shared, scale, deed, changes, draft);
     Ok(Worker::new(alloc, store, 1, 0, scale, index)?)
 }
 
@@ -74,7 +78,7 @@ fn served(alloc: Global, changes: u32) -> Result<(Report, BytesOut), Fail> {
     let readings = Listed::from_vec(Vec::from_slice(alloc, &[1_000])?);
     let mut clock = ListClock::new(alloc, readings)?;
     let input = Text::copy(alloc, INPUT)?;
-    let mut worker = worker_among(alloc, changes)?;
+    let mut worker = worker_among(alloc, Deed::AddUnit, changes)?;
     let mut source = BytesIn::new(input, 1_000_000, Listed::new(alloc));
     let mut sink = BytesOut::new(alloc, 1_000_000, Listed::new(alloc));
     let mut gateway = Emulator::new(alloc);

@@ -27,10 +27,10 @@ pub record IsAlone (here : Standing) : Type 0 where
   pub latest : here.seat.latest ≡ Some stamp
   pub within : stamp ≤ here.progress.last
 
-is_told : (here : Standing) → IsAlone here → IsSome here.seat.latest
+pub is_told : (here : Standing) → IsAlone here → IsSome here.seat.latest
 is_told here alone = subst IsSome (sym alone.latest) refl
 
-alone_next : (form : Form) (from to : Standing) (step : Step) (asks : Result Request Refusal) → IsStepFor form from step to asks → IsAlone from → IsAlone to
+pub alone_next : (form : Form) (from to : Standing) (step : Step) (asks : Result Request Refusal) → IsStepFor form from step to asks → IsAlone from → IsAlone to
 alone_next form from to step (Ok request) is alone =
     let rose = is.decided.stays.stamp alone.stamp alone.latest in
     record { stamp = rose.0; latest = rose.1; within = omega (arith, rose.3, alone.within, is.moment, is.accepts.last) }
@@ -38,7 +38,7 @@ alone_next form from to step (Err refusal) is alone = subst IsAlone (sym is.stan
 
 -- a point is settled at once, or it tells a refusal
 
-abbrev IsQuick : Point → Type 0
+abbrev pub IsQuick : Point → Type 0
 IsQuick point = (point ≡ plain_point) ⊎ IsAtOnce point
 
 once : (from to : Standing) (step : Step) (request : Request) (kind : PointKind) → step.point.kind ≡ kind → step.point.tries ≡ tries_alone kind
@@ -47,7 +47,7 @@ once from to step request (Busy conflicts) is tries cause = absurd (omega (arith
 once from to step request Plain is tries cause = absurd cause
 once from to step request _ is tries cause = record { settled = subst IsSettled (sym is) tt; tries = tries ∙ ap tries_alone (sym is) }
 
-quick : (form : Form) (from to : Standing) (step : Step) (asks : Result Request Refusal) → IsStepFor form from step to asks → IsAlone from → IsQuick step.point
+pub quick : (form : Form) (from to : Standing) (step : Step) (asks : Result Request Refusal) → IsStepFor form from step to asks → IsAlone from → IsQuick step.point
 quick form from to step (Ok request) is alone = inr (once from to step request step.point.kind refl (is.decided.alone (is_told from alone)) is.decided.cause)
 quick form from to step (Err refusal) is alone = inl is.point
 
@@ -72,7 +72,7 @@ stamp_made from to step request At alone later cause = ap (map (λ (e : Entry). 
 stamp_made from to step request Plain alone later cause = absurd cause
 stamp_made from to step request _ alone later cause = ap (map (λ (e : Entry). e.stamp)) cause.1.0
 
-stamps_of : (form : Form) (from to : Standing) (step : Step) (asks : Result Request Refusal) → IsStepFor form from step to asks → IsAlone from
+pub stamps_of : (form : Form) (from to : Standing) (step : Step) (asks : Result Request Refusal) → IsStepFor form from step to asks → IsAlone from
     → map (λ e. e.stamp) step.made ≡ moment_as step.point.moment step.point.kind
 stamps_of form from to step (Ok request) is alone =
     stamp_made from to step request step.point.kind alone (omega (arith, is.moment, is.accepts.last)) is.decided.cause

@@ -1,2 +1,5 @@
 pub mod Statuses
 pub mod Session
+pub mod Summaries
+pub mod Driving
+pub mod Runs

@@ -1,7 +1,6 @@
 -- What a session does, by its status.
 use Rattle.std.specs.Prelude.{◌≡◌, ◌⊎◌, ℕ, ◌≤◌, List, [], ◌∷◌, map, All, Option, Some}
 use Rattle.std.specs.List.{flat_map}
-use Rattle.std.specs.Io.KnownBytes.{Appends}
 use Rattle.shop_edges.specs.Causes.{Rose}
 use Rattle.shop_edges.specs.declared.gateway.Answer.{Answer}
 use Rattle.shop_model.specs.population.Population.{populated}
@@ -18,13 +17,9 @@ use Rattle.shop_engine.specs.Failures.{RoseBy, failures}
 use Rattle.shop_engine.specs.Served.{Served, Streams}
 use Rattle.shop_engine.specs.Steps.{plain_point}
 use Rattle.shop_engine.specs.Workers.{Caller, Standing, WorkerState, at_first}
-use Rattle.shop_words.specs.declared.command.Command.{Command}
-use Rattle.shop_words.specs.declared.command.Command.TheVariants as command
 use Rattle.shop_words.specs.declared.command.Session.{Session}
-use Rattle.shop_words.specs.Commands.{IsCommand}
 use Rattle.shop_app.specs.declared.status.Status.{Status}
 use Rattle.shop_app.specs.declared.status.Status.TheVariants as status
-use Rattle.shop_app.specs.Statuses.{fault_line}
 
 -- caller 1 of the shop that the words choose
 unfoldable pub first_caller : Session → Caller
@@ -116,16 +111,3 @@ IsSession session old new status.BadWords = ⊥
 IsSession session old new status.ReadFault = Rose old.reads new.reads × ServedTo session old new ended.ReadFault
 IsSession session old new status.WriteFault = Rose old.writes new.writes × ServedTo session old new ended.WriteFault
 IsSession session old new status.Memory = (new ≡ old) ⊎ ServedTo session old new ended.Memory
-
--- what came of a command
-abbrev pub Obeys : Command → Run → Run → Status → Type 0
-Obeys (command.Session session) old new outcome = IsSession session old new outcome
-
--- the words give a command, and this is what came of it, or memory ran out before they were read
-abbrev pub IsRun : List (List ℕ) → Run → Run → Status → Type 0
-IsRun words old new outcome =
-    ((outcome ≡ status.Memory) × (new ≡ old)) ⊎ ((given : Command) × IsCommand words given × Obeys given old new outcome)
-
--- the line of a status stands on the faults sink, or that sink failed
-abbrev pub IsTold : Option (List ℕ) → Option (List ℕ) → ℕ → ℕ → Status → Type 0
-IsTold held held' faults faults' outcome = Appends held held' (fault_line outcome) ⊎ Rose faults faults'

@@ -2,9 +2,11 @@ ghost use Rattle.std.specs.Prelude.{◌≡◌, ◌≢◌, ◌≤◌, IfOk};
 ghost use Rattle.shop_words.specs.declared.command.Command.{Command};
 ghost use Rattle.shop_words.specs.Commands.{IsCommand};
 ghost use Rattle.shop_app.specs.Statuses as spec;
-ghost use Rattle.shop_app.specs.Session.{IsFirst, IsSession, Obeys, IsRun, IsTold};
+ghost use Rattle.shop_app.specs.Runs.{Obeys, IsRun, IsTold};
+ghost use Rattle.shop_app.specs.Session.{IsFirst, IsSession};
 
 use crate::Status;
+use crate::driven::drive_browsers;
 use shop_book::{Book, Solo};
 use shop_edges::{Clock, Gateway, Sink, Source, write_all};
 use shop_engine::{Ended, Worker, serve_connection};
@@ -21,9 +23,9 @@ const CALLER: u32 = 1;
 /// How many changes the log of the shop holds.
 const LIMIT: u64 = 1_000_000;
 
-/// Does what the words say, for one caller: `session` serves one connection from the source to the
-/// sink, over the shop that its options choose, whose payments the gateway takes. Where that doesn't end well, a line on the faults sink
-/// tells it; a fault of that sink changes no status.
+/// Does what the words say, for one caller, over the shop that the options choose, whose payments the gateway takes:
+/// `session` serves one connection from the source to the sink, and `drive` has browsers ask, and prints a summary to
+/// the sink. Where that doesn't end well, a line on the faults sink tells it; a fault of that sink changes no status.
 pub fn run_alone<S: Source, K: Sink, C: Clock, G: Gateway>(
     alloc: Global,
     words: &[Text],
@@ -87,6 +89,7 @@ fn obey<S: Source, K: Sink, C: Clock, G: Gateway>(
 {
     match command {
         Command::Session(asked) => session(alloc, asked, source, sink, clock, gateway),
+        Command::Drive(asked) => drive_browsers(alloc, asked, sink, clock, gateway),
     }
 }
 

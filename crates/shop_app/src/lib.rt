@@ -2,7 +2,10 @@
 #![tactic(auto)]
 
 mod alone;
+mod driven;
 mod status;
+mod summary;
 
 pub use alone::{first_worker, run_alone};
 pub use status::Status;
+pub use summary::authorised_only;

@@ -1,5 +1,5 @@
 -- What the steps of a connection leave together, and how what it has met goes on by one message.
-use Rattle.std.proofs.Common.{◌≡◌, ℕ, ◌+◌, ◌≤◌, ◌==◌, inr, Bool, false, List, [], ◌∷◌, ◌++◌, length, length-append, append-nil, refl, sym, ap, ◌∙◌, arith, subst, map, None, Result, Ok, Err}
+use Rattle.std.proofs.Common.{◌≡◌, ℕ, ◌+◌, ◌≤◌, ◌==◌, inr, Bool, false, List, [], ◌∷◌, ◌++◌, length, length-append, append-nil, refl, sym, ap, ◌∙◌, arith, subst, map, None}
 use Rattle.std.specs.declared.option.Option.{Option}
 use Rattle.std.specs.List.{concat}
 use Rattle.std.specs.Prelude.{flat_map, sum_by}
@@ -10,23 +10,20 @@ use Rattle.std.proofs.lemmas.List.Folds.{concat-append}
 use Rattle.std.proofs.lemmas.List.Sums.{sum_by-cons}
 use Rattle.shop_edges.specs.Gateways.{Answered}
 use Rattle.shop_edges.specs.declared.gateway.Answer.{Answer}
-use Rattle.shop_edges.proofs.cited.Answering.{answered_nothing, answered_more}
+use Rattle.shop_edges.proofs.cited.Answering.{answered_nothing}
 use Rattle.shop_edges.proofs.cited.Known.{Appends-nothing, Appends-more, Consumes-nothing, Consumes-more}
 use Rattle.shop_message.specs.declared.messages.Message.{Message}
 use Rattle.shop_message.specs.Nexts.{GivesMessage}
 use Rattle.shop_message.proofs.cited.Beginnings.{HaveCome-none, HaveCome-message}
-use Rattle.shop_model.specs.declared.requests.Request.{Request}
 use Rattle.shop_attempt.specs.Seats.{Seat}
-use Rattle.shop_http.specs.declared.requests.Refusal.{Refusal}
-use Rattle.shop_http.specs.Requests.{asked}
-use Rattle.shop_pages.specs.declared.reply.Form.{Form}
 use Rattle.shop_engine.specs.declared.report.Point.{Point}
 use Rattle.shop_engine.specs.Connections.{Output, Turn, Adds, MessageAs, Came, SoFar}
 use Rattle.shop_engine.specs.Served.{Streams}
 use Rattle.shop_engine.specs.Seats.{Stays}
-use Rattle.shop_engine.specs.Steps.{ANSWERS, Step, IsStep, IsStepFor, AreSteps, GivesUp}
+use Rattle.shop_engine.specs.Steps.{ANSWERS, Step, IsStep, AreSteps, GivesUp}
 use Rattle.shop_engine.specs.Workers.{Standing, WorkerState, standing}
-use Rattle.shop_engine.proofs.Seats.{stays_same, stays_later, stays_trans}
+use Rattle.shop_engine.proofs.Seats.{stays_same}
+use Rattle.shop_engine.proofs.cited.Stepping.{step_last, stays_then, told_then}
 
 abbrev pub messages_of : List Step → List Message
 messages_of steps = map (λ s. s.message) steps
@@ -39,38 +36,24 @@ replies_of steps = map (λ s. s.reply) steps
 
 -- what steps leave together
 
-last_kept : (form : Form) (from : Standing) (step : Step) (to : Standing) (asks : Result Request Refusal) → IsStepFor form from step to asks → from.progress.last ≤ to.progress.last
-last_kept form from step to (Ok request) is = omega (arith, is.accepts.last)
-last_kept form from step to (Err refusal) is = omega (arith, ap (λ (s : Standing). s.progress.last) is.stands)
-
-step_stays : (form : Form) (from : Standing) (step : Step) (to : Standing) (asks : Result Request Refusal) → IsStepFor form from step to asks → Stays from.seat to.seat step.made step.point.tries to.progress.last
-step_stays form from step to (Ok request) is = rw (sym is.moment) is.decided.stays
-step_stays form from step to (Err refusal) is = rw (is.stands, is.made, is.point) (stays_same from.seat from.progress.last)
-
 last_grows : (answers : ℕ) (from to : Standing) (steps : List Step) → AreSteps answers from steps to → from.progress.last ≤ to.progress.last
 last_grows answers from to [] same = omega (arith, ap (λ (s : Standing). s.progress.last) same)
-last_grows answers from to (step ∷ steps) (next, is, are) = omega (arith, last_kept _ from step next (asked step.message) is, last_grows (answers + 1) next to steps are)
+last_grows answers from to (step ∷ steps) (next, is, are) = omega (arith, step_last _ from step next is, last_grows (answers + 1) next to steps are)
 
 pub stays_of : (answers : ℕ) (from to : Standing) (steps : List Step) → AreSteps answers from steps to
     → Stays from.seat to.seat (flat_map (λ s. s.made) steps) (sum_by (λ s. s.point.tries) steps) to.progress.last
 stays_of answers from to [] same = subst (λ (s : Standing). Stays from.seat s.seat [] 0 s.progress.last) (sym same) (stays_same from.seat from.progress.last)
 stays_of answers from to (step ∷ steps) (next, is, are) =
     rw (sum_by-cons (λ (s : Step). s.point.tries) step steps)
-    (stays_trans from.seat next.seat to.seat step.made (flat_map (λ (s : Step). s.made) steps) step.point.tries (sum_by (λ (s : Step). s.point.tries) steps) to.progress.last
-    (stays_later from.seat next.seat step.made step.point.tries next.progress.last to.progress.last (step_stays _ from step next (asked step.message) is) (last_grows (answers + 1) next to steps are))
+    (stays_then _ from next to step (flat_map (λ (s : Step). s.made) steps) (sum_by (λ (s : Step). s.point.tries) steps) is (last_grows (answers + 1) next to steps are)
     (stays_of (answers + 1) next to steps are))
 
--- what the gateway tells of a step, and of steps
-
-step_told : (form : Form) (from : Standing) (step : Step) (to : Standing) (asks : Result Request Refusal) → IsStepFor form from step to asks → Answered from.told to.told step.answers
-step_told form from step to (Ok request) is = is.told
-step_told form from step to (Err refusal) is = rw (is.stands, is.answers) (answered_nothing from.told)
+-- what the gateway tells of steps
 
 pub told_of : (answers : ℕ) (from to : Standing) (steps : List Step) → AreSteps answers from steps to → Answered from.told to.told (flat_map (λ s. s.answers) steps)
 told_of answers from to [] same = subst (λ (s : Standing). Answered from.told s.told []) (sym same) (answered_nothing from.told)
 told_of answers from to (step ∷ steps) (next, is, are) =
-    answered_more from.told next.told to.told step.answers (flat_map (λ (s : Step). s.answers) steps) (step_told _ from step next (asked step.message) is)
-    (told_of (answers + 1) next to steps are)
+    told_then _ from next to step (flat_map (λ (s : Step). s.answers) steps) is (told_of (answers + 1) next to steps are)
 
 -- memory ran out before anything was done
 

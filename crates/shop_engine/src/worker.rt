@@ -74,6 +74,7 @@ impl<St: Store> Worker<St> {
     ghost use Rattle.shop_model.specs.rows.Limits.{stamp_limit};
     ghost use Rattle.shop_model.specs.asked.Refusals.{page_of};
     ghost use Rattle.shop_edges.specs.Causes.{count_up};
+    ghost use Rattle.shop_history.specs.Lawful.{IsLawful};
     ghost use Rattle.shop_attempt.specs.Marks.{KeepsMarks};
     ghost use Rattle.shop_pages.specs.Replies as replies;
     ghost use Rattle.shop_engine.specs.Failures.{RoseBy, failures_as};
@@ -130,6 +131,14 @@ impl<St: Store> Worker<St> {
         store
     }
 
+    /// The store.
+    pub fn store(&self) -> &St
+        ensures store { result.now ≡ self.now.store }
+        ensures lawful { IsLawful (St.seat self.now.store).opening (St.seat self.now.store).seen }
+    {
+        &self.store
+    }
+
     /// The reply that was made last.
     pub fn reply(&self) -> &[u8]
         ensures { result.now ≡ self.now.reply }
@@ -139,7 +148,7 @@ impl<St: Store> Worker<St> {
 
     /// Answers a message, for the last time on its connection or not: makes the reply, and tells its
     /// point. There is none where memory ran out.
-    pub(crate) fn answer<C: Clock, G: Gateway>(
+    pub fn answer<C: Clock, G: Gateway>(
         &mut self,
         alloc: Global,
         message: &Message,

@@ -22,7 +22,7 @@ same_key_is a b same =
     ∙ ap (λ x. key b.0 x a.2) (eqb-true a.1 b.1 front.1)
     ∙ ap (λ x. key b.0 b.1 x) (eqb-true a.2 b.2 parts.1)
 
-both : (a b : Bool) → a ≡ true → b ≡ true → (a && b) ≡ true
+pub both : (a b : Bool) → a ≡ true → b ≡ true → (a && b) ≡ true
 both true b one other = other
 both false b one other = absurd (let apart : false ≡ true = one in cc)
 
@@ -74,7 +74,7 @@ same_charge_self a =
     (same_bytes_self a.number))
     (same_bytes_self a.expiry)
 
-unlike : (a b : ChargeValue) → (a ≡ b → ⊥) → same_charge a b ≡ false
+pub unlike : (a b : ChargeValue) → (a ≡ b → ⊥) → same_charge a b ≡ false
 unlike a b apart = by (same_charge a b) refl
   where
     by : (x : Bool) → same_charge a b ≡ x → x ≡ false

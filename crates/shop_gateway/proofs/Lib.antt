@@ -1,2 +1,4 @@
+pub mod cited
 mod Charges
 mod Ledgers
+mod Noted

@@ -1,2 +1,6 @@
 pub mod Finished
 mod Phrases
+mod Escaped
+mod PartLemmas
+mod Listing
+mod Letters

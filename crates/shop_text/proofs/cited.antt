@@ -1,3 +1,4 @@
+pub mod Escaped
 pub mod Escapes
 pub mod Plain
 pub mod Syllables

@@ -22,7 +22,7 @@ pub use caption::Caption;
 pub use days::{day_bytes, day_text};
 pub use fold::{fold_begins, fold_eq};
 pub use listed::Listed;
-pub use markup::{entity, escape};
+pub use markup::{entity, escape, unescaped};
 pub use memory::Memory;
 pub use money::cents_text;
 pub use numbers::number_of;

@@ -1,4 +1,5 @@
 ghost use Rattle.std.specs.Prelude.{◌≡◌, ◌<◌, ◌++◌, ◌∷◌, [], length, min, IfOk, OnOk, OnErr, IfSome, MatchOption};
+ghost use Rattle.std.specs.Option.{option_map};
 ghost use Rattle.shop_text.specs.Escape as spec;
 ghost use Rattle.shop_text.specs.Extends.{Extends};
 
@@ -60,4 +61,39 @@ pub fn escape(alloc: Global, bytes: &[u8]) -> Result<Text, Memory>
     let mut text = Text::new(alloc);
     text.push_escaped(bytes)?;
     Ok(text)
+}
+
+/// The first byte of a text that stands escaped, and what follows it. None where the text ends, and where `&`
+/// begins no entity of [`entity`].
+#[tactic(auto, unfolding(crate::specs::Escape::first_read))]
+pub fn unescaped(bytes: &[u8]) -> Option<(u8, &[u8])>
+    ensures value { option_map (λ both. (both.0, both.1.now)) result ≡ spec.first_read bytes.now }
+    ensures shorter { IfSome result (λ both. length both.1.now < length bytes.now) }
+{
+    match bytes {
+        [] => None,
+        [b'&', ..] => after_entity(bytes),
+        [byte, rest @ ..] => Some((*byte, rest)),
+    }
+}
+
+/// The byte that an entity in front stands for, and what follows it.
+#[tactic(auto, unfolding(crate::specs::Escape::entity_read))]
+fn after_entity(bytes: &[u8]) -> Option<(u8, &[u8])>
+    ensures value { option_map (λ both. (both.0, both.1.now)) result ≡ spec.entity_read bytes.now }
+    ensures shorter { IfSome result (λ both. length both.1.now < length bytes.now) }
+{
+    if bytes.starts_with(b"&amp;") {
+        return Some((b'&', &bytes[5..]));
+    }
+    if bytes.starts_with(b"&lt;") {
+        return Some((b'<', &bytes[4..]));
+    }
+    if bytes.starts_with(b"&gt;") {
+        return Some((b'>', &bytes[4..]));
+    }
+    if bytes.starts_with(b"&quot;") {
+        return Some((b'"', &bytes[6..]));
+    }
+    None
 }

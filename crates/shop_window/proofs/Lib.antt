@@ -2,6 +2,8 @@ pub mod Adding
 pub mod Filling
 pub mod Gathering
 pub mod Links
+pub mod Offering
 pub mod Placing
+pub mod Putting
 pub mod Summing
 pub mod Walking

@@ -1,13 +1,13 @@
 //! The five items that are related to an item by what its buyers bought.
 ghost use Rattle.std.specs.Prelude.{◌≡◌, ◌+◌, ◌^◌, ◌<◌, ◌≤◌, All, length, map, sum_by, take, get_or, nat_eq, IfOk, OnOk};
 ghost use Rattle.std.specs.List.{insert, list_any};
+ghost use Rattle.std.specs.List.Sorted.{IsNonDecreasingBy};
 ghost use Rattle.shop_model.specs.lists.Rankings.{better, in_order, put_among};
 ghost use Rattle.shop_model.specs.lists.Related as spec;
 ghost use Rattle.shop_model.specs.rows.Sound.{Has};
 ghost use Rattle.shop_window.specs.Gathered as gathered;
 ghost use Rattle.shop_window.specs.Totals.{units_of};
 
-use crate::units::add_totals;
 use shop_text::Memory;
 use std::alloc::Global;
 use std::cmp::Ordering;
@@ -61,29 +61,16 @@ fn put(top: &mut Vec<Sale>, sale: Sale) -> Result<(), Memory>
     Ok(())
 }
 
-/// The units of each item in the lists, by its id.
-fn units_among(alloc: Global, lists: &[&[(u32, u64)]], items: u32) -> Result<Vec<u64>, Memory>
-    requires items { All (λ pairs. All (λ p. Has items p.0) pairs) (map (λ l. l.now) lists.now) }
-    requires fits { sum_by units_of (map (λ l. l.now) lists.now) < 2 ^ 64 }
-    ensures { IfOk result (λ units. gathered.AreAmong items (map (λ l. l.now) lists.now) units.items) }
+/// The pairs of all lists, rising by item.
+fn gather(alloc: Global, lists: &[&[(u32, u64)]]) -> Result<Vec<(u32, u64)>, Memory>
+    ensures { IfOk result (λ pairs. gathered.AreGathered (map (λ l. l.now) lists.now) pairs.items) }
 {
-    let mut units = vec![in alloc; 0; items as usize + 1]?;
-    for pairs in lists {
-        add_totals(&mut units, *pairs);
+    let mut pairs = Vec::new(alloc);
+    for list in lists {
+        pairs.extend_from_slice(list)?;
     }
-    Ok(units)
-}
-
-/// An item with its units.
-fn sale_in(units: &[u64], id: usize) -> Sale
-    requires within { id < length units.now }
-    requires fits { length units.now ≤ 2 ^ 32 }
-    ensures { result ≡ gathered.sale_in units.now id }
-{
-    Sale {
-        id: id as u32,
-        units: units[id],
-    }
+    pairs.sort_unstable_by_key(|pair| pair.0);
+    Ok(pairs)
 }
 
 /// Whether some units of an item were bought, and it is another than this one.
@@ -93,19 +80,44 @@ fn is_beside(sale: &Sale, item: u32) -> bool
     sale.units > 0 && sale.id != item
 }
 
-/// The items besides this one that have most units.
-fn most_bought(alloc: Global, units: &[u64], item: u32) -> Result<Vec<Sale>, Memory>
-    requires some { 1 ≤ length units.now }
-    requires fits { length units.now ≤ 2 ^ 32 }
-    ensures { IfOk result (λ top. top.items ≡ take 5 (in_order better (gathered.besides_from 1 units.now item))) }
+/// Puts an item among the first ones, where it has units and is another than this one.
+fn offer(top: &mut Vec<Sale>, sale: Sale, item: u32) -> Result<(), Memory>
+    ensures { OnOk result (top.new.items ≡ gathered.offered item sale top.old.items) }
+{
+    if is_beside(&sale, item) {
+        put(top, sale)?;
+    }
+    Ok(())
+}
+
+/// The items besides this one that have most units, of pairs that rise by item and of so many items.
+fn most_bought(
+    alloc: Global,
+    pairs: &[(u32, u64)],
+    item: u32,
+    items: u32,
+) -> Result<Vec<Sale>, Memory>
+    requires some { 1 ≤ items }
+    requires rising { IsNonDecreasingBy (λ p. p.0) pairs.now }
+    requires names { All (λ p. Has items p.0) pairs.now }
+    requires fits { units_of pairs.now < 2 ^ 64 }
+    ensures { IfOk result (λ top. top.items ≡ take 5 (in_order better (gathered.besides_from 1 pairs.now item items))) }
 {
     let mut top = Vec::with_capacity(alloc, RELATED_ITEMS + 1)?;
-    for id in (1..units.len()).rev() {
-        let sale = sale_in(units, id);
-        if is_beside(&sale, item) {
-            put(&mut top, sale)?;
+    let mut sale = Sale {
+        id: items,
+        units: 0,
+    };
+    for place in (0..pairs.len()).rev() {
+        let (id, units) = pairs[place];
+        if id == sale.id {
+            sale.units += units;
+        } else {
+            offer(&mut top, sale, item)?;
+            sale = Sale { id, units };
         }
     }
+    offer(&mut top, sale, item)?;
     Ok(top)
 }
 
@@ -177,8 +189,8 @@ pub fn five_related(
     requires fits { sum_by (λ pairs. sum_by (λ p. p.1) pairs) (map (λ b. b.now) buyers.now) < 2 ^ 64 }
     ensures { IfOk result (λ five. five ≡ spec.five_of (map (λ b. b.now) buyers.now) item items) }
 {
-    let units = units_among(alloc, buyers, items)?;
-    let top = most_bought(alloc, &units, item)?;
+    let pairs = gather(alloc, buyers)?;
+    let top = most_bought(alloc, &pairs, item, items)?;
     let most = ids(alloc, &top)?;
     Ok(filled(&most, item, items))
 }

@@ -22,16 +22,6 @@ pub(crate) fn add_lines(units: &mut Vec<u64>, lines: &[(u32, u32)])
     }
 }
 
-/// Adds the units of totals to those of their items.
-pub(crate) fn add_totals(units: &mut Vec<u64>, totals: &[(u32, u64)])
-    requires { HasRoom units.old.items totals.now }
-    ensures { Adds units.old.items units.new.items (λ item. units_in_lines item totals.now) }
-{
-    for (item, quantity) in totals {
-        add_line(units, *item, *quantity);
-    }
-}
-
 /// Takes a quantity from the units of an item.
 fn take_line(units: &mut Vec<u64>, item: u32, quantity: u32)
     requires item { item < length units.old.items }

@@ -6,4 +6,5 @@ pub mod Parses
 pub mod Readings
 pub mod Numbers
 pub mod ScaleNames
+pub mod Commands
 pub mod Sessions

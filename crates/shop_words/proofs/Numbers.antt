@@ -1,11 +1,10 @@
 -- Numbers in words, and that they are plain.
-use Rattle.std.proofs.Common.{◌≡◌, ◌<◌, ◌≤◌, ◌^◌, ◌==◌, ℕ, Bool, true, false, refl, ap, subst, List, [], ◌∷◌, length, Some, None, Result, Ok, Err, arith, le-leb, leb-true, ne_eqb}
+use Rattle.std.proofs.Common.{◌≡◌, ◌<◌, ℕ, Bool, true, false, refl, List, [], ◌∷◌, length, Some, None, arith, leb-true}
 use Rattle.std.specs.Prelude.{nat_le}
-use Rattle.std.specs.Result.{result_ok}
 use Rattle.std.specs.List.{list_all}
 use Rattle.std.specs.Char.{is_ascii_digit}
 use Rattle.std.specs.Int.{IsInRange}
-use Rattle.std.specs.Str.Parse.{AllDigits, IsNumeral, ParsesUnsigned, digits_value, without_leading_plus}
+use Rattle.std.specs.Str.Parse.{AllDigits}
 use Rattle.std.proofs.lemmas.Fmt.{IsAscii-from_digits}
 use Rattle.std.proofs.lemmas.Str.{digit_value_digit}
 use Rattle.clap.proofs.WalkLemmas.{both}

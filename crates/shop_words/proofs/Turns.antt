@@ -4,7 +4,7 @@ use Rattle.std.specs.Prelude.{encode_utf8, slice_get}
 use Rattle.std.specs.Str.{bytes_eq, chars}
 use Rattle.std.proofs.Math.Bool.{or-false}
 use Rattle.clap.specs.Lexer.{long_of, short_of}
-use Rattle.clap.specs.Walk.{Held, Row, Rule, Text, Waiting, Walk, used, idle, after_flag, after_step, arg_by_id, arg_by_long, arg_by_short, bundle_met, has_long, has_row, has_short, long_met, option, plain, plain_word, Outcome, settled, settled_rows, subcommand_met, walked, with_values, without, at_row, more_values}
+use Rattle.clap.specs.Walk.{Held, Row, Rule, Text, Waiting, Walk, used, idle, after_flag, after_step, arg_by_id, arg_by_long, bundle_met, has_long, has_row, has_short, long_met, option, plain, plain_word, Outcome, settled_rows, subcommand_met, walked, without, at_row, more_values}
 use Rattle.clap.specs.Walk as walk
 use Rattle.clap.specs.Kinds.{Kinds, or_else}
 use Rattle.clap.specs.Faults.{bundle_step_fault, flags_fault, long_fault, react_fault, short_fault, use_fault, settle_fault, step_fault, turn_fault}

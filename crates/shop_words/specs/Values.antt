@@ -4,6 +4,8 @@ use Rattle.std.specs.List.{before_first, after_first}
 use Rattle.std.specs.Str.{bytes_eq}
 use Rattle.shop_text.specs.Numbers.{number_of}
 use Rattle.shop_model.specs.population.Scales.{ScaleRow, desk, larger}
+use Rattle.shop_browsers.specs.declared.mix.Mix.{Mix}
+use Rattle.shop_browsers.specs.declared.mix.Mix.TheVariants.{Browsing, Shopping, Ordering}
 
 -- the scale of so many items, for so many emulated browsers: 1,000 or 10,000, for 1 to 10
 unfoldable pub larger_of : ℕ → ℕ → Option ScaleRow
@@ -22,3 +24,23 @@ unfoldable pub scale_of : List ℕ → Option ScaleRow
 scale_of text =
     if bytes_eq text (codes "desk") then Some desk
     else larger_of_both (number_of (before_first is_x text)) (number_of (after_first is_x text))
+
+-- the number, if it is one of these
+abbrev pub within : ℕ → ℕ → Option ℕ → Option ℕ
+within low high None = None
+within low high (Some number) = if nat_le low number && nat_le number high then Some number else None
+
+-- how many browsers there are: 1 to 64
+abbrev pub browsers_of : List ℕ → Option ℕ
+browsers_of text = within 1 64 (number_of text)
+
+-- how many steps they make: 1 to 100,000
+abbrev pub steps_of : List ℕ → Option ℕ
+steps_of text = within 1 100_000 (number_of text)
+
+-- the mix with this name
+unfoldable pub mix_of : List ℕ → Option Mix
+mix_of text =
+    if bytes_eq text (codes "browsing") then Some Browsing else
+    (if bytes_eq text (codes "shopping") then Some Shopping else
+    (if bytes_eq text (codes "ordering") then Some Ordering else None))

@@ -1,11 +1,12 @@
 ghost use Rattle.std.specs.Prelude.{◌≡◌, IfOk, IfSome, IfNone, Err};
 ghost use Rattle.clap.specs.Words.{first_value, found_of};
-ghost use Rattle.shop_words.specs.Commands.{Chooses, IfCommand, IsCommand, IsSession};
+ghost use Rattle.shop_words.specs.Commands.{Chooses, ChoosesDrive, IfCommand, IsCommand};
 ghost use Rattle.shop_words.specs.declared.options.Refusal.TheVariants as refusal;
 
 use crate::options::{Refusal, options_of, texts_of};
-use crate::values::scale_of;
+use crate::values::{browsers_of, mix_of, scale_of, steps_of};
 use clap::ArgMatches;
+use shop_browsers::Mix;
 use shop_model::Scale;
 use shop_text::{Text, number_of};
 use std::alloc::Global;
@@ -15,6 +16,8 @@ use std::alloc::Global;
 pub enum Command {
     /// One connection is served, from standard input to standard output.
     Session(Session),
+    /// Browsers are driven over a shop of their own, and a summary is printed.
+    Drive(Drive),
 }
 
 /// The shop of a session.
@@ -23,6 +26,17 @@ pub struct Session {
     pub scale: Scale,
     /// The seed that its population and its words are drawn from.
     pub seed: u32,
+}
+
+/// Browsers, and the shop that they are driven over.
+#[derive(Clone, Copy, Debug, PartialEq, Eq)]
+pub struct Drive {
+    pub shop: Session,
+    /// 1 to 64.
+    pub browsers: u32,
+    /// 1 to 100,000.
+    pub steps: u32,
+    pub mix: Mix,
 }
 
 /// What words came to.
@@ -38,6 +52,9 @@ pub enum Parsed {
 /// The names of a session's options.
 static SESSION: [&str; 2] = ["scale", "seed"];
 
+/// The names of a drive's options.
+static DRIVE: [&str; 5] = ["scale", "seed", "browsers", "steps", "mix"];
+
 /// The command that the words give. The first one names it, and the others are its options, each written
 /// `--name value` or `--name=value`, at most once, in any order.
 pub fn command_of(alloc: Global, words: &[Text]) -> Parsed
@@ -45,30 +62,40 @@ pub fn command_of(alloc: Global, words: &[Text]) -> Parsed
     ensures only { IfCommand result (λ command. (other : Command) → IsCommand words.now other → other ≡ command) }
     ensures bad { result ≡ Parsed.Bad → (command : Command) → ¬ (IsCommand words.now command) }
 {
-    match session_of(alloc, words) {
-        Ok(session) => Parsed::Command(Command::Session(session)),
+    match read(alloc, words) {
+        Ok(command) => Parsed::Command(command),
         Err(Refusal::Bad) => Parsed::Bad,
         Err(Refusal::Memory) => Parsed::Memory,
     }
 }
 
-fn session_of(alloc: Global, words: &[Text]) -> Result<Session, Refusal>
-    ensures session { IfOk result (IsSession words.now) }
-    ensures only { IfOk result (λ session. (other : Session) → IsSession words.now other → other ≡ session) }
-    ensures bad { result ≡ Err refusal.Bad → (session : Session) → ¬ (IsSession words.now session) }
+fn read(alloc: Global, words: &[Text]) -> Result<Command, Refusal>
+    ensures command { IfOk result (IsCommand words.now) }
+    ensures only { IfOk result (λ command. (other : Command) → IsCommand words.now other → other ≡ command) }
+    ensures bad { result ≡ Err refusal.Bad → (command : Command) → ¬ (IsCommand words.now command) }
 {
     let texts = texts_of(alloc, words)?;
-    let read = texts.as_slice();
-    match read {
+    let texts = texts.as_slice();
+    match texts {
         ["session", ..] => {
-            let found = options_of(alloc, &SESSION, read)?;
-            chosen(&found).ok_or(Refusal::Bad)
+            let found = options_of(alloc, &SESSION, texts)?;
+            match session_of(&found) {
+                Some(session) => Ok(Command::Session(session)),
+                None => Err(Refusal::Bad),
+            }
+        }
+        ["drive", ..] => {
+            let found = options_of(alloc, &DRIVE, texts)?;
+            match drive_of(&found) {
+                Some(drive) => Ok(Command::Drive(drive)),
+                None => Err(Refusal::Bad),
+            }
         }
         _ => Err(Refusal::Bad),
     }
 }
 
-fn chosen(found: &ArgMatches) -> Option<Session>
+fn session_of(found: &ArgMatches) -> Option<Session>
     ensures some { IfSome result (Chooses (first_value (found_of found.now))) }
     ensures none { IfNone result ((session : Session) → ¬ (Chooses (first_value (found_of found.now)) session)) }
 {
@@ -81,4 +108,29 @@ fn chosen(found: &ArgMatches) -> Option<Session>
         None => 0,
     };
     Some(Session { scale, seed })
+}
+
+fn drive_of(found: &ArgMatches) -> Option<Drive>
+    ensures some { IfSome result (ChoosesDrive (first_value (found_of found.now))) }
+    ensures none { IfNone result ((drive : Drive) → ¬ (ChoosesDrive (first_value (found_of found.now)) drive)) }
+{
+    let shop = session_of(found)?;
+    let browsers = match found.get_str("browsers") {
+        Some(text) => browsers_of(text)?,
+        None => 1,
+    };
+    let steps = match found.get_str("steps") {
+        Some(text) => steps_of(text)?,
+        None => 100,
+    };
+    let mix = match found.get_str("mix") {
+        Some(text) => mix_of(text)?,
+        None => Mix::Shopping,
+    };
+    Some(Drive {
+        shop,
+        browsers,
+        steps,
+        mix,
+    })
 }

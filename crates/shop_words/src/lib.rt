@@ -5,4 +5,4 @@ mod command;
 mod options;
 mod values;
 
-pub use command::{Command, Parsed, Session, command_of};
+pub use command::{Command, Drive, Parsed, Session, command_of};

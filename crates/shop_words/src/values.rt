@@ -1,6 +1,7 @@
 ghost use Rattle.std.specs.Prelude.{◌≡◌};
 ghost use Rattle.shop_words.specs.Values as spec;
 
+use shop_browsers::Mix;
 use shop_model::Scale;
 use shop_text::number_of;
 
@@ -21,4 +22,39 @@ fn larger_of(items: Option<u32>, ebs: Option<u32>) -> Option<Scale>
     ensures { result ≡ spec.larger_of_both items ebs }
 {
     Scale::of(items?, ebs?)
+}
+
+pub(crate) fn browsers_of(text: &str) -> Option<u32>
+    ensures { result ≡ spec.browsers_of text.now }
+{
+    within(1, 64, number_of(text.as_bytes()))
+}
+
+pub(crate) fn steps_of(text: &str) -> Option<u32>
+    ensures { result ≡ spec.steps_of text.now }
+{
+    within(1, 100_000, number_of(text.as_bytes()))
+}
+
+fn within(low: u32, high: u32, number: Option<u32>) -> Option<u32>
+    ensures { result ≡ spec.within low high number }
+{
+    let number = number?;
+    if low <= number && number <= high {
+        Some(number)
+    } else {
+        None
+    }
+}
+
+#[tactic(auto, unfolding(crate::specs::Values::mix_of))]
+pub(crate) fn mix_of(text: &str) -> Option<Mix>
+    ensures { result ≡ spec.mix_of text.now }
+{
+    match text {
+        "browsing" => Some(Mix::Browsing),
+        "shopping" => Some(Mix::Shopping),
+        "ordering" => Some(Mix::Ordering),
+        _ => None,
+    }
 }

@@ -1,8 +1,10 @@
 -- The targets of links, and the ids that a page hands on; all this project's own.
 use Rattle.std.specs.Prelude.{ℕ, List, [], ◌∷◌, ◌++◌, Option, Some, None, codes, decimal}
+use Rattle.std.specs.List.{flat_map}
 use Rattle.shop_model.specs.declared.page.Block.{Block}
 use Rattle.shop_model.specs.declared.page.Block.TheVariants.{Link}
 use Rattle.shop_model.specs.declared.page.Field.{Field}
+use Rattle.shop_model.specs.declared.page.Page.{Page}
 use Rattle.shop_model.specs.declared.requests.IdsAsked.{IdsAsked}
 use Rattle.shop_model.specs.declared.subject.Subject.{Subject}
 use Rattle.shop_model.specs.rows.Subjects.{subject_name}
@@ -59,3 +61,12 @@ nav ids =
     ∷ plain_link (codes "/search_request") ids (codes "Search")
     ∷ plain_link (codes "/shopping_cart") ids (codes "Cart")
     ∷ []
+
+-- the target of a link; none of any other block
+abbrev pub link_target : Block → List (List ℕ)
+link_target (Link target label) = target ∷ []
+link_target other = []
+
+-- the targets of a page's links, in order
+abbrev pub targets_of : Page → List (List ℕ)
+targets_of page = flat_map link_target page.blocks

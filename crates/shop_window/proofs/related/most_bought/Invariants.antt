@@ -1,10 +1,5 @@
-use Rattle.std.proofs.Common.{◌≡◌, ◌≤◌, take}
-use Rattle.shop_model.specs.lists.Rankings.{better, in_order}
-use Rattle.shop_window.specs.Gathered.{besides_from}
+use Rattle.shop_window.proofs.Offering.{IsWalked}
 use Rattle.shop_window.proofs.related.most_bought.Given as goal
 
-abbrev pub invariant-loop-id : goal.invariant-loop-id
-invariant-loop-id l = record {
-  some : 1 ≤ l.id;
-  top : l.top.items ≡ take 5 (in_order better (besides_from l.id l.units l.item));
-}
+abbrev pub invariant-loop-place : goal.invariant-loop-place
+invariant-loop-place l = IsWalked l.pairs l.item l.items l.place l.sale l.top.items

@@ -1,7 +1,7 @@
 use Rattle.std.proofs.Common.{◌≡◌, ◌∙◌, sym, true, false, get_or, arith}
 use Rattle.std.specs.Ordering.{is_gt}
 use Rattle.shop_model.specs.lists.Rankings.{better}
-use Rattle.shop_window.proofs.Gathering.{place_before, place_behind, place_last}
+use Rattle.shop_window.proofs.Putting.{place_before, place_behind, place_last}
 use Rattle.shop_window.proofs.related.place_among.Goals as goal
 
 pub returns-then-not-is_gt-clause-place : goal.returns-then-not-is_gt-clause-place

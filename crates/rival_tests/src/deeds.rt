@@ -1,0 +1,298 @@
+//! What caller 2 does at a book that caller 1 has too.
+ghost use Rattle.std.specs.Prelude.{◌≡◌, ◌≤◌, IfSome};
+ghost use Rattle.shop_model.specs.rows.Limits.{stamp_limit};
+ghost use Rattle.shop_attempt.specs.Faithful.{Faithful};
+ghost use Rattle.shop_attempt.specs.Marks.{KeepsMarks, Looks};
+ghost use Rattle.shop_attempt.specs.Seats.{Follows};
+ghost use Rattle.shop_browse.specs.Attempts.{Suits};
+ghost use Rattle.rival_tests.specs.Rivals.{LeavesOthers};
+
+use shop_attempt::{Attempt, Settle, Store};
+use shop_browse::{Ask, Attempted};
+use shop_draft::Draft;
+use shop_gateway::Emulator;
+use shop_history::{Act, Ids};
+use shop_model::{AdminConfirm, BuyConfirm, Card, CardType, CartRequest, IdsAsked, ShipType};
+use shop_order::admin_confirm::admin_confirm;
+use shop_order::buy_confirm::{Paid, buy_confirm, pay};
+use shop_order::shopping_cart::shopping_cart;
+use shop_text::{Listed, Memory, Shared, Text};
+use std::alloc::Global;
+
+/// What caller 2 does before a settle of caller 1.
+#[derive(Clone, Copy, Debug, PartialEq, Eq)]
+pub enum Deed {
+    /// It adds a unit of item 2 to cart 1, if there is this cart.
+    AddUnit,
+    /// It buys a unit of this item for customer 11, where caller 1 is about to buy or to administer an item.
+    Buy(u32),
+    /// It lets item 1 cost 20.00, where caller 1 is about to buy.
+    Reprice,
+}
+
+impl Deed {
+    /// Whether its time is before a settle of this attempt.
+    pub(crate) fn is_before(self, attempt: &Attempt) -> bool {
+        match self {
+            Deed::AddUnit => true,
+            Deed::Buy(_) => matches!(
+                attempt.act,
+                Some(Act::Confirm(_, _, _)) | Some(Act::Admin(_))
+            ),
+            Deed::Reprice => matches!(attempt.act, Some(Act::Confirm(_, _, _))),
+        }
+    }
+}
+
+/// The deed of whoever has the seat; whether it was done.
+pub(crate) fn does<St: Store>(
+    alloc: Global,
+    store: &mut St,
+    ask: &Ask,
+    deed: Deed,
+    draft: &mut Draft,
+) -> bool
+    requires suits { Suits ask.now (St.seat store.old) }
+    requires moment { ask.now.moment ≤ stamp_limit }
+    ensures follows { Follows (St.seat store.old) (St.seat store.new) }
+    ensures others { LeavesOthers (St.seat store.old) (St.seat store.new) }
+    ensures marks { KeepsMarks (St.marked store.old) (St.marked store.new) (St.seat store.old) (St.seat store.new) }
+{
+    match deed {
+        Deed::AddUnit => add_unit(alloc, store, ask, draft),
+        Deed::Buy(item) => buy_item(alloc, store, ask, item, draft),
+        Deed::Reprice => reprice(alloc, store, ask, draft),
+    }
+}
+
+/// One more unit of item 2 into cart 1; whether that was done.
+#[tactic(auto, using(shop_attempt::proofs::cited::Looks::follows_trans))]
+fn add_unit<St: Store>(alloc: Global, store: &mut St, ask: &Ask, draft: &mut Draft) -> bool
+    requires suits { Suits ask.now (St.seat store.old) }
+    requires moment { ask.now.moment ≤ stamp_limit }
+    ensures follows { Follows (St.seat store.old) (St.seat store.new) }
+    ensures others { LeavesOthers (St.seat store.old) (St.seat store.new) }
+    ensures marks { KeepsMarks (St.marked store.old) (St.marked store.new) (St.seat store.old) (St.seat store.new) }
+{
+    match adding(alloc, store, ask, Some(1), 2, draft) {
+        Some(attempt) => {
+            let changes = attempt.act.is_some();
+            settles(store, attempt).is_some() && changes
+        }
+        None => false,
+    }
+}
+
+/// A unit of an item into a new cart, which is then bought; whether that was done.
+fn buy_item<St: Store>(
+    alloc: Global,
+    store: &mut St,
+    ask: &Ask,
+    item: u32,
+    draft: &mut Draft,
+) -> bool
+    requires suits { Suits ask.now (St.seat store.old) }
+    requires moment { ask.now.moment ≤ stamp_limit }
+    ensures follows { Follows (St.seat store.old) (St.seat store.new) }
+    ensures others { LeavesOthers (St.seat store.old) (St.seat store.new) }
+    ensures marks { KeepsMarks (St.marked store.old) (St.marked store.new) (St.seat store.old) (St.seat store.new) }
+{
+    match new_cart(alloc, store, ask, item, draft) {
+        Some(cart) => buy(alloc, store, ask, cart, draft),
+        None => false,
+    }
+}
+
+/// The id of a new cart with a unit of an item.
+#[tactic(auto, using(shop_attempt::proofs::cited::Looks::follows_trans))]
+fn new_cart<St: Store>(
+    alloc: Global,
+    store: &mut St,
+    ask: &Ask,
+    item: u32,
+    draft: &mut Draft,
+) -> Option<u32>
+    requires suits { Suits ask.now (St.seat store.old) }
+    requires moment { ask.now.moment ≤ stamp_limit }
+    ensures follows { Follows (St.seat store.old) (St.seat store.new) }
+    ensures others { LeavesOthers (St.seat store.old) (St.seat store.new) }
+    ensures marks { KeepsMarks (St.marked store.old) (St.marked store.new) (St.seat store.old) (St.seat store.new) }
+{
+    match adding(alloc, store, ask, None, item, draft) {
+        Some(attempt) => settles(store, attempt)?.cart,
+        None => None,
+    }
+}
+
+/// A cart, bought; whether that was done.
+#[tactic(auto, using(shop_attempt::proofs::cited::Looks::follows_trans))]
+fn buy<St: Store>(alloc: Global, store: &mut St, ask: &Ask, cart: u32, draft: &mut Draft) -> bool
+    requires suits { Suits ask.now (St.seat store.old) }
+    requires moment { ask.now.moment ≤ stamp_limit }
+    ensures follows { Follows (St.seat store.old) (St.seat store.new) }
+    ensures others { LeavesOthers (St.seat store.old) (St.seat store.new) }
+    ensures marks { KeepsMarks (St.marked store.old) (St.marked store.new) (St.seat store.old) (St.seat store.new) }
+{
+    let Ok(asked) = purchase(alloc, cart) else {
+        return false;
+    };
+    match buying(alloc, store, ask, &asked, draft) {
+        Some(attempt) => settles(store, attempt).is_some(),
+        None => false,
+    }
+}
+
+/// Item 1 at another cost; whether that was done.
+#[tactic(auto, using(shop_attempt::proofs::cited::Looks::follows_trans))]
+fn reprice<St: Store>(alloc: Global, store: &mut St, ask: &Ask, draft: &mut Draft) -> bool
+    requires suits { Suits ask.now (St.seat store.old) }
+    requires moment { ask.now.moment ≤ stamp_limit }
+    ensures follows { Follows (St.seat store.old) (St.seat store.new) }
+    ensures others { LeavesOthers (St.seat store.old) (St.seat store.new) }
+    ensures marks { KeepsMarks (St.marked store.old) (St.marked store.new) (St.seat store.old) (St.seat store.new) }
+{
+    match repricing(alloc, store, ask, draft) {
+        Some(attempt) => settles(store, attempt).is_some(),
+        None => false,
+    }
+}
+
+/// The attempt to add a unit of an item to a cart, or to a new one.
+fn adding<St: Store>(
+    alloc: Global,
+    store: &mut St,
+    ask: &Ask,
+    cart: Option<u32>,
+    item: u32,
+    draft: &mut Draft,
+) -> Option<Attempt>
+    requires suits { Suits ask.now (St.seat store.old) }
+    ensures looks { Looks St.seat St.marked store.old store.new }
+    ensures faithful { IfSome result (Faithful (St.seat store.new).opening (St.seat store.new).seen) }
+    ensures moment { IfSome result (λ attempt. attempt.moment ≡ ask.now.moment) }
+{
+    let asked = CartRequest {
+        item: Some(item),
+        sets: Listed::new(alloc),
+        ids: IdsAsked { c: None, cart },
+    };
+    match shopping_cart(alloc, store, ask, &asked, draft) {
+        Attempted::Ready(attempt) => Some(attempt),
+        Attempted::Pay(_) => None,
+        Attempted::Contradiction(_) => None,
+        Attempted::Memory => None,
+    }
+}
+
+/// That item 1 is to cost 20.00.
+fn repriced(alloc: Global) -> Result<Shared<AdminConfirm>, Memory> {
+    let asked = AdminConfirm {
+        item: 1,
+        cost: 2_000,
+        image: Text::copy(alloc, b"/i.gif")?,
+        thumb: Text::copy(alloc, b"/t.gif")?,
+        ids: IdsAsked {
+            c: None,
+            cart: None,
+        },
+    };
+    Shared::new(alloc, asked)
+}
+
+/// The attempt to let item 1 cost 20.00.
+fn repricing<St: Store>(
+    alloc: Global,
+    store: &mut St,
+    ask: &Ask,
+    draft: &mut Draft,
+) -> Option<Attempt>
+    requires suits { Suits ask.now (St.seat store.old) }
+    ensures looks { Looks St.seat St.marked store.old store.new }
+    ensures faithful { IfSome result (Faithful (St.seat store.new).opening (St.seat store.new).seen) }
+    ensures moment { IfSome result (λ attempt. attempt.moment ≡ ask.now.moment) }
+{
+    let Ok(asked) = repriced(alloc) else {
+        return None;
+    };
+    match admin_confirm(alloc, store, ask, &asked, draft) {
+        Attempted::Ready(attempt) => Some(attempt),
+        Attempted::Pay(_) => None,
+        Attempted::Contradiction(_) => None,
+        Attempted::Memory => None,
+    }
+}
+
+/// The card of customer 11.
+fn card(alloc: Global) -> Result<Card, Memory> {
+    Ok(Card {
+        card: CardType::Visa,
+        number: Text::copy(alloc, b"4111222233334444")?,
+        name: Text::copy(alloc, b"G")?,
+        expiry: Text::copy(alloc, b"2027-05")?,
+    })
+}
+
+/// That customer 11 buys a cart.
+fn purchase(alloc: Global, cart: u32) -> Result<Shared<BuyConfirm>, Memory> {
+    let asked = BuyConfirm {
+        c: 11,
+        cart,
+        payment: card(alloc)?,
+        ship: ShipType::Mail,
+        address: None,
+    };
+    Shared::new(alloc, asked)
+}
+
+/// The attempt at a purchase, paid by caller 2 at a gateway of its own.
+fn buying<St: Store>(
+    alloc: Global,
+    store: &mut St,
+    ask: &Ask,
+    asked: &Shared<BuyConfirm>,
+    draft: &mut Draft,
+) -> Option<Attempt>
+    requires suits { Suits ask.now (St.seat store.old) }
+    ensures looks { Looks St.seat St.marked store.old store.new }
+    ensures faithful { IfSome result (Faithful (St.seat store.new).opening (St.seat store.new).seen) }
+    ensures moment { IfSome result (λ attempt. attempt.moment ≡ ask.now.moment) }
+{
+    let Attempted::Pay(attempt) = buy_confirm(alloc, store, ask, asked.get(), draft) else {
+        return None;
+    };
+    let mut kept = None;
+    let mut gateway = Emulator::new(alloc);
+    let paid = pay(
+        alloc,
+        ask,
+        asked,
+        2,
+        2,
+        attempt,
+        &mut kept,
+        &mut gateway,
+        draft,
+    );
+    match paid {
+        Paid::Approved(attempt) => Some(attempt),
+        Paid::Denied(_, _) => None,
+        Paid::Failed => None,
+        Paid::Memory => None,
+    }
+}
+
+/// Settles an attempt; the ids of the rows that it made, where that was done.
+fn settles<St: Store>(store: &mut St, attempt: Attempt) -> Option<Ids>
+    requires faithful { Faithful (St.seat store.old).opening (St.seat store.old).seen attempt }
+    requires moment { attempt.moment ≤ stamp_limit }
+    ensures follows { Follows (St.seat store.old) (St.seat store.new) }
+    ensures others { LeavesOthers (St.seat store.old) (St.seat store.new) }
+    ensures marks { KeepsMarks (St.marked store.old) (St.marked store.new) (St.seat store.old) (St.seat store.new) }
+{
+    match store.settle(attempt) {
+        Settle::Done(drawn) => Some(drawn.ids),
+        Settle::Stale(_) => None,
+        Settle::Full(_) => None,
+        Settle::Memory => None,
+    }
+}

@@ -1,0 +1,106 @@
+-- Over a shop that one caller has, each turn of a browser is settled at once, and the log is what the changes made.
+use Rattle.std.proofs.Common.{◌≡◌, ℕ, ◌≤◌, List, [], ◌∷◌, ◌++◌, map, Option, Some, Result, Ok, Err, OnErr, inl, inr, arith, refl, sym, subst, ◌∙◌, ap}
+use Rattle.std.specs.Prelude.{All, flat_map}
+use Rattle.std.proofs.lemmas.List.{map-append}
+use Rattle.std.proofs.lemmas.List.Elements.{All-cons, All-nil}
+use Rattle.shop_text.specs.declared.memory.Memory.{Memory}
+use Rattle.shop_edges.specs.Gateways.{Answered}
+use Rattle.shop_edges.specs.declared.gateway.Answer.{Answer}
+use Rattle.shop_gateway.specs.Notes.{firsts}
+use Rattle.shop_model.specs.declared.tables.Tables.{Tables}
+use Rattle.shop_model.specs.population.Population.{populated}
+use Rattle.shop_history.specs.Lawful.{IsLawful}
+use Rattle.shop_history.specs.declared.acts.Entry.{Entry}
+use Rattle.shop_book.specs.Books.{BookValue}
+use Rattle.shop_book.specs.Solos.{SoloValue, seat_of}
+use Rattle.shop_browsers.specs.Browsers.{BrowserState}
+use Rattle.shop_http.specs.Requests.{asked}
+use Rattle.shop_drive.specs.declared.tally.Tally.{Tally}
+use Rattle.shop_drive.specs.Drives.{Drove, StoppedAmid}
+use Rattle.shop_drive.specs.Turns.{Stage, Turn, AreTurns}
+use Rattle.shop_words.specs.declared.command.Drive.{Drive}
+use Rattle.shop_engine.specs.Workers.{WorkerState, standing}
+use Rattle.shop_app.specs.declared.driven.Driven.{Driven}
+use Rattle.shop_app.specs.Driving.{DroveTo, NotedAs, Outside, TellsOf, Unfinished, first_browsers, first_stage}
+use Rattle.shop_app.specs.Session.{IsFirst, first_seat, first_standing, moment_as, moments_of}
+use Rattle.shop_app.specs.Summaries.{drive_lines}
+use Rattle.shop_app.proofs.AloneLemmas.{IsAlone, IsQuick, alone_next, quick, stamps_of}
+use Rattle.shop_app.proofs.SessionLemmas.{standing_first}
+
+pub turns_once : (from to : Stage) (turns : List Turn) → AreTurns from turns to → IsAlone from.worker → All IsQuick (map (λ t. t.step.point) turns)
+turns_once from to [] are alone = All-nil IsQuick
+turns_once from to (turn ∷ turns) (next, is, are) alone =
+    All-cons IsQuick turn.step.point (map (λ (t : Turn). t.step.point) turns) (quick _ from.worker next.worker turn.step (asked turn.step.message) is.asks.answered alone)
+    (turns_once next to turns are (alone_next _ from.worker next.worker turn.step (asked turn.step.message) is.asks.answered alone))
+
+pub turns_stamped : (from to : Stage) (turns : List Turn) → AreTurns from turns to → IsAlone from.worker
+    → map (λ e. e.stamp) (flat_map (λ t. t.step.made) turns) ≡ moments_of (map (λ t. t.step.point) turns)
+turns_stamped from to [] are alone = refl
+turns_stamped from to (turn ∷ turns) (next, is, are) alone =
+    map-append (λ (e : Entry). e.stamp) turn.step.made (flat_map (λ (t : Turn). t.step.made) turns)
+    ∙ ap (λ (l : List ℕ). l ++ map (λ (e : Entry). e.stamp) (flat_map (λ (t : Turn). t.step.made) turns)) (stamps_of _ from.worker next.worker turn.step (asked turn.step.message) is.asks.answered alone)
+    ∙ ap (λ (l : List ℕ). moment_as turn.step.point.moment turn.step.point.kind ++ l)
+    (turns_stamped next to turns are (alone_next _ from.worker next.worker turn.step (asked turn.step.message) is.asks.answered alone))
+
+-- what holds anyway holds where memory ran out
+pub on_err : {A : Type 0} (P : Type 0) (result : Result A Memory) → P → OnErr result P
+on_err P (Ok value) holds = tt
+on_err P (Err memory) holds = holds
+
+-- where the browsers of the words and the first worker stand
+pub first_is : (drive : Drive) (worker : WorkerState SoloValue) (browsers : List BrowserState) (clock : Option (List ℕ)) (failures : ℕ) → IsFirst drive.shop worker → browsers ≡ first_browsers drive
+    → ◌≡◌ {A = Stage} (record { worker = standing seat_of worker clock (Some []); browsers = browsers; failures = failures }) (first_stage drive clock failures)
+first_is drive worker browsers clock failures first are =
+    ap (λ w. record { worker = w; browsers = browsers; failures = failures }) (standing_first drive.shop worker clock (Some []) first)
+    ∙ ap (λ b. record { worker = first_standing drive.shop clock (Some []); browsers = b; failures = failures }) are
+
+-- browsers that were driven over the shop of the words
+module _ (drive : Drive) (from to : Stage) (old new : Outside) (all : List Answer) (is_first : from ≡ first_stage drive old.clock old.failures)
+    (clock : to.worker.clock ≡ new.clock) (failed : to.failures ≡ new.failures) (kept : old.failures ≤ new.failures) where
+  drove_to : (tally : Tally) (answers : List Answer) (book : BookValue) (lines : List ℕ) → Drove from to drive.steps tally → answers ≡ firsts all → to.worker.told ≡ Some all
+      → Answered old.told new.told all → IsLawful to.worker.seat.opening to.worker.seat.seen → book.opening.tables ≡ to.worker.seat.opening → book.log ≡ to.worker.seat.seen
+      → lines ≡ drive_lines tally answers book → DroveTo drive old new lines
+  unfolding first_seat
+  drove_to tally answers book lines given first_of said told lawful opened entries printed =
+      let drove : Drove (first_stage drive old.clock old.failures) to drive.steps tally = rw is_first at given in
+      let at_first : Stage = first_stage drive old.clock old.failures in
+      let alone : IsAlone at_first.worker = record { stamp = 0; latest = refl; within = omega arith } in
+      let same : to.worker.seat.opening ≡ populated drive.shop.seed drive.shop.scale = drove.stays.follows.opening in
+      let log : to.worker.seat.seen ≡ flat_map (λ (t : Turn). t.step.made) drove.turns = drove.stays.alone refl in
+      let answered : all ≡ flat_map (λ (t : Turn). t.step.answers) drove.turns = injected (sym said ∙ drove.asked.told [] refl) in
+      record {
+        after = to;
+        tally = tally;
+        drove = drove;
+        clock = clock;
+        failed = failed;
+        kept = kept;
+        told = subst (Answered old.told new.told) answered told;
+        alone = turns_once at_first to drove.turns drove.run alone;
+        lawful = subst (λ (t : Tables). IsLawful t to.worker.seat.seen) same lawful;
+        log = log;
+        stamps = ap (map (λ (e : Entry). e.stamp)) log ∙ turns_stamped at_first to drove.turns drove.run alone;
+        book = book;
+        opened = opened ∙ same;
+        entries = entries;
+        printed = printed ∙ ap (λ (a : List Answer). drive_lines tally a book) (first_of ∙ ap firsts answered);
+      }
+    where
+      injected : {xs ys : List Answer} → ◌≡◌ {A = Option (List Answer)} (Some xs) (Some ys) → xs ≡ ys
+      injected e = cc
+
+  stopped_short : StoppedAmid from to drive.steps → Unfinished drive old new
+  stopped_short amid = inr (to, inl (rw is_first at amid), clock, failed, kept)
+
+  driven_short : (tally : Tally) → Drove from to drive.steps tally → Unfinished drive old new
+  driven_short tally drove = inr (to, inr (tally, rw is_first at drove), clock, failed, kept)
+
+  pub drove_by : (result : Result Driven Memory) (book : BookValue) (lines : List ℕ) → NotedAs all from to drive.steps result → TellsOf result book lines → to.worker.told ≡ Some all
+      → Answered old.told new.told all → IsLawful to.worker.seat.opening to.worker.seat.seen → book.opening.tables ≡ to.worker.seat.opening → book.log ≡ to.worker.seat.seen → DroveTo drive old new lines
+  drove_by result book lines noted (driven, is, printed) said told lawful opened entries =
+      let both : Drove from to drive.steps driven.tally × (driven.answers ≡ firsts all) = subst (NotedAs all from to drive.steps) is noted in
+      drove_to driven.tally driven.answers book lines both.0 both.1 said told lawful opened entries printed
+
+  pub unfinished : (result : Result Driven Memory) → NotedAs all from to drive.steps result → Unfinished drive old new
+  unfinished (Ok driven) (drove, same) = driven_short driven.tally drove
+  unfinished (Err memory) amid = stopped_short amid

@@ -1,0 +1,192 @@
+//! The command `drive`.
+ghost use Rattle.std.specs.Prelude.{◌≡◌, ◌≢◌, ◌≤◌, ℕ, List, Option, Some, [], IfOk, OnErr, MatchResult, Ok, IsErr};
+ghost use Rattle.shop_edges.specs.Gateways.{Answered};
+ghost use Rattle.shop_edges.specs.declared.gateway.Answer.{Answer as AnswerValue};
+ghost use Rattle.shop_history.specs.Lawful.{IsLawful};
+ghost use Rattle.shop_book.specs.Solos.{seat_of};
+ghost use Rattle.shop_engine.specs.Workers.{standing};
+ghost use Rattle.shop_drive.specs.Drives.{Drives};
+ghost use Rattle.shop_app.specs.Driving as spec;
+ghost use Rattle.shop_app.specs.Session.{IsFirst};
+ghost use Rattle.shop_app.specs.Summaries.{drive_lines};
+
+use crate::Status;
+use crate::alone::first_worker;
+use crate::summary::{authorised_only, summary_lines};
+use shop_book::{Book, Solo};
+use shop_browsers::Browser;
+use shop_drive::{Tally, drive};
+use shop_edges::{Answer, Clock, Gateway, Sink, write_all};
+use shop_engine::Worker;
+use shop_gateway::{GivenBack, Noting, Told};
+use shop_text::{Listed, Memory, Text};
+use shop_words::Drive;
+use std::alloc::Global;
+use std::marker::Brand;
+
+/// How the requests of browsers went, and what the gateway answered to each charge first.
+#[derive(Debug, Drop)]
+struct Driven {
+    tally: Tally,
+    answers: Listed<Answer>,
+}
+
+fn with_answers(tally: Result<Tally, Memory>, answers: Listed<Answer>) -> Result<Driven, Memory>
+    ensures { MatchResult result (λ driven. (tally ≡ Ok driven.tally) × (driven.answers ≡ answers)) (λ _. IsErr tally) }
+{
+    match tally {
+        Ok(tally) => Ok(Driven { tally, answers }),
+        Err(Memory) => Err(Memory),
+    }
+}
+
+/// The browsers that the words name, which made no request yet.
+fn first_browsers(alloc: Global, asked: &Drive) -> Result<Vec<Browser>, Memory>
+    ensures { IfOk result (λ browsers. browsers.items ≡ spec.first_browsers asked.now) }
+{
+    let mut browsers = Vec::new(alloc);
+    for before in 0..asked.browsers {
+        let number = before + 1;
+        browsers.push(Browser::new(asked.shop.seed, number, asked.mix, &asked.shop.scale))?;
+    }
+    Ok(browsers)
+}
+
+/// Drives browsers, notes what the gateway answers, and gives it back.
+fn drive_noting<'a, C: Clock, G: Gateway, T: Told>(
+    alloc: Global,
+    worker: &mut Worker<Solo>,
+    clock: &mut C,
+    gateway: &'a mut G,
+    browsers: &mut [Browser],
+    steps: u32,
+) -> GivenBack<'a, G, Result<Driven, Memory>>
+    requires name { gateway.ghost_name ≡ T.name }
+    requires told { G.answers gateway.old ≡ T.told }
+    ensures name { result.gateway.ghost_name ≡ gateway.entry.ghost_name }
+    ensures driven { (all : List AnswerValue) × Answered (G.answers gateway.old) (G.answers result.gateway.now) all
+        × spec.NotedAs all (record { worker = standing seat_of worker.old (C.readings clock.old) (Some []); browsers = browsers.old; failures = G.faults gateway.old })
+        (record { worker = standing seat_of worker.new (C.readings clock.new) (Some all); browsers = browsers.new; failures = G.faults result.gateway.now })
+        steps result.outcome }
+    ensures lawful { IsLawful (seat_of worker.new.store).opening (seat_of worker.new.store).seen }
+    ensures later { G.faults gateway.old ≤ G.faults result.gateway.now }
+{
+    let mut noting: Noting<'a, G, T> = Noting::new(alloc, gateway);
+    let tally = drive(alloc, worker, clock, &mut noting, browsers, steps);
+    let GivenBack {
+        gateway,
+        outcome: answers,
+    } = noting.into_answers();
+    GivenBack {
+        gateway,
+        outcome: with_answers(tally, answers),
+    }
+}
+
+/// Drives browsers, and notes what the gateway answers.
+fn drive_noted<C: Clock, G: Gateway>(
+    alloc: Global,
+    worker: &mut Worker<Solo>,
+    clock: &mut C,
+    gateway: &mut G,
+    browsers: &mut [Browser],
+    steps: u32,
+) -> Result<Driven, Memory>
+    ensures driven { (all : List AnswerValue) × Answered (G.answers gateway.old) (G.answers gateway.new) all
+        × spec.NotedAs all (record { worker = standing seat_of worker.old (C.readings clock.old) (Some []); browsers = browsers.old; failures = G.faults gateway.old })
+        (record { worker = standing seat_of worker.new (C.readings clock.new) (Some all); browsers = browsers.new; failures = G.faults gateway.new })
+        steps result }
+    ensures lawful { IsLawful (seat_of worker.new.store).opening (seat_of worker.new.store).seen }
+    ensures later { G.faults gateway.old ≤ G.faults gateway.new }
+{
+    drive_noting::<C, G, Brand>(alloc, worker, clock, gateway, browsers, steps).into_outcome()
+}
+
+/// The lines that tell what a drive came to.
+fn lines_of(alloc: Global, driven: &Driven, book: &Book) -> Result<Text, Memory>
+    ensures { IfOk result (λ lines. lines ≡ drive_lines driven.now.tally driven.now.answers book.now) }
+{
+    let unused = authorised_only(driven.answers.as_slice(), book);
+    summary_lines(alloc, &driven.tally, &book.summary(), unused)
+}
+
+/// The lines of a drive, where memory did not run out.
+fn lines_for(alloc: Global, driven: &Result<Driven, Memory>, book: &Book) -> Result<Text, Memory>
+    ensures { IfOk result (spec.TellsOf driven.now book.now) }
+{
+    match driven {
+        Ok(driven) => lines_of(alloc, driven, book),
+        Err(Memory) => Err(Memory),
+    }
+}
+
+/// Drives the browsers over the first worker; the lines that tell what came of it.
+fn told_by<C: Clock, G: Gateway>(
+    alloc: Global,
+    asked: &Drive,
+    mut browsers: Vec<Browser>,
+    mut worker: Worker<Solo>,
+    clock: &mut C,
+    gateway: &mut G,
+) -> Result<Text, Memory>
+    requires browsers { browsers.items ≡ spec.first_browsers asked.now }
+    requires worker { IsFirst asked.now.shop worker }
+    ensures ok { IfOk result (spec.DroveTo asked.now (record { clock = C.readings clock.old; told = G.answers gateway.old; failures = G.faults gateway.old })
+        (record { clock = C.readings clock.new; told = G.answers gateway.new; failures = G.faults gateway.new })) }
+    ensures err { OnErr result (spec.Unfinished asked.now (record { clock = C.readings clock.old; told = G.answers gateway.old; failures = G.faults gateway.old })
+        (record { clock = C.readings clock.new; told = G.answers gateway.new; failures = G.faults gateway.new })) }
+{
+    let driven = drive_noted(
+        alloc,
+        &mut worker,
+        clock,
+        gateway,
+        &mut browsers,
+        asked.steps,
+    );
+    let book = worker.into_store().into_book();
+    lines_for(alloc, &driven, &book)
+}
+
+/// Drives the browsers that the words name over a shop of their own; the lines that tell what came of it.
+fn told<C: Clock, G: Gateway>(
+    alloc: Global,
+    asked: &Drive,
+    clock: &mut C,
+    gateway: &mut G,
+) -> Result<Text, Memory>
+    ensures ok { IfOk result (spec.DroveTo asked.now (record { clock = C.readings clock.old; told = G.answers gateway.old; failures = G.faults gateway.old })
+        (record { clock = C.readings clock.new; told = G.answers gateway.new; failures = G.faults gateway.new })) }
+    ensures err { OnErr result (spec.Unfinished asked.now (record { clock = C.readings clock.old; told = G.answers gateway.old; failures = G.faults gateway.old })
+        (record { clock = C.readings clock.new; told = G.answers gateway.new; failures = G.faults gateway.new })) }
+{
+    let browsers = first_browsers(alloc, asked)?;
+    let worker = first_worker(alloc, asked.shop)?;
+    told_by(alloc, asked, browsers, worker, clock, gateway)
+}
+
+/// Drives browsers, and prints what came of it.
+pub(crate) fn drive_browsers<K: Sink, C: Clock, G: Gateway>(
+    alloc: Global,
+    asked: Drive,
+    sink: &mut K,
+    clock: &mut C,
+    gateway: &mut G,
+) -> Status
+    ensures driven { (left : Option (List ℕ)) (reads : ℕ) → spec.IsDriven asked
+        (record { streams = record { left = left; held = K.held sink.old }; clock = C.readings clock.old; told = G.answers gateway.old; reads = reads; writes = K.faults sink.old; failures = G.faults gateway.old })
+        (record { streams = record { left = left; held = K.held sink.new }; clock = C.readings clock.new; told = G.answers gateway.new; reads = reads; writes = K.faults sink.new; failures = G.faults gateway.new })
+        result }
+    ensures good_words { result ≢ Status.BadWords }
+{
+    match told(alloc, &asked, clock, gateway) {
+        Ok(lines) => {
+            if write_all(sink, lines.bytes()) {
+                Status::Done
+            } else {
+                Status::WriteFault
+            }
+        }
+        Err(Memory) => Status::Memory,
+    }
+}

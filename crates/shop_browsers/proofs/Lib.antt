@@ -1,0 +1,13 @@
+mod Shares
+mod Added
+mod Escaped
+mod PageLinks
+mod Reading
+mod Scans
+mod Numbers
+mod Ids
+mod Taking
+mod Decimals
+mod ReplyLinks
+mod Graphic
+mod Head

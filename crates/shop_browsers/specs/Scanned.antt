@@ -1,0 +1,31 @@
+-- The links of a page as they stand in the bytes of its text.
+use Rattle.std.specs.Prelude.{◌≡◌, ℕ, ◌==◌, nat_eq, List, [], ◌∷◌, drop, codes, Option, Some, None, if◌then◌else◌}
+use Rattle.std.specs.List.{starts_with, slice_split, before_first}
+use Rattle.std.specs.Option.{option_or}
+use Rattle.shop_text.specs.Escape.{escape}
+use Rattle.shop_model.specs.declared.requests.IdsAsked.{IdsAsked}
+use Rattle.shop_browsers.specs.Shown.{first_number}
+
+-- what stands behind each opening of a link, up to the next quote
+unfoldable pub links_in : List ℕ → List (List ℕ)
+links_in [] = []
+links_in (byte ∷ bytes) =
+    if starts_with nat_eq (byte ∷ bytes) (codes "<a href=\"") then before_first (λ b. b == 34) (drop 8 bytes) ∷ links_in bytes
+    else links_in bytes
+
+-- the pairs between the signs `&`
+abbrev pub split : List ℕ → List (List ℕ)
+split query = slice_split (λ byte. byte == 38) query
+
+-- the first pair of a text that stands escaped, and what follows it
+abbrev pub IsNextPair : List ℕ → List ℕ → Option (List ℕ) → Type 0
+IsNextPair text pair None = (pair ≡ escape text) × (split text ≡ text ∷ [])
+IsNextPair text pair (Some after) =
+    (first others : List ℕ) × (pair ≡ escape first) × (after ≡ escape others) × (split text ≡ first ∷ split others)
+
+-- these ids, and where one lacks that of the first pair that has it
+abbrev pub with_pairs : IdsAsked → List (List ℕ) → IdsAsked
+with_pairs ids pairs = record {
+  c = option_or ids.c (first_number (codes "c=") pairs);
+  cart = option_or ids.cart (first_number (codes "cart=") pairs);
+}

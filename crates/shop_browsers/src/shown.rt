@@ -1,0 +1,119 @@
+//! What a browser takes from a page.
+ghost use Rattle.std.specs.Prelude.{◌≡◌, ◌==◌, ◌∷◌, ◌<◌, [], ℕ, List, length, IfSome, MatchOption, Some};
+ghost use Rattle.std.specs.List.{before_first, after_first};
+ghost use Rattle.std.specs.Option.{option_map};
+ghost use Rattle.shop_text.specs.Escape.{escape};
+ghost use Rattle.shop_model.specs.declared.page.Page.{Page};
+ghost use Rattle.shop_browsers.specs.Scanned as scanned;
+ghost use Rattle.shop_browsers.specs.Shown as spec;
+
+use memchr::memchr;
+use shop_model::IdsAsked;
+use shop_text::{number_of, unescaped};
+
+/// The first customer and the first cart that the links of the page that is shown name.
+pub(crate) fn ids_shown(shown: &[u8]) -> IdsAsked
+    ensures { (p : Page) → spec.Shows shown.now p → result ≡ spec.ids_in p }
+{
+    let mut ids = IdsAsked {
+        c: None,
+        cart: None,
+    };
+    let mut rest = shown;
+    while let Some(after) = behind_link(rest) {
+        ids = with_target(ids, before_quote(after));
+        if ids.c.is_some() && ids.cart.is_some() {
+            return ids;
+        }
+        rest = after;
+    }
+    ids
+}
+
+/// What stands behind the next opening of a link.
+fn behind_link(bytes: &[u8]) -> Option<&[u8]>
+    ensures links { MatchOption result (scanned.links_in bytes.now ≡ []) (λ after. scanned.links_in bytes.now ≡ before_first (λ b. b == 34) after.now ∷ scanned.links_in after.now) }
+    ensures shorter { IfSome result (λ after. length after.now < length bytes.now) }
+{
+    let mut rest = bytes;
+    while let Some(at) = memchr(b'<', rest) {
+        let tag = &rest[at + 1..];
+        if tag.starts_with(b"a href=\"") {
+            return Some(&tag[8..]);
+        }
+        rest = tag;
+    }
+    None
+}
+
+/// What stands before the next quote.
+fn before_quote(bytes: &[u8]) -> &[u8]
+    ensures { result.now ≡ before_first (λ b. b == 34) bytes.now }
+{
+    match memchr(b'"', bytes) {
+        Some(quote) => &bytes[..quote],
+        None => bytes,
+    }
+}
+
+/// What stands behind the first `?`.
+fn query_of(target: &[u8]) -> &[u8]
+    ensures { result.now ≡ after_first (λ b. b == 63) target.now }
+{
+    match memchr(b'?', target) {
+        Some(mark) => &target[mark + 1..],
+        None => &[],
+    }
+}
+
+/// The ids, and those that a target names where they lack.
+fn with_target(ids: IdsAsked, target: &[u8]) -> IdsAsked
+    ensures { (t : List ℕ) → target.now ≡ escape t → result ≡ scanned.with_pairs ids (spec.pairs_in t) }
+{
+    let mut ids = ids;
+    let mut rest = query_of(target);
+    loop {
+        let (pair, after) = next_pair(rest);
+        ids = with_pair(ids, pair);
+        let Some(text) = after else {
+            return ids;
+        };
+        rest = text;
+    }
+}
+
+/// The ids, and that of a pair where it lacks.
+fn with_pair(ids: IdsAsked, pair: &[u8]) -> IdsAsked
+    ensures { (p : List ℕ) → pair.now ≡ escape p → result ≡ scanned.with_pairs ids (p ∷ []) }
+{
+    IdsAsked {
+        c: ids.c.or(number_behind(b"c=", pair)),
+        cart: ids.cart.or(number_behind(b"cart=", pair)),
+    }
+}
+
+/// The number in a pair that begins so.
+fn number_behind(front: &[u8], pair: &[u8]) -> Option<u32>
+    ensures { result ≡ spec.number_behind front.now pair.now }
+{
+    if pair.starts_with(front) {
+        number_of(&pair[front.len()..])
+    } else {
+        None
+    }
+}
+
+/// The pair before the next `&`, and what follows that sign, where there is one.
+fn next_pair(bytes: &[u8]) -> (&[u8], Option<&[u8]>)
+    ensures pair { (text : List ℕ) → bytes.now ≡ escape text → scanned.IsNextPair text result.0.now (option_map (λ after. after.now) result.1) }
+    ensures shorter { IfSome result.1 (λ after. length after.now < length bytes.now) }
+{
+    let mut rest = bytes;
+    while let Some((byte, after)) = unescaped(rest) {
+        if byte == b'&' {
+            return (&bytes[..bytes.len() - rest.len()], Some(after));
+        }
+        rest = after;
+    }
+    (bytes, None)
+}

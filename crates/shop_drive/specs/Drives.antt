@@ -1,0 +1,40 @@
+-- What driving browsers over a worker comes to.
+use Rattle.std.specs.Prelude.{◌≡◌, ℕ, List, ◌++◌, length, map, flat_map, sum_by, replicate, Result, Ok, Err}
+use Rattle.std.specs.List.{concat, range_with_len}
+use Rattle.shop_text.specs.declared.memory.Memory.{Memory}
+use Rattle.shop_edges.specs.Gateways.{Answered}
+use Rattle.shop_engine.specs.Seats.{Stays}
+use Rattle.shop_engine.specs.Steps.{GivesUp}
+use Rattle.shop_drive.specs.declared.tally.Tally.{Tally}
+use Rattle.shop_drive.specs.Tallies.{tally_of}
+use Rattle.shop_drive.specs.Turns.{Stage, Turn, AreTurns}
+
+-- the places of so many browsers that take turns, so many steps each
+abbrev pub in_turn : ℕ → ℕ → List ℕ
+in_turn count steps = concat (replicate steps (range_with_len 0 count))
+
+abbrev pub places_of : List Turn → List ℕ
+places_of turns = map (λ t. t.place) turns
+
+-- all turns were taken, in order. They made these entries of the caller by so many settles, the gateway tells what it
+-- was asked in them, and said, and this is how they went
+pub record Drove (from to : Stage) (steps : ℕ) (tally : Tally) : Type 0 where
+  pub turns : List Turn
+  pub run : AreTurns from turns to
+  pub order : places_of turns ≡ in_turn (length from.browsers) steps
+  pub stays : Stays from.worker.seat to.worker.seat (flat_map (λ t. t.step.made) turns) (sum_by (λ t. t.step.point.tries) turns) to.worker.progress.last
+  pub asked : Answered from.worker.told to.worker.told (flat_map (λ t. t.step.answers) turns)
+  pub counts : tally ≡ tally_of turns
+
+-- the first turns were taken, and then memory ran out before an answer
+pub record StoppedAmid (from to : Stage) (steps : ℕ) : Type 0 where
+  pub turns : List Turn
+  pub mid : Stage
+  pub run : AreTurns from turns mid
+  pub left : List ℕ
+  pub order : in_turn (length from.browsers) steps ≡ places_of turns ++ left
+  pub gave : GivesUp mid.worker to.worker
+
+abbrev pub Drives : Stage → Stage → ℕ → Result Tally Memory → Type 0
+Drives from to steps (Ok tally) = Drove from to steps tally
+Drives from to steps (Err memory) = StoppedAmid from to steps

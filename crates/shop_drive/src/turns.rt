@@ -1,0 +1,97 @@
+ghost use Rattle.std.specs.Prelude.{◌≡◌, ◌≤◌};
+ghost use Rattle.shop_attempt.specs.Marks.{KeepsMarks};
+ghost use Rattle.shop_engine.specs.Workers.{standing};
+ghost use Rattle.shop_history.specs.Lawful.{IsLawful};
+ghost use Rattle.shop_drive.specs.Drives.{Drives};
+ghost use Rattle.shop_drive.specs.Turns as spec;
+ghost use Rattle.shop_drive.specs.Turns.{TurnAs};
+
+use crate::Tally;
+use shop_attempt::Store;
+use shop_browsers::Browser;
+use shop_edges::{Clock, Gateway};
+use shop_engine::Worker;
+use shop_text::Memory;
+use std::alloc::Global;
+
+/// Has the browsers take turns, so many steps each: each asks, its message is answered, and it takes what the
+/// page shows.
+pub fn drive<St: Store, C: Clock, G: Gateway>(
+    alloc: Global,
+    worker: &mut Worker<St>,
+    clock: &mut C,
+    gateway: &mut G,
+    browsers: &mut [Browser],
+    steps: u32,
+) -> Result<Tally, Memory>
+    ensures drives { Drives (record { worker = standing St.seat worker.old (C.readings clock.old) (G.answers gateway.old); browsers = browsers.old; failures = G.faults gateway.old })
+        (record { worker = standing St.seat worker.new (C.readings clock.new) (G.answers gateway.new); browsers = browsers.new; failures = G.faults gateway.new })
+        steps result }
+    ensures caller { worker.new.caller ≡ worker.old.caller }
+    ensures lawful { IsLawful (St.seat worker.new.store).opening (St.seat worker.new.store).seen }
+    ensures marks { KeepsMarks (St.marked worker.old.store) (St.marked worker.new.store) (St.seat worker.old.store) (St.seat worker.new.store) }
+    ensures later { G.faults gateway.old ≤ G.faults gateway.new }
+{
+    let tally = take_turns(alloc, worker, clock, gateway, browsers, steps);
+    // Whatever came of it, the log that the worker's store has is lawful.
+    let _ = worker.store();
+    tally
+}
+
+/// Has the browsers take turns.
+fn take_turns<St: Store, C: Clock, G: Gateway>(
+    alloc: Global,
+    worker: &mut Worker<St>,
+    clock: &mut C,
+    gateway: &mut G,
+    browsers: &mut [Browser],
+    steps: u32,
+) -> Result<Tally, Memory>
+    ensures drives { Drives (record { worker = standing St.seat worker.old (C.readings clock.old) (G.answers gateway.old); browsers = browsers.old; failures = G.faults gateway.old })
+        (record { worker = standing St.seat worker.new (C.readings clock.new) (G.answers gateway.new); browsers = browsers.new; failures = G.faults gateway.new })
+        steps result }
+    ensures caller { worker.new.caller ≡ worker.old.caller }
+    ensures marks { KeepsMarks (St.marked worker.old.store) (St.marked worker.new.store) (St.seat worker.old.store) (St.seat worker.new.store) }
+    ensures later { G.faults gateway.old ≤ G.faults gateway.new }
+{
+    let mut tally = Tally::new();
+    for round in 0..steps {
+        for place in 0..browsers.len() {
+            let browser = &mut browsers[place];
+            let is_page = take_turn(alloc, worker, clock, gateway, browser)?;
+            tally.count(is_page);
+        }
+    }
+    Ok(tally)
+}
+
+/// Has a browser ask, and lets it take what the reply shows; tells whether that has status 200.
+fn take_turn<St: Store, C: Clock, G: Gateway>(
+    alloc: Global,
+    worker: &mut Worker<St>,
+    clock: &mut C,
+    gateway: &mut G,
+    browser: &mut Browser,
+) -> Result<bool, Memory>
+    ensures turn { TurnAs (record { worker = standing St.seat worker.old (C.readings clock.old) (G.answers gateway.old); browser = browser.old; failures = G.faults gateway.old })
+        (record { worker = standing St.seat worker.new (C.readings clock.new) (G.answers gateway.new); browser = browser.new; failures = G.faults gateway.new })
+        result }
+    ensures caller { worker.new.caller ≡ worker.old.caller }
+    ensures marks { KeepsMarks (St.marked worker.old.store) (St.marked worker.new.store) (St.seat worker.old.store) (St.seat worker.new.store) }
+    ensures later { G.faults gateway.old ≤ G.faults gateway.new }
+{
+    let message = browser.next_message(alloc)?;
+    let Some(_) = worker.answer(alloc, &message, false, clock, gateway) else {
+        return Err(Memory);
+    };
+    let reply = worker.reply();
+    browser.take_shown(reply);
+    Ok(is_page(reply))
+}
+
+/// Whether a reply has status 200.
+fn is_page(reply: &[u8]) -> bool
+    ensures { result ≡ spec.is_page reply.now }
+{
+    reply.starts_with(b"HTTP/1.1 200 ")
+}

@@ -1,0 +1,48 @@
+//! What tells charges apart.
+ghost use Rattle.std.specs.Prelude.{◌≡◌, IfOk};
+ghost use Rattle.shop_gateway.specs.Notes as spec;
+
+use shop_edges::Charge;
+use shop_model::CardType;
+use shop_text::{Memory, Text};
+use std::alloc::Global;
+
+/// All of a charge, to find it by.
+#[derive(Debug, PartialEq, Eq, Hash, Drop)]
+pub(crate) struct ChargeKey {
+    caller: u32,
+    call: u64,
+    cents: u64,
+    card: u8,
+    number: Text,
+    expiry: Text,
+}
+
+/// The number of a card's type.
+fn card_code(card: &CardType) -> u8
+    ensures { result ≡ spec.card_code card.now }
+{
+    match card {
+        CardType::Visa => 0,
+        CardType::Mastercard => 1,
+        CardType::Discover => 2,
+        CardType::Amex => 3,
+        CardType::Diners => 4,
+    }
+}
+
+impl ChargeKey {
+    /// The key of a charge.
+    pub(crate) fn of(alloc: Global, charge: &Charge) -> Result<ChargeKey, Memory>
+        ensures { IfOk result (λ key. key ≡ spec.charge_key charge.now) }
+    {
+        Ok(ChargeKey {
+            caller: charge.caller,
+            call: charge.call,
+            cents: charge.cents,
+            card: card_code(&charge.card),
+            number: Text::copy(alloc, charge.number.bytes())?,
+            expiry: Text::copy(alloc, charge.expiry.bytes())?,
+        })
+    }
+}

@@ -1,0 +1,10 @@
+use Rattle.std.proofs.Common.{codes, length}
+use Rattle.shop_model.specs.pages.PageText.{cell_text}
+use Rattle.shop_pages.proofs.Listing.{IsWithin}
+use Rattle.shop_pages.proofs.reading.lists.read_cells.Given as goal
+
+abbrev pub invariant-loop-alloc : goal.invariant-loop-alloc
+invariant-loop-alloc l = IsWithin cell_text (codes "</tr>") l.bytes l.cells l.rest
+
+abbrev pub decreases-loop-alloc : goal.decreases-loop-alloc
+decreases-loop-alloc l = length l.rest

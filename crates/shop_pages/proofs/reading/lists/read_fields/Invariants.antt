@@ -1,0 +1,10 @@
+use Rattle.std.proofs.Common.{codes, length}
+use Rattle.shop_model.specs.pages.PageText.{field_text}
+use Rattle.shop_pages.proofs.Listing.{IsWithin}
+use Rattle.shop_pages.proofs.reading.lists.read_fields.Given as goal
+
+abbrev pub invariant-loop-alloc : goal.invariant-loop-alloc
+invariant-loop-alloc l = IsWithin field_text (codes "</form>") l.bytes l.fields l.rest
+
+abbrev pub decreases-loop-alloc : goal.decreases-loop-alloc
+decreases-loop-alloc l = length l.rest

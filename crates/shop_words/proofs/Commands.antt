@@ -1,0 +1,151 @@
+-- Commands with options: their words are read as they stand, and in one way.
+use Rattle.std.proofs.Common.{◌≡◌, ◌≢◌, ◌∙◌, ◌<◌, ◌==◌, ℕ, true, false, not, refl, sym, ap, subst, List, [], ◌∷◌, drop, map, length, Option, Some, None, codes, true≢false, arith, ltb-true, Bor, Err, IsErrAnd, Ok, Result, get_or}
+use Rattle.std.specs.Prelude.{nat_lt, slice_index}
+use Rattle.std.specs.List.{All, AllByRecursion, Contains, IsDistinct, list_all}
+use Rattle.std.specs.Str.{bytes_eq, IsAscii}
+use Rattle.std.proofs.lemmas.List.Elements.{All-cons}
+use Rattle.std.proofs.lemmas.List.Sums.{AllPass-from_list_all}
+use Rattle.std.proofs.lemmas.Str.{IsUtf8-from_ascii}
+use Rattle.std.proofs.lemmas.Str.Ascii.{IsAscii-from_all}
+use Rattle.clap.specs.Walk.{Text}
+use Rattle.shop_words.specs.declared.options.Refusal.{Refusal}
+use Rattle.shop_words.specs.declared.options.Refusal.TheVariants as refusal
+use Rattle.shop_words.specs.Options.{AreOptions, Given, IsChosen, IsOptionName, IsPlain, IsReading, IsWord, name_of, value_for, value_of}
+use Rattle.shop_words.proofs.Parses.{by-recursion, from-recursion}
+use Rattle.shop_words.proofs.Readings.{option-words}
+use Rattle.shop_words.proofs.Rules.{text-same}
+
+-- ---- literals
+
+-- bytes below 128, by a test
+pub ascii-from : (text : Text) → list_all (λ b. nat_lt b 128) text ≡ true → IsAscii text
+ascii-from text low = IsAscii-from_all text (λ k d lt. ltb-true _ _ (AllPass-from_list_all (λ b. nat_lt b 128) text low k d lt))
+
+pub name-from : (name : Text) → 0 < length name → list_all (λ b. nat_lt b 128) name ≡ true → list_all (λ b. not (b == 61)) name ≡ true → IsOptionName name
+name-from name some low other = record {
+  some = some;
+  ascii = ascii-from name low;
+  no_equals = λ k d lt. not-equals _ (AllPass-from_list_all (λ b. not (b == 61)) name other k d lt);
+}
+  where
+    not-equals : (b : ℕ) → not (b == 61) ≡ true → b ≢ 61
+    not-equals b e same = let no : false ≡ true = rw same at e in true≢false (sym no)
+
+pub plain-from : (text : Text) → list_all (λ b. nat_lt b 128) text ≡ true → slice_index text 0 ≢ 45 → IsPlain text
+plain-from text low other = record { ascii = ascii-from text low; no_hyphen = other }
+
+pub word-from : (text : Text) → list_all (λ b. nat_lt b 128) text ≡ true → text ≢ codes "--" → IsWord text
+word-from text low other = record { utf8 = IsUtf8-from_ascii text (ascii-from text low); no_hyphens = other }
+
+-- ---- what one value chooses
+
+-- a value, where there is one, is plain
+abbrev pub IsPlainAt : (Text → Option Text) → Text → Type 0
+IsPlainAt values name = (text : Text) → values name ≡ Some text → IsPlain text
+
+pub chosen-plain : {A : Type 0} (form : Text → Option A) (fallback : A) (values : Text → Option Text) (name : Text) (chosen : A)
+    → ((text : Text) (x : A) → form text ≡ Some x → IsPlain text) → IsChosen form fallback (values name) chosen → IsPlainAt values name
+chosen-plain form fallback values name chosen plain chooses text is = plain text chosen (subst (λ v. IsChosen form fallback v chosen) is chooses)
+
+pub chosen-along : {A : Type 0} (form : Text → Option A) (fallback : A) (value other : Option Text) (chosen : A) → value ≡ other
+    → IsChosen form fallback value chosen → IsChosen form fallback other chosen
+chosen-along form fallback value other chosen same = subst (λ v. IsChosen form fallback v chosen) same
+
+pub chosen-same : {A : Type 0} (form : Text → Option A) (fallback : A) (value : Option Text) (a b : A) → IsChosen form fallback value a → IsChosen form fallback value b → a ≡ b
+chosen-same form fallback None a b x y = x ∙ sym y
+chosen-same form fallback (Some text) a b x y = let both : Some a ≡ Some b = sym x ∙ y in cc
+
+-- ---- what the values of options choose
+
+-- no two things, and by plain values alone
+pub record IsForm {A : Type 0} (names : List Text) (Chooses : (Text → Option Text) → A → Type 0) : Type 0 where
+  pub known : AllByRecursion IsOptionName names
+  pub along : (values others : Text → Option Text) → ((name : Text) → values name ≡ others name) → (chosen : A) → Chooses values chosen → Chooses others chosen
+  pub same : (values : Text → Option Text) (one other : A) → Chooses values one → Chooses values other → one ≡ other
+  pub plain : (values : Text → Option Text) (chosen : A) → Chooses values chosen → AllByRecursion (IsPlainAt values) names
+
+-- the words are a name, and options that choose this
+pub record IsGiven {A : Type 0} (first : Text) (names : List Text) (Chooses : (Text → Option Text) → A → Type 0) (words : List Text) (chosen : A) : Type 0 where
+  pub rest : List Text
+  pub named : words ≡ first ∷ rest
+  pub given : List Given
+  pub options : AreOptions names rest given
+  pub chooses : Chooses (value_for given) chosen
+
+-- each option's value is that of its name
+own-value : (given : List Given) → IsDistinct bytes_eq (map name_of given) → AllByRecursion (λ g. value_for given (name_of g) ≡ Some (value_of g)) given
+unfolding IsDistinct
+own-value [] once = tt
+own-value (g ∷ given) once = (rw (text-same (name_of g)) refl, later given once.0 (own-value given once.1))
+  where
+    later : (rest : List Given) → AllByRecursion (λ n. bytes_eq (name_of g) n ≡ false) (map name_of rest)
+        → AllByRecursion (λ h. value_for given (name_of h) ≡ Some (value_of h)) rest → AllByRecursion (λ h. value_for (g ∷ given) (name_of h) ≡ Some (value_of h)) rest
+    later [] unlike own = tt
+    later (h ∷ rest) unlike own = (rw unlike.0 own.0, later rest unlike.1 own.1)
+
+plain-values : (names : List Text) (whole rest : List Given) → All (IsPlainAt (value_for whole)) names
+    → AllByRecursion (Contains names) (map name_of rest) → AllByRecursion (λ g. value_for whole (name_of g) ≡ Some (value_of g)) rest → AllByRecursion IsPlain (map value_of rest)
+plain-values names whole [] forms known own = tt
+plain-values names whole (g ∷ rest) forms known own = (at known.0 (value_of g) own.0, plain-values names whole rest forms known.1 own.1)
+  where
+    at : Contains names (name_of g) → IsPlainAt (value_for whole) (name_of g)
+    at found = subst (IsPlainAt (value_for whole)) found.2 (forms found.0 (name_of g) found.1)
+
+-- the options stand behind the name
+abbrev pub rest-of : List Text → List Text
+rest-of words = drop 1 words
+
+module _ {A : Type 0} (first : Text) (names : List Text) (Chooses : (Text → Option Text) → A → Type 0) (form : IsForm names Chooses) (words : List Text) where
+  abbrev Is : A → Type 0
+  Is = IsGiven first names Chooses words
+
+  given-plain : (chosen : A) (is : Is chosen) → All IsPlain (map value_of is.given)
+  given-plain chosen is =
+      from-recursion IsPlain (map value_of is.given)
+      (plain-values names is.given is.given (from-recursion _ names (form.plain (value_for is.given) chosen is.chooses)) (by-recursion _ _ is.options.known) (own-value is.given is.options.once))
+
+  pub given-words : IsWord first → (chosen : A) → Is chosen → All IsWord words
+  given-words word chosen is =
+      subst (All IsWord) (sym is.named)
+      (All-cons IsWord first is.rest word (option-words names is.rest is.given (from-recursion IsOptionName names form.known) is.options (given-plain chosen is)))
+
+  options-behind : (chosen : A) (is : Is chosen) → AreOptions names (rest-of words) is.given
+  options-behind chosen is = subst (λ rest. AreOptions names rest is.given) (sym (ap rest-of is.named)) is.options
+
+  -- where no options are read nothing is given
+  pub no-options : ((given : List Given) → AreOptions names (rest-of words) given → ¬ (All IsPlain (map value_of given))) → (chosen : A) → ¬ (Is chosen)
+  no-options none chosen is = none is.given (options-behind chosen is) (given-plain chosen is)
+
+  module _ (values : Text → Option Text) (reading : IsReading names (rest-of words) values) where
+    -- what a reading chooses is given
+    pub is-given : words ≡ first ∷ rest-of words → (chosen : A) → Chooses values chosen → Is chosen
+    is-given named chosen chooses = record {
+      rest = rest-of words;
+      named = named;
+      given = reading.given;
+      options = reading.options;
+      chooses = form.along values (value_for reading.given) reading.those chosen chooses;
+    }
+
+    -- and what is given, the reading chooses
+    pub chosen-by : (chosen : A) → Is chosen → Chooses values chosen
+    chosen-by chosen is =
+        form.along (value_for is.given) values (λ name. sym (reading.only is.given (options-behind chosen is) (given-plain chosen is) name)) chosen is.chooses
+
+    pub one-given : (chosen : A) → Chooses values chosen → (other : A) → Is other → other ≡ chosen
+    one-given chosen chooses other is = form.same values other chosen (chosen-by other is) chooses
+
+-- ---- the steps of reading one
+
+-- an error that is passed up is the one that came
+pub came : {T : Type 0} (r : Result T Refusal) (e : Refusal) → IsErrAnd r (λ y. y ≡ e) → r ≡ Err refusal.Bad → e ≡ refusal.Bad
+came (Ok x) e is bad = absurd is
+came (Err y) e is bad = let same : y ≡ refusal.Bad = cc in sym is ∙ same
+
+abbrev pub texts : List (Bor Text) → List Text
+texts = map (λ s. s.now)
+
+pub first-named : (first : Text) (words : List Text) (read : List (Bor Text)) (blank : Bor Text) → texts read ≡ words → 0 < length read → (get_or read 0 blank).now ≡ first
+    → words ≡ first ∷ rest-of words
+first-named first words [] blank are some is = absurd (omega (arith, some))
+first-named first words (t ∷ read) blank are some is = subst (λ ws. ws ≡ first ∷ rest-of ws) are (ap (λ w. w ∷ texts read) is)
