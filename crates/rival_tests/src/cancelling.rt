@@ -39,6 +39,7 @@ pub(crate) fn one_unit<St: Store>(
     };
     match shopping_cart(alloc, store, ask, &asked, draft) {
         Attempted::Ready(attempt) => Ok(attempt),
+        Attempted::Listed(_, _) => Err("a list".into()),
         Attempted::Pay(_) => Err("a payment".into()),
         Attempted::Contradiction(_) => Err("a contradiction".into()),
         Attempted::Memory => Err("no memory".into()),

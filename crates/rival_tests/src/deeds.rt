@@ -11,7 +11,7 @@ use shop_attempt::{Attempt, Settle, Store};
 use shop_browse::{Ask, Attempted};
 use shop_draft::Draft;
 use shop_gateway::Emulator;
-use shop_history::{Act, Ids};
+use shop_history::{Act, Ids, Key};
 use shop_model::{AdminConfirm, BuyConfirm, Card, CardType, CartRequest, IdsAsked, ShipType};
 use shop_order::admin_confirm::admin_confirm;
 use shop_order::buy_confirm::{Paid, buy_confirm, pay};
@@ -26,7 +26,7 @@ pub enum Deed {
     AddUnit,
     /// It buys a unit of this item for customer 11, where caller 1 is about to buy or to administer an item.
     Buy(u32),
-    /// It lets item 1 cost 20.00, where caller 1 is about to buy.
+    /// It lets item 1 cost 20.00, where caller 1 is about to buy, or shows the newest items of a subject.
     Reprice,
 }
 
@@ -39,8 +39,18 @@ impl Deed {
                 attempt.act,
                 Some(Act::Confirm(_, _, _)) | Some(Act::Admin(_))
             ),
-            Deed::Reprice => matches!(attempt.act, Some(Act::Confirm(_, _, _))),
+            Deed::Reprice => {
+                matches!(attempt.act, Some(Act::Confirm(_, _, _))) || reads_newest(attempt)
+            }
         }
+    }
+}
+
+/// Whether the first row that was read is the newest items of a subject.
+fn reads_newest(attempt: &Attempt) -> bool {
+    match attempt.reads.as_slice().first() {
+        Some(read) => matches!(read.key, Key::NewIn(_)),
+        None => false,
     }
 }
 
@@ -178,6 +188,7 @@ fn adding<St: Store>(
     };
     match shopping_cart(alloc, store, ask, &asked, draft) {
         Attempted::Ready(attempt) => Some(attempt),
+        Attempted::Listed(_, _) => None,
         Attempted::Pay(_) => None,
         Attempted::Contradiction(_) => None,
         Attempted::Memory => None,
@@ -216,6 +227,7 @@ fn repricing<St: Store>(
     };
     match admin_confirm(alloc, store, ask, &asked, draft) {
         Attempted::Ready(attempt) => Some(attempt),
+        Attempted::Listed(_, _) => None,
         Attempted::Pay(_) => None,
         Attempted::Contradiction(_) => None,
         Attempted::Memory => None,

@@ -61,6 +61,7 @@ fn buying<St: Store>(
 {
     match buy_request(alloc, store, ask, asked, draft) {
         Attempted::Ready(attempt) => Ok(attempt),
+        Attempted::Listed(_, _) => Err("a list".into()),
         Attempted::Pay(_) => Err("a payment".into()),
         Attempted::Contradiction(_) => Err("a contradiction".into()),
         Attempted::Memory => Err("no memory".into()),

@@ -96,7 +96,7 @@ pub fn desk(alloc: Global) -> Result<Tables, Memory>
 
 /// A worker of caller 1, who has a shop with these tables alone, and whose log may have so many
 /// changes.
-fn worker(alloc: Global, tables: Tables, limit: u64) -> Result<Worker<Solo>, Memory>
+pub fn worker(alloc: Global, tables: Tables, limit: u64) -> Result<Worker<Solo>, Memory>
     requires tables { IsDesk tables }
     requires limit { limit ≤ most_entries }
 {
@@ -106,7 +106,7 @@ fn worker(alloc: Global, tables: Tables, limit: u64) -> Result<Worker<Solo>, Mem
     Worker::new(alloc, Solo::new(book), 1, 0, Scale::desk(), index)
 }
 
-fn clock(alloc: Global, readings: [u64; 4]) -> Result<ListClock, Memory> {
+pub fn clock(alloc: Global, readings: [u64; 4]) -> Result<ListClock, Memory> {
     let readings = Vec::from_slice(alloc, &readings)?;
     ListClock::new(alloc, Listed::from_vec(readings))
 }

@@ -8,6 +8,7 @@ mod connections;
 mod customers;
 mod faults;
 mod faulty;
+mod kept_lists;
 mod records;
 mod sales;
 mod sessions;
@@ -29,6 +30,7 @@ fn main(rt: HostRuntime) -> Result<()> {
     customers::print(&rt)?;
     sales::print(&rt)?;
     windows::print(&rt)?;
+    kept_lists::print(&rt)?;
     sessions::print(&rt)?;
     faults::print(&rt)
 }

@@ -14,6 +14,7 @@ use Rattle.shop_engine.specs.declared.report.Ended.{Ended}
 use Rattle.shop_engine.specs.declared.report.Ended.TheVariants as ended
 use Rattle.shop_engine.specs.declared.report.Point.{Point}
 use Rattle.shop_engine.specs.declared.report.PointKind.{PointKind}
+use Rattle.shop_engine.specs.declared.report.PointKind.TheVariants as kind
 use Rattle.shop_engine.specs.declared.report.PointKind.TheVariants.{Plain, At, Change, Busy}
 use Rattle.shop_engine.specs.Decided.{CauseAs, tries_alone}
 use Rattle.shop_engine.specs.Served.{Served, Streams}
@@ -69,6 +70,7 @@ stamp_made from to step request Change alone later cause =
     let stamp : cause.0.entry.stamp ≡ step.point.moment = omega (arith, cause.0.exact alone.stamp alone.latest, alone.within, later) in
     ap (map (λ (e : Entry). e.stamp)) cause.0.made_is ∙ ap (λ n. n ∷ []) stamp
 stamp_made from to step request At alone later cause = ap (map (λ (e : Entry). e.stamp)) cause.0
+stamp_made from to step request kind.List alone later cause = ap (map (λ (e : Entry). e.stamp)) cause.made
 stamp_made from to step request Plain alone later cause = absurd cause
 stamp_made from to step request _ alone later cause = ap (map (λ (e : Entry). e.stamp)) cause.1.0
 

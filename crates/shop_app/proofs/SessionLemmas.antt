@@ -1,5 +1,5 @@
 -- The status of a session by the end of its connection.
-use Rattle.std.proofs.Common.{◌≡◌, ℕ, ◌≤◌, inl, inr, List, [], length, map, Option, subst, refl, sym, ap, ◌∙◌, arith}
+use Rattle.std.proofs.Common.{◌≡◌, ℕ, ◌≤◌, inl, inr, List, [], length, map, Option, subst, refl, sym, ap, ◌∙◌, arith, All}
 use Rattle.std.specs.Prelude.{flat_map}
 use Rattle.std.proofs.lemmas.List.FromFn.{length-map-range_with_len}
 use Rattle.shop_edges.specs.Causes.{Rose}
@@ -17,6 +17,7 @@ use Rattle.shop_engine.specs.declared.report.Ended.{Ended}
 use Rattle.shop_engine.specs.declared.report.Ended.TheVariants as ended
 use Rattle.shop_engine.specs.declared.report.Point.{Point}
 use Rattle.shop_engine.specs.Failures.{RoseBy, failures}
+use Rattle.shop_engine.specs.Lists.{IsFreshIn}
 use Rattle.shop_engine.specs.Served.{Served}
 use Rattle.shop_engine.specs.Steps.{Step}
 use Rattle.shop_engine.specs.Workers.{IsPosted, Standing, WorkerState, at_first, standing}
@@ -28,13 +29,14 @@ use Rattle.shop_app.proofs.AloneLemmas.{IsAlone, all_at_once, log_made, opening_
 pub standing_first : (session : Session) (worker : WorkerState SoloValue) (clock : Option (List ℕ)) (told : Option (List Answer)) → IsFirst session worker
     → standing seat_of worker clock told ≡ first_standing session clock told
 standing_first session worker clock told first =
-    ap (λ c. record { caller = c; progress = worker.progress; seat = seat_of worker.store; clock = clock; told = told }) first.caller
-    ∙ ap (λ p. record { caller = first_caller session; progress = p; seat = seat_of worker.store; clock = clock; told = told }) first.progress
-    ∙ ap (λ s. record { caller = first_caller session; progress = at_first; seat = s; clock = clock; told = told }) first.seat
+    ap (λ c. record { caller = c; progress = worker.progress; kept = worker.kept; seat = seat_of worker.store; clock = clock; told = told }) first.caller
+    ∙ ap (λ p. record { caller = first_caller session; progress = p; kept = worker.kept; seat = seat_of worker.store; clock = clock; told = told }) first.progress
+    ∙ ap (λ k. record { caller = first_caller session; progress = at_first; kept = k; seat = seat_of worker.store; clock = clock; told = told }) first.kept
+    ∙ ap (λ s. record { caller = first_caller session; progress = at_first; kept = []; seat = s; clock = clock; told = told }) first.seat
 
 -- a session whose worker was the first one, and whose connection was served to an end
 module _ (session : Session) (before after : Standing) (old new : Run) (points : List Point) (is_first : before ≡ first_standing session old.clock old.told) (clock : after.clock ≡ new.clock)
-    (told : after.told ≡ new.told) (failed : RoseBy old.failures (failures points) new.failures) (kept : old.failures ≤ new.failures) (lawful : IsLawful after.seat.opening after.seat.seen) where
+    (told : after.told ≡ new.told) (failed : RoseBy old.failures (failures points) new.failures) (kept : old.failures ≤ new.failures) (lawful : IsLawful after.seat.opening after.seat.seen) (fresh : All (IsFreshIn after.seat.seen) points) where
   served_to : (end : Ended) → Served before after old.streams new.streams end points → ServedTo session old new end
   unfolding first_seat
   served_to end given =
@@ -51,6 +53,7 @@ module _ (session : Session) (before after : Standing) (old new : Run) (points :
         kept = kept;
         alone = all_at_once (first_standing session old.clock old.told) after old.streams new.streams end points served alone;
         lawful = subst (λ (t : Tables). IsLawful t after.seat.seen) (opening_same (first_standing session old.clock old.told) after old.streams new.streams end points served alone) lawful;
+        fresh = fresh;
         log = log;
         stamps = ap (map (λ (e : Entry). e.stamp)) log ∙ stamps_are (first_standing session old.clock old.told) after old.streams new.streams end points served alone;
       }
@@ -86,10 +89,11 @@ module _ (session : Session) (t : Tables) (solo : SoloValue) (book : BookValue) 
         scaled = sym (items_of session.seed session.scale);
       })
 
-  pub is_first : (worker : WorkerState SoloValue) → worker ≡ record { store = solo; caller = record { number = 1; seed = session.seed; scale = session.scale }; progress = at_first; reply = [] } → IsFirst session worker
+  pub is_first : (worker : WorkerState SoloValue) → worker ≡ record { store = solo; caller = record { number = 1; seed = session.seed; scale = session.scale }; progress = at_first; kept = []; reply = [] } → IsFirst session worker
   unfolding first_caller first_seat
   is_first worker is = record {
     caller = ap (λ (w : WorkerState SoloValue). w.caller) is;
     progress = ap (λ (w : WorkerState SoloValue). w.progress) is;
+    kept = ap (λ (w : WorkerState SoloValue). w.kept) is;
     seat = ap (λ (w : WorkerState SoloValue). seat_of w.store) is ∙ ap seat_of solo_is;
   }

@@ -12,8 +12,10 @@ use Rattle.shop_engine.specs.declared.report.Ended.TheVariants as ended
 use Rattle.shop_engine.specs.declared.report.Point.{Point}
 use Rattle.shop_engine.specs.declared.report.PointKind.{PointKind}
 use Rattle.shop_engine.specs.declared.report.PointKind.TheVariants.{Plain, At, Change, Busy, Full, Denied, GatewayFailed}
+use Rattle.shop_engine.specs.declared.report.PointKind.TheVariants as kind
 use Rattle.shop_engine.specs.Decided.{tries_alone}
 use Rattle.shop_engine.specs.Failures.{RoseBy, failures}
+use Rattle.shop_engine.specs.Lists.{IsFreshIn}
 use Rattle.shop_engine.specs.Served.{Served, Streams}
 use Rattle.shop_engine.specs.Steps.{plain_point}
 use Rattle.shop_engine.specs.Workers.{Caller, Standing, WorkerState, at_first}
@@ -45,16 +47,18 @@ first_seat session = record {
 pub record IsFirst (session : Session) (worker : WorkerState SoloValue) : Type 0 where
   pub caller : worker.caller ≡ first_caller session
   pub progress : worker.progress ≡ at_first
+  pub kept : worker.kept ≡ []
   pub seat : seat_of worker.store ≡ first_seat session
 
 -- where it stands before the session
 abbrev pub first_standing : Session → Option (List ℕ) → Option (List Answer) → Standing
 first_standing session clock told =
-    record { caller = first_caller session; progress = at_first; seat = first_seat session; clock = clock; told = told }
+    record { caller = first_caller session; progress = at_first; kept = []; seat = first_seat session; clock = clock; told = told }
 
--- a settle decided the answer, or a gateway that failed
+-- a settle decided the answer, a list that is kept, or a gateway that failed
 abbrev pub IsSettled : PointKind → Type 0
 IsSettled At = Unit {0}
+IsSettled kind.List = Unit {0}
 IsSettled Change = Unit {0}
 IsSettled Full = Unit {0}
 IsSettled (Denied charge reason) = Unit {0}
@@ -62,7 +66,7 @@ IsSettled GatewayFailed = Unit {0}
 IsSettled (Busy conflicts) = ⊥
 IsSettled Plain = ⊥
 
--- an answer was decided at the first try, by one settle, or by none where the gateway failed
+-- an answer was decided at the first try, by one settle, or by none where the gateway failed, or a list is kept
 pub record IsAtOnce (point : Point) : Type 0 where
   pub settled : IsSettled point.kind
   pub tries : point.tries ≡ tries_alone point.kind
@@ -98,6 +102,7 @@ pub record ServedTo (session : Session) (old new : Run) (end : Ended) : Type 0 w
   pub kept : old.failures ≤ new.failures
   pub alone : All (λ p. (p ≡ plain_point) ⊎ IsAtOnce p) points
   pub lawful : IsLawful (populated session.seed session.scale) after.seat.seen
+  pub fresh : All (IsFreshIn after.seat.seen) points
   pub log : after.seat.seen ≡ flat_map (λ s. s.made) served.steps
   pub stamps : map (λ e. e.stamp) after.seat.seen ≡ moments_of points
 

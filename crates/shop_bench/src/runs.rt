@@ -1,10 +1,11 @@
 ghost use Rattle.std.specs.Prelude.{◌≡◌, ◌≤◌, IfOk, length};
 ghost use Rattle.shop_model.specs.lists.Catalogues.{catalogue};
 ghost use Rattle.shop_model.specs.rows.Limits.{stamp_limit};
+ghost use Rattle.shop_attempt.specs.Faithful.{Faithful};
 ghost use Rattle.shop_attempt.specs.Seats.{Follows};
 ghost use Rattle.shop_book.specs.Solos.{seat_of};
 
-use shop_attempt::{Settle, Store};
+use shop_attempt::{Attempt, Settle, Store};
 use shop_book::{Book, Solo};
 use shop_browse::{Ask, Attempted};
 use shop_draft::{Draft, Template};
@@ -53,6 +54,19 @@ impl Shop {
     }
 }
 
+/// Settles an attempt; how many rows it read, where it was done.
+fn settled(store: &mut Solo, attempt: Attempt) -> Option<usize>
+    requires faithful { Faithful (seat_of store.old).opening (seat_of store.old).seen attempt }
+    requires moment { attempt.moment ≤ stamp_limit }
+    ensures { Follows (seat_of store.old) (seat_of store.new) }
+{
+    let reads = attempt.reads.as_slice().len();
+    match store.settle(attempt) {
+        Settle::Done(_) => Some(reads),
+        _ => None,
+    }
+}
+
 /// Makes an attempt, and says how many rows it read, where its settle was done.
 fn reads_done(
     alloc: Global,
@@ -67,13 +81,8 @@ fn reads_done(
     ensures { Follows (seat_of store.old) (seat_of store.new) }
 {
     match attempt(alloc, store, ask, request, draft) {
-        Attempted::Ready(attempt) => {
-            let reads = attempt.reads.as_slice().len();
-            match store.settle(attempt) {
-                Settle::Done(_) => Some(reads),
-                _ => None,
-            }
-        }
+        Attempted::Ready(attempt) => settled(store, attempt),
+        Attempted::Listed(attempt, _) => settled(store, attempt),
         _ => None,
     }
 }

@@ -13,6 +13,7 @@ use Rattle.shop_history.specs.declared.keys.Key.{Key}
 use Rattle.shop_history.specs.Keys.{row_of}
 use Rattle.shop_history.specs.Logs.{tables}
 use Rattle.shop_history.proofs.cited.KeptTables.{kept}
+use Rattle.shop_cache.specs.declared.cache.ListLine.{ListLine}
 use Rattle.shop_draft.specs.declared.draft.Draft.{Draft}
 use Rattle.shop_draft.specs.declared.ids.PageIds.{PageIds}
 use Rattle.shop_draft.specs.Drawing.{ids_at}
@@ -25,7 +26,7 @@ use Rattle.shop_attempt.proofs.cited.Marks.{looks_then}
 use Rattle.shop_attempt.proofs.cited.Looks.{since_now, all_since_later, all_since_earlier, are_true}
 use Rattle.shop_browse.specs.declared.attempted.Ask.{Ask}
 use Rattle.shop_browse.specs.declared.driver.Next.{Next}
-use Rattle.shop_browse.specs.declared.driver.Next.TheVariants.{Show, Change, Pay, Never}
+use Rattle.shop_browse.specs.declared.driver.Next.TheVariants.{Show, ShowList, Change, Pay, Never}
 use Rattle.shop_browse.specs.declared.attempted.Attempted.TheVariants as attempted
 use Rattle.shop_history.specs.declared.acts.Act.{Act}
 use Rattle.shop_attempt.specs.declared.attempts.Write.{Write}
@@ -216,19 +217,31 @@ looks_only start now request ask reads has = record {
 
 pub showed : (start now : Seat) (follows : ℕ → List ReadOf → Type 0) (request : Request) (ask : Ask) (round : ℕ) (reads : List ReadOf) (draft : Draft) → HasRead start now request ask reads
     → IsNext follows request ask round reads draft Show → AttemptedAs start now (asking_of ask request) draft (attempted.Ready (attempt_with ask reads None None))
-showed start now follows request ask round reads draft has is = (
-  record {
+showed start now follows request ask round reads draft has is = record {
+  ready = record {
     attempts = looks_only start now request ask reads has;
-    drafts = λ t agrees. is t (fits ask.index.now now.opening t reads has.same agrees);
-  },
-  tt,
-)
+    drafts = λ t agrees. is.1 t (fits ask.index.now now.opening t reads has.same agrees);
+  };
+  free = tt;
+  unlisted = λ none. is.0;
+}
+
+pub listed : (start now : Seat) (follows : ℕ → List ReadOf → Type 0) (request : Request) (ask : Ask) (round : ℕ) (reads : List ReadOf) (draft : Draft) (lines : List ListLine) → HasRead start now request ask reads
+    → IsNext follows request ask round reads draft (ShowList lines) → AttemptedAs start now (asking_of ask request) draft (attempted.Listed (attempt_with ask reads None None) lines)
+listed start now follows request ask round reads draft lines has is = record {
+  ready = record {
+    attempts = looks_only start now request ask reads has;
+    drafts = λ t agrees. is.1 t (fits ask.index.now now.opening t reads has.same agrees);
+  };
+  reading = refl;
+  listed = λ t agrees. is.0 t (fits ask.index.now now.opening t reads has.same agrees);
+}
 
 pub changed : (start now : Seat) (follows : ℕ → List ReadOf → Type 0) (request : Request) (ask : Ask) (round : ℕ) (reads : List ReadOf) (draft : Draft) (act : Act) (writes : List Write)
     → HasRead start now request ask reads → IsNext follows request ask round reads draft (Change act writes)
     → AttemptedAs start now (asking_of ask request) draft (attempted.Ready (attempt_with ask reads (Some writes) (Some act)))
-changed start now follows request ask round reads draft act writes has is = (
-  record {
+changed start now follows request ask round reads draft act writes has is = record {
+  ready = record {
     attempts = record {
       at = refl;
       drew = refl;
@@ -239,9 +252,10 @@ changed start now follows request ask round reads draft act writes has is = (
       };
     };
     drafts = (is.does, λ t stamp agrees bound. is.becomes t stamp (fits ask.index.now now.opening t reads has.same agrees) bound);
-  },
-  is.free,
-)
+  };
+  free = is.free;
+  unlisted = λ none. absurd cc;
+}
 
 pub payable : (start now : Seat) (follows : ℕ → List ReadOf → Type 0) (request : Request) (ask : Ask) (round : ℕ) (reads : List ReadOf) (draft : Draft) → HasRead start now request ask reads
     → IsNext follows request ask round reads draft Pay → AttemptedAs start now (asking_of ask request) draft (attempted.Pay (attempt_with ask reads None None))

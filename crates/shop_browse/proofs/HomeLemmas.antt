@@ -26,7 +26,7 @@ use Rattle.shop_draft.specs.declared.draft.Draft.{Draft}
 use Rattle.shop_attempt.specs.declared.attempts.ReadOf.{ReadOf}
 use Rattle.shop_browse.specs.declared.attempted.Ask.{Ask}
 use Rattle.shop_browse.specs.declared.driver.Next.{Next}
-use Rattle.shop_browse.specs.declared.driver.Next.TheVariants.{ReadOne, Read, Show, Change, Pay, Never}
+use Rattle.shop_browse.specs.declared.driver.Next.TheVariants.{ReadOne, Read, Show, ShowList, Change, Pay, Never}
 use Rattle.shop_browse.specs.Driver.{keys_of, IsWhole, Fits, AsksFor, IsNext}
 use Rattle.shop_browse.specs.Footprints.{drawn_item, InFootprint}
 use Rattle.shop_browse.specs.Home.{drawn_key, FollowsHome, home_in, IsWelcome}
@@ -68,6 +68,7 @@ pub is_welcome : (ids : IdsAsked) (customer : Option CustomerRow) (ask : Ask) (r
 is_welcome ids customer ask round reads draft (ReadOne k) asks = asks
 is_welcome ids customer ask round reads draft (Read keys) asks = asks
 is_welcome ids customer ask round reads draft Show asks = absurd asks
+is_welcome ids customer ask round reads draft (ShowList lines) asks = absurd asks
 is_welcome ids customer ask round reads draft (Change act writes) asks = absurd asks
 is_welcome ids customer ask round reads draft Pay asks = absurd asks
 is_welcome ids customer ask round reads draft Never asks = absurd asks
@@ -91,7 +92,8 @@ anyone_next asked ask round reads draft next none whole is = subst (λ c. IsNext
     by : (n : Next) → IsWelcome asked.ids None ask round reads draft n → IsNext (FollowsHome None ask) (Home asked) ask round reads draft n
     by (ReadOne k) is = is (Home asked) (λ opening log named. inr (drawn_after ask opening log whole named))
     by (Read keys) is = is (Home asked) (λ opening log named. inr (drawn_after ask opening log whole named))
-    by Show is = λ t fits. shows_page t (Home asked) ask.draw draft (home_page t asked.ids ask.draw None) (home_shows t asked ask.draw None none) (is t fits)
+    by Show is = (refl, λ t fits. shows_page t (Home asked) ask.draw draft (home_page t asked.ids ask.draw None) (home_shows t asked ask.draw None none) (is t fits))
+    by (ShowList lines) is = absurd is
     by (Change act writes) is = absurd is
     by Pay is = absurd is
     by Never is = absurd is
@@ -152,11 +154,15 @@ module _ (asked : home_asked.Home) (number : ℕ) (ask : Ask) (is_c : asked.ids.
         asks_behind round reads (k ∷ []) (welcome (Home asked) (λ opening log named. inr (drawn_after ask opening log whole named)))
     known_next customer (suc round) reads draft (Read keys) is whole some welcome =
         asks_behind round reads keys (welcome (Home asked) (λ opening log named. inr (drawn_after ask opening log whole named)))
-    known_next customer (suc round) reads draft Show is whole some welcome = λ t fits.
-        let o : Option CustomerRow = row_numbered t.customers number in
-        shows_page t (Home asked) ask.draw draft (home_page t asked.ids ask.draw (Some customer))
-        (number_shows t asked ask.draw number (Some customer) is_c (customer_found o customer (shown_row t (row.Customer customer) fits.shows.0 is)))
-        (welcome t (record { sound = fits.sound; named = fits.named; shows = fits.shows.1 }))
+    known_next customer (suc round) reads draft Show is whole some welcome = (
+      refl,
+      λ t fits.
+          let o : Option CustomerRow = row_numbered t.customers number in
+          shows_page t (Home asked) ask.draw draft (home_page t asked.ids ask.draw (Some customer))
+          (number_shows t asked ask.draw number (Some customer) is_c (customer_found o customer (shown_row t (row.Customer customer) fits.shows.0 is)))
+          (welcome t (record { sound = fits.sound; named = fits.named; shows = fits.shows.1 })),
+    )
+    known_next customer (suc round) reads draft (ShowList lines) is whole some welcome = absurd welcome
     known_next customer (suc round) reads draft (Change act writes) is whole some welcome = absurd welcome
     known_next customer (suc round) reads draft Pay is whole some welcome = absurd welcome
     known_next customer (suc round) reads draft Never is whole some welcome = absurd welcome

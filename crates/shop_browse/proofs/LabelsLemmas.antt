@@ -34,7 +34,7 @@ use Rattle.shop_attempt.specs.declared.attempts.ReadOf.{ReadOf}
 use Rattle.shop_attempt.specs.Reads.{Shows}
 use Rattle.shop_browse.specs.declared.attempted.Ask.{Ask}
 use Rattle.shop_browse.specs.declared.driver.Next.{Next}
-use Rattle.shop_browse.specs.declared.driver.Next.TheVariants.{ReadOne, Read, Show, Change, Pay, Never}
+use Rattle.shop_browse.specs.declared.driver.Next.TheVariants.{ReadOne, Read, Show, ShowList, Change, Pay, Never}
 use Rattle.shop_browse.specs.Driver.{keys_of, Fits, AreSeen, IsNext}
 use Rattle.shop_browse.specs.Footprints.{drawn_item, InFootprint, IsAbout}
 use Rattle.shop_browse.specs.Labels.{ids_in, HaveLabels, FollowsLabels, AsksLabels, promoted_in}
@@ -107,7 +107,7 @@ module _ (t : Tables) (sound : Sound t) where
   none_named make others None = All-nil (Has (length t.items))
   none_named make others (Some x) = subst (All (Has (length t.items))) (sym (others x)) (All-nil (Has (length t.items)))
 
-  named_within : (k : Key) → All (Has (length t.items)) (ids_in (row_of t k))
+  pub named_within : (k : Key) → All (Has (length t.items)) (ids_in (row_of t k))
   named_within (key.Item id) = related_within id (row_numbered t.items id) refl
   named_within (key.Label id) = none_named (λ item. row.Label (label_of t item)) (λ x. refl) (row_numbered t.items id)
   named_within (key.Customer id) = none_named row.Customer (λ x. refl) (row_numbered t.customers id)
@@ -150,6 +150,7 @@ pub asks_next : (k : Key) (ask : Ask) (round : ℕ) (reads : List ReadOf) (reque
 asks_next k ask round reads request draft (ReadOne one) about asks = asks request about
 asks_next k ask round reads request draft (Read keys) about asks = asks request about
 asks_next k ask round reads request draft Show about asks = absurd asks
+asks_next k ask round reads request draft (ShowList lines) about asks = absurd asks
 asks_next k ask round reads request draft (Change act writes) about asks = absurd asks
 asks_next k ask round reads request draft Pay about asks = absurd asks
 asks_next k ask round reads request draft Never about asks = absurd asks
@@ -168,14 +169,14 @@ labels_fit c t k (first ∷ labels) have fits =
     let same : have.labels ≡ labels = cc in
     record { keys_are = subst (λ l. keys_of l ≡ map key.Label (ids_in (row_of t k))) same (have.labels_are ∙ ap (λ (r : Row). map key.Label (ids_in r)) row_is); shows = fits.shows.1 }
 
--- one more, behind those of the first reads
-pub blocks_more : (make : ReadOf → Block) (labels : List ReadOf) (i : ℕ) (read : ReadOf) (old before after : List ℕ) → i < length labels → read ≡ get_or labels i read
-    → before ≡ old ++ flat_map block_line (map make (take i labels)) → after ≡ before ++ block_line (make read) → after ≡ old ++ flat_map block_line (map make (take (i + 1) labels))
-blocks_more make labels i read old before after within at so_far added =
-    let first : List Block = map make (take i labels) in
-    let more : map make (take (i + 1) labels) ≡ first ++ make read ∷ []
-    = map_more make labels i read within ∙ ap (λ (r : ReadOf). first ++ make r ∷ []) (sym at) in
-    both block_line first (make read ∷ []) old before after so_far (added ∙ ap (λ (l : List ℕ). before ++ l) (sym (append-nil (block_line (make read)))))
+-- one more, behind those of the first
+pub blocks_more : {A : Type 0} (make : A → Block) (xs : List A) (i : ℕ) (x : A) (old before after : List ℕ) → i < length xs → x ≡ get_or xs i x
+    → before ≡ old ++ flat_map block_line (map make (take i xs)) → after ≡ before ++ block_line (make x) → after ≡ old ++ flat_map block_line (map make (take (i + 1) xs))
+blocks_more {A} make xs i x old before after within at so_far added =
+    let first : List Block = map make (take i xs) in
+    let more : map make (take (i + 1) xs) ≡ first ++ make x ∷ []
+    = map_more make xs i x within ∙ ap (λ (y : A). first ++ make y ∷ []) (sym at) in
+    both block_line first (make x ∷ []) old before after so_far (added ∙ ap (λ (l : List ℕ). before ++ l) (sym (append-nil (block_line (make x)))))
     ∙ ap (λ (blocks : List Block). old ++ flat_map block_line blocks) (sym more)
 
 -- the links of a promotion

@@ -2,6 +2,7 @@ pub mod cited
 pub mod Items
 pub mod DriverLemmas
 pub mod LabelsLemmas
+pub mod LinesLemmas
 pub mod ListsLemmas
 pub mod HomeLemmas
 pub mod ProductDetailLemmas

@@ -10,6 +10,8 @@ use Rattle.shop_history.specs.declared.acts.Act.{Act}
 use Rattle.shop_history.specs.declared.acts.Act.TheVariants.{Confirm}
 use Rattle.shop_history.specs.Acts.{play, IsActOf}
 use Rattle.shop_history.specs.Drawing.{new_ids}
+use Rattle.shop_cache.specs.declared.cache.ListLine.{ListLine}
+use Rattle.shop_cache.specs.Keys.{key_asked}
 use Rattle.shop_draft.specs.declared.draft.Draft.{Draft}
 use Rattle.shop_draft.specs.Pages.{IsPage, Shows}
 use Rattle.shop_attempt.specs.declared.attempts.Attempt.{Attempt}
@@ -19,9 +21,10 @@ use Rattle.shop_attempt.specs.Reads.{Agrees, IsReadSince}
 use Rattle.shop_attempt.specs.Seats.{Seat}
 use Rattle.shop_browse.specs.declared.attempted.Ask.{Ask}
 use Rattle.shop_browse.specs.declared.attempted.Attempted.{Attempted}
-use Rattle.shop_browse.specs.declared.attempted.Attempted.TheVariants.{Ready, Pay, Contradiction, Memory}
+use Rattle.shop_browse.specs.declared.attempted.Attempted.TheVariants.{Ready, Listed, Pay, Contradiction, Memory}
 use Rattle.shop_browse.specs.Baskets.{HasBasket}
 use Rattle.shop_browse.specs.Footprints.{InFootprint}
+use Rattle.shop_browse.specs.Lists.{AreListed}
 
 -- an ask of the opening tables: its index is of their catalogue, and its scale has as many items
 pub record Suits (ask : Ask) (seat : Seat) : Type 0 where
@@ -84,6 +87,18 @@ abbrev pub IsFree : Option Act → Type 0
 IsFree (Some (Confirm asked draw auth)) = ⊥
 IsFree _ = Unit {0}
 
+-- an attempt for which nothing is to be paid; where it changes nothing, no list is asked for
+pub record IsPlain (start now : Seat) (asking : Asking) (draft : Draft) (attempt : Attempt) : Type 0 where
+  pub ready : IsReady start now asking draft attempt
+  pub free : IsFree attempt.act
+  pub unlisted : attempt.act ≡ None → key_asked asking.request ≡ None
+
+-- an attempt at a list, which changes nothing: in whichever tables agree with the reads, these are its lines
+pub record IsList (start now : Seat) (asking : Asking) (draft : Draft) (attempt : Attempt) (lines : List ListLine) : Type 0 where
+  pub ready : IsReady start now asking draft attempt
+  pub reading : attempt.act ≡ None
+  pub listed : (t : Tables) → Agrees now.opening t attempt.reads → AreListed t asking.request lines
+
 -- a purchase whose rows are read, by an attempt that changes nothing yet
 pub record IsPayable (start now : Seat) (asking : Asking) (attempt : Attempt) : Type 0 where
   pub attempts : IsAttempt start now asking attempt
@@ -98,7 +113,8 @@ pub record IsContradiction (start now : Seat) (asking : Asking) (attempt : Attem
 
 -- what is answered, with the draft as the call leaves it
 abbrev pub AttemptedAs : Seat → Seat → Asking → Draft → Attempted → Type 0
-AttemptedAs start now asking draft (Ready attempt) = IsReady start now asking draft attempt × IsFree attempt.act
+AttemptedAs start now asking draft (Ready attempt) = IsPlain start now asking draft attempt
+AttemptedAs start now asking draft (Listed attempt lines) = IsList start now asking draft attempt lines
 AttemptedAs start now asking draft (Pay attempt) = IsPayable start now asking attempt
 AttemptedAs start now asking draft (Contradiction attempt) = IsContradiction start now asking attempt
 AttemptedAs start now asking draft Memory = Unit {0}

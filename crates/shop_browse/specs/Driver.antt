@@ -1,5 +1,5 @@
 -- The driver of interactions: what one may do next by what it has read, and the attempt of what it decides.
-use Rattle.std.specs.Prelude.{◌≡◌, ℕ, suc, ◌≤◌, List, [], ◌∷◌, ◌++◌, length, All, Option, Some}
+use Rattle.std.specs.Prelude.{◌≡◌, ℕ, suc, ◌≤◌, List, [], ◌∷◌, ◌++◌, length, All, Option, Some, None}
 use Rattle.shop_model.specs.declared.requests.Request.{Request}
 use Rattle.shop_model.specs.declared.tables.Tables.{Tables}
 use Rattle.shop_model.specs.lists.Catalogues.{Catalogue, catalogue}
@@ -8,6 +8,7 @@ use Rattle.shop_history.specs.declared.acts.Act.{Act}
 use Rattle.shop_history.specs.declared.acts.Entry.{Entry}
 use Rattle.shop_history.specs.declared.keys.Key.{Key}
 use Rattle.shop_history.specs.Acts.{IsActOf}
+use Rattle.shop_cache.specs.Keys.{key_asked}
 use Rattle.shop_draft.specs.declared.draft.Draft.{Draft}
 use Rattle.shop_attempt.specs.declared.attempts.Attempt.{Attempt}
 use Rattle.shop_attempt.specs.declared.attempts.ReadOf.{ReadOf}
@@ -17,11 +18,12 @@ use Rattle.shop_attempt.specs.Reads.{AreTrue, AreReadSince}
 use Rattle.shop_attempt.specs.Seats.{Seat}
 use Rattle.shop_browse.specs.declared.attempted.Ask.{Ask}
 use Rattle.shop_browse.specs.declared.driver.Next.{Next}
-use Rattle.shop_browse.specs.declared.driver.Next.TheVariants.{ReadOne, Read, Show, Change, Pay, Never}
+use Rattle.shop_browse.specs.declared.driver.Next.TheVariants.{ReadOne, Read, Show, ShowList, Change, Pay, Never}
 use Rattle.shop_browse.specs.Attempts.{Becomes, IsShownBy, IsFree}
 use Rattle.shop_browse.specs.Baskets.{IsBasketFor}
 pub use Rattle.shop_browse.specs.Fitting.{keys_of, Fits, AreSeen}
 use Rattle.shop_browse.specs.Footprints.{InFootprint}
+use Rattle.shop_browse.specs.Lists.{AreListed}
 
 -- the scale of an ask has as many items as its catalogue
 abbrev pub IsWhole : Ask → Type 0
@@ -54,12 +56,17 @@ pub record IsChange (request : Request) (ask : Ask) (reads : List ReadOf) (draft
   pub makes : (t : Tables) (stamp : ℕ) → Fits ask.index.now t reads → stamp ≤ stamp_limit → Makes t stamp act writes
   pub becomes : (t : Tables) (stamp : ℕ) → Fits ask.index.now t reads → stamp ≤ stamp_limit → Becomes t stamp act draft
 
+-- whichever tables fit what was read, the draft is of the page that the request shows there
+abbrev pub IsPageFor : Request → Ask → List ReadOf → Draft → Type 0
+IsPageFor request ask reads draft = (t : Tables) → Fits ask.index.now t reads → IsShownBy t request ask.draw draft
+
 -- what is done next is right in whichever tables fit what was read, with the draft as it is then
 abbrev pub IsNext : (ℕ → List ReadOf → Type 0) → Request → Ask → ℕ → List ReadOf → Draft → Next → Type 0
 IsNext follows request ask round reads draft (ReadOne key) = AsksFor follows request ask round reads (key ∷ [])
 IsNext follows request ask round reads draft (Read keys) = AsksFor follows request ask round reads keys
-IsNext follows request ask round reads draft Show =
-    (t : Tables) → Fits ask.index.now t reads → IsShownBy t request ask.draw draft
+IsNext follows request ask round reads draft Show = (key_asked request ≡ None) × IsPageFor request ask reads draft
+IsNext follows request ask round reads draft (ShowList lines) =
+    ((t : Tables) → Fits ask.index.now t reads → AreListed t request lines) × IsPageFor request ask reads draft
 IsNext follows request ask round reads draft (Change act writes) = IsChange request ask reads draft act writes
 IsNext follows request ask round reads draft Pay = IsBasketFor request reads
 IsNext follows request ask round reads draft Never = (t : Tables) → Fits ask.index.now t reads → ⊥

@@ -17,7 +17,7 @@ use Rattle.shop_draft.specs.Pages.{Shows}
 use Rattle.shop_attempt.specs.declared.attempts.ReadOf.{ReadOf}
 use Rattle.shop_browse.specs.declared.attempted.Ask.{Ask}
 use Rattle.shop_browse.specs.declared.driver.Next.{Next}
-use Rattle.shop_browse.specs.declared.driver.Next.TheVariants.{ReadOne, Read, Show, Change, Pay, Never}
+use Rattle.shop_browse.specs.declared.driver.Next.TheVariants.{ReadOne, Read, Show, ShowList, Change, Pay, Never}
 use Rattle.shop_browse.specs.Driver.{Fits}
 use Rattle.shop_browse.specs.Labels.{FollowsLabels, AsksLabels, promoted_in}
 
@@ -52,6 +52,7 @@ IsWelcome ids customer ask round reads draft (ReadOne key) = AsksLabels (drawn_k
 IsWelcome ids customer ask round reads draft (Read keys) = AsksLabels (drawn_key ask) ask round reads (Some (Read keys))
 IsWelcome ids customer ask round reads draft Show =
     (t : Tables) → Fits ask.index.now t reads → Shows draft (λ drawn. home_page t ids ask.draw customer)
+IsWelcome ids customer ask round reads draft (ShowList lines) = ⊥
 IsWelcome ids customer ask round reads draft (Change act writes) = ⊥
 IsWelcome ids customer ask round reads draft Pay = ⊥
 IsWelcome ids customer ask round reads draft Never = ⊥

@@ -1,10 +1,11 @@
 pub mod Fitting
 pub mod Baskets
 pub mod Footprints
+pub mod Lists
 pub mod Attempts
 pub mod Driver
 pub mod Labels
-pub mod Lists
+pub mod Lines
 pub mod Home
 pub mod ProductDetail
 pub mod SearchRequest

@@ -1,9 +1,6 @@
--- What Search Results reads, and its first blocks.
-use Rattle.std.specs.Prelude.{◌≡◌, ℕ, zero, suc, List, [], ◌∷◌, ◌++◌, map, codes}
-use Rattle.shop_model.specs.declared.page.Block.{Block}
-use Rattle.shop_model.specs.declared.page.Block.TheVariants.{Heading, Para}
+-- What Search Results reads.
+use Rattle.std.specs.Prelude.{◌≡◌, ℕ, zero, suc, List, [], map}
 use Rattle.shop_model.specs.lists.Catalogues.{found}
-use Rattle.shop_model.specs.asked.Kinds.{kind_name}
 use Rattle.shop_model.specs.asked.SearchAsked.{SearchAsked}
 use Rattle.shop_history.specs.declared.keys.Key.TheVariants.{Label}
 use Rattle.shop_attempt.specs.declared.attempts.ReadOf.{ReadOf}
@@ -14,7 +11,3 @@ use Rattle.shop_browse.specs.Driver.{keys_of}
 abbrev pub FollowsSearch : SearchAsked → Ask → ℕ → List ReadOf → Type 0
 FollowsSearch asked ask zero reads = reads ≡ []
 FollowsSearch asked ask (suc round) reads = keys_of reads ≡ map Label (found ask.index.now asked.kind asked.text)
-
--- the heading, and what was searched for
-abbrev pub head_of : SearchAsked → List Block
-head_of asked = Heading (codes "Search Results") ∷ Para (kind_name asked.kind ++ codes ": " ++ asked.text) ∷ []

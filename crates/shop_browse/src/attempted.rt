@@ -1,6 +1,8 @@
 use shop_attempt::Attempt;
+use shop_cache::ListLine;
 use shop_model::Scale;
 use shop_search::Index;
+use shop_text::Listed;
 
 /// What an attempt is made with: how many rows the shop opened with, the index of its catalogue, the
 /// moment in milliseconds since 1970-01-01, and the word that was drawn for the request.
@@ -17,6 +19,8 @@ pub struct Ask<'a> {
 pub enum Attempted {
     /// The page is written.
     Ready(Attempt),
+    /// The page of a list is written, by these lines.
+    Listed(Attempt, Listed<ListLine>),
     /// What a purchase needs is read, and nothing is written: a payment decides.
     Pay(Attempt),
     /// What was read can't be so in any one shop: it was read while rows changed.

@@ -10,6 +10,7 @@ ghost use Rattle.shop_browse.specs.Driver as spec;
 
 use crate::{Ask, Attempted};
 use shop_attempt::{Attempt, ReadOf, Store, Write, read};
+use shop_cache::ListLine;
 use shop_draft::Draft;
 use shop_history::{Act, Key};
 use shop_text::{Listed, Memory};
@@ -30,6 +31,8 @@ pub enum Next {
     Read(Listed<Key>),
     /// It shows the page that it has written, and changes nothing.
     Show,
+    /// It shows the page that it has written of a list, by these lines, and changes nothing.
+    ShowList(Listed<ListLine>),
     /// It does an act, by these writes; the page that it has written waits for what the settle draws.
     Change(Act, Listed<Write>),
     /// A payment is asked for; nothing is written yet.
@@ -121,6 +124,7 @@ fn drive<St: Store, I: Interaction + Drop>(
             Next::ReadOne(key) => read_one(store, &mut reads, key)?,
             Next::Read(keys) => read_all(store, &mut reads, keys)?,
             Next::Show => return Ok(Attempted::Ready(looked(ask, reads))),
+            Next::ShowList(lines) => return Ok(Attempted::Listed(looked(ask, reads), lines)),
             Next::Change(act, writes) => {
                 return Ok(Attempted::Ready(Attempt {
                     writes: Some(writes),

@@ -1,68 +1,60 @@
-//! Pages that show a list of items.
-ghost use Rattle.std.specs.Prelude.{◌≡◌, ◌∷◌, ◌++◌, [], OnOk, map};
+//! Pages that show a list of items, by its lines.
+ghost use Rattle.std.specs.Prelude.{◌≡◌, ◌∷◌, ◌++◌, [], Some, IsSome, OnOk, map};
 ghost use Rattle.std.specs.List.{flat_map};
 ghost use Rattle.shop_text.specs.Texts.{escape};
 ghost use Rattle.shop_model.specs.pages.PageText.{block_line};
 ghost use Rattle.shop_model.specs.rows.Subjects.{subject_name};
 ghost use Rattle.shop_model.specs.declared.page.Block.TheVariants as block;
+ghost use Rattle.shop_model.specs.declared.page.Page.{Page};
+ghost use Rattle.shop_cache.specs.Keys.{key_asked};
 ghost use Rattle.shop_draft.specs.Drawing.{ids_at};
 ghost use Rattle.shop_draft.specs.Pages.{Shows};
 ghost use Rattle.shop_draft.specs.Templates.{Adds, Says};
 ghost use Rattle.shop_browse.specs.Lists as spec;
 
-use crate::labels::id_in;
-use shop_attempt::ReadOf;
+use crate::{best_sellers, new_products, search_results};
+use shop_cache::ListLine;
 use shop_draft::{Draft, PageIds, Template};
-use shop_history::Row;
-use shop_model::Subject;
+use shop_model::{Request, Subject};
 use shop_text::Memory;
 
-/// A link to the page of an item whose label was read.
-fn line(page: &mut Template, ids: PageIds, read: &ReadOf) -> Result<(), Memory>
-    ensures { OnOk result (Adds page.old page.new (λ drawn. block_line (spec.line_in (ids_at drawn ids) read.now))) }
+/// A link to the page of the item on a line.
+fn line(page: &mut Template, ids: PageIds, line: &ListLine) -> Result<(), Memory>
+    ensures { OnOk result (Adds page.old page.new (λ drawn. block_line (spec.line_in (ids_at drawn ids) line.now))) }
 {
-    let item = id_in(&read.key);
-    match &read.row {
-        Row::Label(label) => page.author_link(
-            item,
-            ids,
-            label.title(),
-            label.first(),
-            label.last(),
-        )?,
-        _ => page.item_link(b"/product_detail", item, ids, b"")?,
-    }
+    let label = &line.label;
+    page.author_link(line.item, ids, label.title(), label.first(), label.last())?;
     Ok(())
 }
 
-fn each_line(page: &mut Template, ids: PageIds, labels: &[ReadOf]) -> Result<(), Memory>
-    ensures { OnOk result (Adds page.old page.new (λ drawn. flat_map block_line (map (spec.line_in (ids_at drawn ids)) labels.now))) }
+fn each_line(page: &mut Template, ids: PageIds, lines: &[ListLine]) -> Result<(), Memory>
+    ensures { OnOk result (Adds page.old page.new (λ drawn. flat_map block_line (map (spec.line_in (ids_at drawn ids)) lines.now))) }
 {
-    for read in labels {
-        line(page, ids, read)?;
+    for one in lines {
+        line(page, ids, one)?;
     }
     Ok(())
 }
 
 /// Adds the lines of a list, or a word where it is empty.
 #[tactic(auto, unfolding(shop_model::specs::pages::PageText::block_text))]
-fn lines(page: &mut Template, ids: PageIds, labels: &[ReadOf]) -> Result<(), Memory>
-    ensures { OnOk result (Adds page.old page.new (λ drawn. flat_map block_line (spec.lines_in (ids_at drawn ids) labels.now))) }
+fn add_lines(page: &mut Template, ids: PageIds, lines: &[ListLine]) -> Result<(), Memory>
+    ensures { OnOk result (Adds page.old page.new (λ drawn. flat_map block_line (spec.lines_in (ids_at drawn ids) lines.now))) }
 {
-    if labels.is_empty() {
+    if lines.is_empty() {
         page.put(b"<p>Nothing found.</p>\n")?;
         Ok(())
     } else {
-        each_line(page, ids, labels)?;
+        each_line(page, ids, lines)?;
         Ok(())
     }
 }
 
 /// Adds the lines of a list and the links behind them, and ends the page.
-pub(crate) fn finish(page: &mut Template, ids: PageIds, labels: &[ReadOf]) -> Result<(), Memory>
-    ensures { OnOk result (Adds page.old page.new (λ drawn. spec.list_end (ids_at drawn ids) labels.now)) }
+pub(crate) fn finish(page: &mut Template, ids: PageIds, lines: &[ListLine]) -> Result<(), Memory>
+    ensures { OnOk result (Adds page.old page.new (λ drawn. spec.list_end (ids_at drawn ids) lines.now)) }
 {
-    lines(page, ids, labels)?;
+    add_lines(page, ids, lines)?;
     page.nav(ids)?;
     page.end()?;
     Ok(())
@@ -87,16 +79,38 @@ pub(crate) fn subject_page(
     word: &[u8],
     subject: Subject,
     ids: PageIds,
-    labels: &[ReadOf],
+    lines: &[ListLine],
 ) -> Result<(), Memory>
     requires title { escape title.now ≡ title.now }
     requires word { escape word.now ≡ word.now }
-    ensures { OnOk result (Shows draft.new (λ drawn. spec.page_in (ids_at drawn ids) title.now (block.Heading (word.now ++ subject_name subject) ∷ []) labels.now)) }
+    ensures { OnOk result (Shows draft.new (λ drawn. spec.page_in (ids_at drawn ids) title.now (block.Heading (word.now ++ subject_name subject) ∷ []) lines.now)) }
 {
     draft.status = 200;
     let page = &mut draft.page;
     page.begin(title)?;
     subject_heading(page, word, subject)?;
-    finish(page, ids, labels)?;
+    finish(page, ids, lines)?;
     Ok(())
+}
+
+/// Writes the page of the list that is asked for, by its lines, read now or kept.
+pub fn write_list(draft: &mut Draft, request: &Request, lines: &[ListLine]) -> Result<(), Memory>
+    requires { IsSome (key_asked request.now) }
+    ensures { OnOk result ((page : Page) → spec.page_by request.now lines.now ≡ Some page → Shows draft.new (λ drawn. page)) }
+{
+    match request {
+        Request::NewProducts(asked) => {
+            new_products::write_page(draft, asked, lines)?;
+            Ok(())
+        }
+        Request::BestSellers(asked) => {
+            best_sellers::write_page(draft, asked, lines)?;
+            Ok(())
+        }
+        Request::SearchResults(asked) => {
+            search_results::write_page(draft, asked, lines)?;
+            Ok(())
+        }
+        _ => unreachable!(),
+    }
 }

@@ -1,19 +1,42 @@
-ghost use Rattle.std.specs.Prelude.{◌≡◌};
+ghost use Rattle.std.specs.Prelude.{◌≡◌, OnOk};
 ghost use Rattle.shop_history.specs.declared.keys.Key.TheVariants as key_kinds;
+ghost use Rattle.shop_draft.specs.Pages.{Shows};
 ghost use Rattle.shop_attempt.specs.Marks.{Looks};
 ghost use Rattle.shop_browse.specs.Attempts.{AttemptedAs, Suits, asking_of};
 ghost use Rattle.shop_browse.specs.Labels.{FollowsLabels};
+ghost use Rattle.shop_browse.specs.Lists.{new_page};
 
 use crate::driver::{Interaction, Next, attempt_by};
 use crate::labels::labels_asked;
+use crate::lines::lines_read;
 use crate::lists::subject_page;
 use crate::{Ask, Attempted};
 use shop_attempt::{ReadOf, Store};
+use shop_cache::ListLine;
 use shop_draft::{Draft, PageIds};
 use shop_history::Key;
 use shop_model::{NewProducts, Request};
 use shop_text::Memory;
 use std::alloc::Global;
+
+/// Writes the page of the newest items of a subject, by its lines.
+pub(crate) fn write_page(
+    draft: &mut Draft,
+    asked: &NewProducts,
+    lines: &[ListLine],
+) -> Result<(), Memory>
+    ensures { OnOk result (Shows draft.new (λ drawn. new_page asked.now lines.now)) }
+{
+    subject_page(
+        draft,
+        b"New Products",
+        b"New ",
+        asked.subject,
+        PageIds::of(asked.ids),
+        lines,
+    )?;
+    Ok(())
+}
 
 impl<'a> Interaction for &'a NewProducts {
     ghost use Rattle.shop_model.specs.declared.requests.Request.TheVariants as request_kinds;
@@ -30,19 +53,16 @@ impl<'a> Interaction for &'a NewProducts {
         reads: &[ReadOf],
         draft: &mut Draft,
     ) -> Result<Next, Memory> {
-        match labels_asked(alloc, ask, Key::NewIn(self.subject), round, reads)? {
+        let asked: &NewProducts = self;
+        match labels_asked(alloc, ask, Key::NewIn(asked.subject), round, reads)? {
             Some(next) => Ok(next),
-            None => {
-                subject_page(
-                    draft,
-                    b"New Products",
-                    b"New ",
-                    self.subject,
-                    PageIds::of(self.ids),
-                    &reads[1..],
-                )?;
-                Ok(Next::Show)
-            }
+            None => match lines_read(alloc, &reads[1..])? {
+                Some(lines) => {
+                    write_page(draft, asked, lines.as_slice())?;
+                    Ok(Next::ShowList(lines))
+                }
+                None => Ok(Next::Never),
+            },
         }
     }
 }

@@ -1,18 +1,20 @@
-ghost use Rattle.std.specs.Prelude.{◌≡◌, OnOk, codes};
+ghost use Rattle.std.specs.Prelude.{◌≡◌, OnOk};
 ghost use Rattle.std.specs.List.{flat_map};
 ghost use Rattle.shop_model.specs.pages.PageText.{block_line};
 ghost use Rattle.shop_draft.specs.Pages.{Shows};
 ghost use Rattle.shop_draft.specs.Templates.{Says};
 ghost use Rattle.shop_attempt.specs.Marks.{Looks};
 ghost use Rattle.shop_browse.specs.Attempts.{AttemptedAs, Suits, asking_of};
-ghost use Rattle.shop_browse.specs.Lists.{page_in};
-ghost use Rattle.shop_browse.specs.SearchResults.{FollowsSearch, head_of};
+ghost use Rattle.shop_browse.specs.Lists.{found_page, head_of};
+ghost use Rattle.shop_browse.specs.SearchResults.{FollowsSearch};
 
 use crate::driver::{Interaction, Next, attempt_by};
 use crate::labels::label_keys;
+use crate::lines::lines_read;
 use crate::lists::finish;
 use crate::{Ask, Attempted};
 use shop_attempt::{ReadOf, Store};
+use shop_cache::ListLine;
 use shop_draft::{Draft, PageIds, Template};
 use shop_model::{Request, SearchResults};
 use shop_text::Memory;
@@ -29,15 +31,19 @@ fn heading(page: &mut Template, asked: &SearchResults) -> Result<(), Memory>
     Ok(())
 }
 
-/// Writes the page of what was found.
-fn write_page(draft: &mut Draft, asked: &SearchResults, labels: &[ReadOf]) -> Result<(), Memory>
-    ensures { OnOk result (Shows draft.new (λ drawn. page_in asked.now.ids (codes "Search Results") (head_of asked.now) labels.now)) }
+/// Writes the page of what was found, by its lines.
+pub(crate) fn write_page(
+    draft: &mut Draft,
+    asked: &SearchResults,
+    lines: &[ListLine],
+) -> Result<(), Memory>
+    ensures { OnOk result (Shows draft.new (λ drawn. found_page asked.now lines.now)) }
 {
     draft.status = 200;
     let page = &mut draft.page;
     page.begin(b"Search Results")?;
     heading(page, asked)?;
-    finish(page, PageIds::of(asked.ids), labels)?;
+    finish(page, PageIds::of(asked.ids), lines)?;
     Ok(())
 }
 
@@ -61,8 +67,13 @@ impl<'a> Interaction for &'a SearchResults {
             let found = ask.index.search(asked.kind, asked.text.bytes())?;
             return Ok(Next::Read(label_keys(alloc, found.as_slice())?));
         }
-        write_page(draft, asked, reads)?;
-        Ok(Next::Show)
+        match lines_read(alloc, reads)? {
+            Some(lines) => {
+                write_page(draft, asked, lines.as_slice())?;
+                Ok(Next::ShowList(lines))
+            }
+            None => Ok(Next::Never),
+        }
     }
 }
 

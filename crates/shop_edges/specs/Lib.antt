@@ -10,3 +10,5 @@ pub mod Charges
 pub mod ChargeView
 pub mod Gateways
 pub mod Payments
+pub mod Starts
+pub mod Links

@@ -66,13 +66,15 @@ nothing_begun now = record {
   answers = [];
   few_answers = omega arith;
   told = answered_nothing now.told;
+  key = None;
+  kept = refl;
 }
 
 pub left_alone : (from to : Standing) → to ≡ from → GivesUp from to
 left_alone from to same = subst (GivesUp from) (sym same) (nothing_begun from)
 
 pub still_standing : {St : Type 0} (seat_of : St → Seat) (old new : WorkerState St) (clock : Option (List ℕ)) (told : Option (List Answer))
-    → new ≡ record { store = old.store; caller = old.caller; progress = old.progress; reply = new.reply } → standing seat_of new clock told ≡ standing seat_of old clock told
+    → new ≡ record { store = old.store; caller = old.caller; progress = old.progress; kept = old.kept; reply = new.reply } → standing seat_of new clock told ≡ standing seat_of old clock told
 still_standing {St} seat_of old new clock told is = ap (λ (w : WorkerState St). standing seat_of w clock told) is
 
 -- nothing was met yet

@@ -26,6 +26,8 @@ use Rattle.shop_attempt.specs.Seats.{IsSeat}
 use Rattle.shop_http.specs.Requests.{asked}
 use Rattle.shop_pages.specs.Replies.{reply}
 use Rattle.shop_engine.specs.declared.report.PointKind.{PointKind}
+use Rattle.shop_cache.specs.declared.keys.ListKey.{ListKey}
+use Rattle.shop_engine.specs.declared.report.PointKind.TheVariants as kind
 use Rattle.shop_engine.specs.declared.report.PointKind.TheVariants.{Plain, At, Change, Busy, Full, Denied, GatewayFailed}
 use Rattle.shop_engine.specs.Decided.{CauseAs, page_as, tries_alone}
 use Rattle.shop_engine.specs.OneOrder.{IsNotSold, LeavesEmpty, OneOrder, no_sale, tables_found}
@@ -134,7 +136,7 @@ module _ (last : Bool) (from to : Standing) (step : Step) (one : PurchaseAsked) 
       let t : Tables = tables from.seat.opening from.seat.seen in
       let told_page : Page = page_of (no_sale (row_numbered t.customers one.c)) in
       let shows : show (tables to.seat.opening to.seat.seen) (BuyConfirm one) step.point.draw ≡ Some answered.page
-      = subst (λ k. page_as to.seat (BuyConfirm one) step.point.draw k ≡ Some answered.page) is_kind answered.decided.shows in
+      = subst (λ k. page_as to.seat (BuyConfirm one) step.point k ≡ Some answered.page) is_kind answered.decided.shows in
       let refused : show t (BuyConfirm one) step.point.draw ≡ Some told_page = ap (λ o. refused_or o None) (refused_is (row_numbered t.customers one.c) empty) in
       let both : Some told_page ≡ Some answered.page = sym refused ∙ ap (λ (u : Tables). show u (BuyConfirm one) step.point.draw) (sym (same_tables cause.0)) ∙ shows in
       let page_is : answered.page ≡ told_page = cc in
@@ -147,6 +149,7 @@ module _ (last : Bool) (from to : Standing) (step : Step) (one : PurchaseAsked) 
   not_sold_by Change is_kind cause empty =
       let both = changed cause.0.entry cause.0.made_is in
       absurd (no_passing empty (subst (λ (r : Request). check (tables from.seat.opening from.seat.seen) r ≡ None) cause.0.does.does both.0.passes))
+  not_sold_by kind.List is_kind cause empty = absurd (let no : IsSome {T = ListKey} None = cause.asked in cc)
   not_sold_by (Busy conflicts) is_kind cause empty = absurd (omega (arith, cause.0.tries, answered.decided.alone told, ap tries_alone is_kind))
   not_sold_by Full is_kind cause empty = absurd (no_passing empty (passes_there cause.1.0 cause.0.passes))
   not_sold_by (Denied charge reason) is_kind cause empty = absurd (no_passing empty (passes_there cause.1.0 cause.0.passes))

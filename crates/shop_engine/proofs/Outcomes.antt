@@ -10,6 +10,7 @@ use Rattle.shop_edges.specs.declared.gateway.Verdict.TheVariants as verdict
 use Rattle.shop_edges.specs.Charges.{ChargeValue}
 use Rattle.shop_history.specs.declared.acts.Entry.{Entry}
 use Rattle.shop_history.specs.Logs.{tables}
+use Rattle.shop_cache.specs.declared.cache.ListLine.{ListLine}
 use Rattle.shop_attempt.specs.declared.attempts.Conflict.{Conflict}
 use Rattle.shop_attempt.specs.Seats.{Seat}
 use Rattle.shop_pages.specs.Replies.{reply}
@@ -18,12 +19,12 @@ use Rattle.shop_engine.specs.declared.report.PointKind.TheVariants as kind
 use Rattle.shop_engine.specs.declared.tries.Job.{Job}
 use Rattle.shop_engine.specs.declared.tries.Outcome.{Outcome}
 use Rattle.shop_engine.specs.declared.tries.Tried.{Tried}
-use Rattle.shop_engine.specs.declared.tries.Tried.TheVariants.{Settled, Denied, Again, Failed, Memory}
+use Rattle.shop_engine.specs.declared.tries.Tried.TheVariants.{Settled, Listed, Denied, Again, Failed, Memory}
 use Rattle.shop_engine.specs.Decided.{Decision, CauseAs, call_of, tries_alone}
 use Rattle.shop_engine.specs.Failures.{failures_as}
 use Rattle.shop_engine.specs.Payments.{IsPaid}
 use Rattle.shop_engine.specs.Seats.{Stays}
-use Rattle.shop_engine.specs.Tries.{IsAnswer, IsAgain, IsTried, IsOutcome, IsGivenUp, StaysWithin, Trying, point_of}
+use Rattle.shop_engine.specs.Tries.{HasLines, IsAnswer, IsAgain, IsTried, IsOutcome, IsGivenUp, StaysWithin, Trying, point_of}
 use Rattle.shop_engine.proofs.Conflicts.{MetSoFar, all_told, all_asked, few_more, tried_as}
 use Rattle.shop_engine.proofs.Payments.{asked_for, keeps_same}
 use Rattle.shop_engine.proofs.Seats.{stays_trans, within_trans, within_of, still_told, stamp_from}
@@ -64,13 +65,13 @@ abbrev decision : Job → Outcome → List Entry → List Answer → Decision
 decision job outcome made answers = record { point = point_of job outcome; made = made; answers = answers }
 
 abbrev with_tries : Outcome → ℕ → Outcome
-with_tries outcome count = record { kind = outcome.kind; front = outcome.front; tries = count }
+with_tries outcome count = record { kind = outcome.kind; front = outcome.front; tries = count; lines = outcome.lines }
 
 cause_from : (start old new : Seat) (job : Job) (made : List Entry) (answers : List Answer) (outcome : Outcome) (count tries : ℕ) (of : PointKind) → outcome.tries ≡ tries_alone of
-    → Stays start old [] count job.ask.moment → CauseAs old new job.request.now (decision job outcome made answers) of
+    → Stays start old [] count job.ask.moment → HasLines new job.request.now of outcome.lines → CauseAs old new job.request.now (decision job outcome made answers) of
     → CauseAs start new job.request.now (decision job (with_tries outcome tries) made answers) of
-cause_from start old new job made answers outcome count tries kind.At one stays cause = cause
-cause_from start old new job made answers outcome count tries kind.Change one stays cause = (
+cause_from start old new job made answers outcome count tries kind.At one stays lines cause = cause
+cause_from start old new job made answers outcome count tries kind.Change one stays lines cause = (
   record {
     between = stays.follows.grows.rest ++ cause.0.between;
     entry = cause.0.entry;
@@ -90,10 +91,11 @@ cause_from start old new job made answers outcome count tries kind.Change one st
   },
   cause.1,
 )
-cause_from start old new job made answers outcome count tries (kind.Busy conflicts) one stays cause = absurd (omega (arith, one, cause.0.tries))
-cause_from start old new job made answers outcome count tries kind.Full one stays cause = cause
-cause_from start old new job made answers outcome count tries (kind.Denied charge reason) one stays cause = cause
-cause_from start old new job made answers outcome count tries kind.GatewayFailed one stays cause = (
+cause_from start old new job made answers outcome count tries kind.List one stays lines cause = absurd lines
+cause_from start old new job made answers outcome count tries (kind.Busy conflicts) one stays lines cause = absurd (omega (arith, one, cause.0.tries))
+cause_from start old new job made answers outcome count tries kind.Full one stays lines cause = cause
+cause_from start old new job made answers outcome count tries (kind.Denied charge reason) one stays lines cause = cause
+cause_from start old new job made answers outcome count tries kind.GatewayFailed one stays lines cause = (
   record {
     asked = cause.0.asked;
     buys = cause.0.buys;
@@ -101,7 +103,7 @@ cause_from start old new job made answers outcome count tries kind.GatewayFailed
   },
   cause.1,
 )
-cause_from start old new job made answers outcome count tries kind.Plain one stays cause = absurd cause
+cause_from start old new job made answers outcome count tries kind.Plain one stays lines cause = absurd cause
 
 answer_from : (start old new : Seat) (job : Job) (answers : List Answer) (bytes : List ℕ) (count all : ℕ) (outcome : Outcome) → count < 8 → outcome.tries ≡ tries_alone outcome.kind → all ≡ count + outcome.tries
     → Stays start old [] count job.ask.moment → (IsSome start.latest → count ≡ 0) → IsAnswer old new job answers bytes outcome
@@ -119,26 +121,37 @@ answer_from start old new job answers bytes count all outcome few one all_is sta
         few = omega (arith, one, all_is, few);
         alone = λ told. omega (arith, one, all_is, alone told);
         asks = last.asks;
-        cause = cause_from start old new job answer.made answers outcome count all outcome.kind one stays last.cause;
+        cause = cause_from start old new job answer.made answers outcome count all outcome.kind one stays answer.lines last.cause;
         shows = last.shows;
       };
+      lines = answer.lines;
       bytes_are = answer.bytes_are;
     }
 
 -- a settle is no failure
 no_failure : (of : PointKind) → tries_alone of ≡ 1 → failures_as of ≡ 0
 no_failure kind.GatewayFailed is = absurd (omega (arith, is))
+no_failure kind.List is = absurd (omega (arith, is))
 no_failure _ is = refl
 
 module _ (start old new : Trying) (job : Job) (conflicts : List Conflict) (count : ℕ) (few : count < 8) (so_far : MetSoFar start old job conflicts count) (bytes : List ℕ) where
-  pub settled_is : (of : PointKind) (front : ℕ) → IsTried old new job bytes (Settled of front) → IsOutcome start (at_end new) job bytes (record { kind = of; front = front; tries = count + 1 })
+  pub settled_is : (of : PointKind) (front : ℕ) → IsTried old new job bytes (Settled of front) → IsOutcome start (at_end new) job bytes (record { kind = of; front = front; tries = count + 1; lines = None })
   settled_is of front is =
       let was = tried_as start old new job conflicts count so_far bytes (Settled of front) is in
       record {
         answers = so_far.answers ++ is.answers;
         told = all_told start old new job conflicts count so_far bytes (Settled of front) is;
-        is = answer_from start.seat old.seat new.seat job (so_far.answers ++ is.answers) bytes count (count + 1) (record { kind = of; front = front; tries = 1 }) few (sym was.0) refl so_far.stays so_far.alone was.1;
+        is = answer_from start.seat old.seat new.seat job (so_far.answers ++ is.answers) bytes count (count + 1) (record { kind = of; front = front; tries = 1; lines = None }) few (sym was.0) refl so_far.stays so_far.alone was.1;
       }
+
+  pub listed_is : (lines : List ListLine) (front : ℕ) → IsTried old new job bytes (Listed lines front) → IsOutcome start (at_end new) job bytes (record { kind = kind.At; front = front; tries = count + 1; lines = Some lines })
+  listed_is lines front is = record {
+    answers = so_far.answers ++ is.answers;
+    told = all_told start old new job conflicts count so_far bytes (Listed lines front) is;
+    is =
+        answer_from start.seat old.seat new.seat job (so_far.answers ++ is.answers) bytes count (count + 1) (record { kind = kind.At; front = front; tries = 1; lines = Some lines }) few refl refl so_far.stays so_far.alone
+        (tried_as start old new job conflicts count so_far bytes (Listed lines front) is);
+  }
 
   pub settled_counts : (of : PointKind) (front : ℕ) → IsTried old new job bytes (Settled of front) → failures_as of ≡ 0
   settled_counts of front is = no_failure of (tried_as start old new job conflicts count so_far bytes (Settled of front) is).0
@@ -146,7 +159,7 @@ module _ (start old new : Trying) (job : Job) (conflicts : List Conflict) (count
   -- the answer that is kept is the denial
   pub denial_kept : (reason : Reason) (front : ℕ) → (is : IsTried old new job bytes (Denied reason front))
       → (charge : ChargeValue) × (new.kept ≡ Some (record { charge = charge; verdict = verdict.Denied reason }))
-      × IsOutcome start (at_end new) job bytes (record { kind = kind.Denied charge reason; front = front; tries = count + 1 })
+      × IsOutcome start (at_end new) job bytes (record { kind = kind.Denied charge reason; front = front; tries = count + 1; lines = None })
   denial_kept reason front is =
       let was = tried_as start old new job conflicts count so_far bytes (Denied reason front) is in
       let asked = all_asked start old new job conflicts count so_far bytes (Denied reason front) is in (
@@ -155,30 +168,30 @@ module _ (start old new : Trying) (job : Job) (conflicts : List Conflict) (count
         record {
           answers = so_far.answers ++ is.answers;
           told = all_told start old new job conflicts count so_far bytes (Denied reason front) is;
-          is = answer_from start.seat old.seat new.seat job (so_far.answers ++ is.answers) bytes count (count + 1) (record { kind = kind.Denied was.0 reason; front = front; tries = 1 }) few refl refl so_far.stays so_far.alone was.2;
+          is = answer_from start.seat old.seat new.seat job (so_far.answers ++ is.answers) bytes count (count + 1) (record { kind = kind.Denied was.0 reason; front = front; tries = 1; lines = None }) few refl refl so_far.stays so_far.alone was.2;
         },
       )
 
-  pub failed_is : IsTried old new job bytes Failed → IsOutcome start (at_end new) job bytes (record { kind = kind.GatewayFailed; front = 0; tries = count })
+  pub failed_is : IsTried old new job bytes Failed → IsOutcome start (at_end new) job bytes (record { kind = kind.GatewayFailed; front = 0; tries = count; lines = None })
   failed_is is =
       let was = tried_as start old new job conflicts count so_far bytes Failed is in
       record {
         answers = so_far.answers ++ is.answers;
         told = all_told start old new job conflicts count so_far bytes Failed is;
-        is = answer_from start.seat old.seat new.seat job (so_far.answers ++ is.answers) bytes count count (record { kind = kind.GatewayFailed; front = 0; tries = 0 }) few refl (omega arith) so_far.stays so_far.alone was;
+        is = answer_from start.seat old.seat new.seat job (so_far.answers ++ is.answers) bytes count count (record { kind = kind.GatewayFailed; front = 0; tries = 0; lines = None }) few refl (omega arith) so_far.stays so_far.alone was;
       }
 
 -- what a denial decides, where its answer is kept
 pub denial_decides : (kept : Option Answer) (reason : Reason) (front tries : ℕ) (charge : ChargeValue) (result : Option Outcome)
-    → IfSome result (λ outcome. (answer : Answer) → kept ≡ Some answer → outcome ≡ record { kind = kind.Denied answer.charge reason; front = front; tries = tries })
+    → IfSome result (λ outcome. (answer : Answer) → kept ≡ Some answer → outcome ≡ record { kind = kind.Denied answer.charge reason; front = front; tries = tries; lines = None })
     → kept ≡ Some (record { charge = charge; verdict = verdict.Denied reason })
-    → (P : Outcome → Type 0) → P (record { kind = kind.Denied charge reason; front = front; tries = tries }) → IfSome result P
+    → (P : Outcome → Type 0) → P (record { kind = kind.Denied charge reason; front = front; tries = tries; lines = None }) → IfSome result P
 denial_decides kept reason front tries charge result decides kept_is P there =
     IfSome_then result decides (λ outcome is. subst P (sym (is (record { charge = charge; verdict = verdict.Denied reason }) kept_is)) there)
 
 -- all the tries met conflicts
 pub busy_is : (start now : Trying) (job : Job) (bytes : List ℕ) (conflicts : List Conflict) (count : ℕ) → count ≡ 8 → now.seat.caller ≡ job.caller → MetSoFar start now job conflicts count
-    → bytes ≡ reply (page_of RowsKeptChanging) job.form → IsOutcome start (at_end now) job bytes (record { kind = kind.Busy conflicts; front = 0; tries = 8 })
+    → bytes ≡ reply (page_of RowsKeptChanging) job.form → IsOutcome start (at_end now) job bytes (record { kind = kind.Busy conflicts; front = 0; tries = 8; lines = None })
 busy_is start now job bytes conflicts count all caller so_far bytes_are = record {
   answers = so_far.answers;
   told = so_far.told;
@@ -194,6 +207,7 @@ busy_is start now job bytes conflicts count all caller so_far bytes_are = record
       cause = (record { tries = refl; eight = so_far.count ∙ all; met = so_far.met; rise = so_far.rise; again = so_far.again }, (refl, refl));
       shows = refl;
     };
+    lines = tt;
     bytes_are = bytes_are;
   };
 }

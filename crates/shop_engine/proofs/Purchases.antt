@@ -58,6 +58,7 @@ module _ (start now : Seat) (job : Job) (asked : PurchaseAsked) (given : Attempt
         kept = kept;
         asked = has;
         ready = was.ready;
+        unlisted = λ none. absurd (cc (none, was.act));
         paid = λ t agrees.
             subst (λ (o : Option Act). IsPaidFor o t (called_by job) answers) (sym was.act)
             (kept_said answers (record { charge = charge_due t asked job.caller job.call; verdict = verdict.Approved was.auth }) (subst (Keeps None answers) (was.settled t agrees).1 has.keeps));
@@ -99,6 +100,7 @@ denied_is start old new job asked kept answers draft attempt reason drawn bytes 
           );
           shows = refl;
         };
+        lines = tt;
         bytes_are = bytes_are (page_of (denial reason)) (denied.written drawn);
       },
     )
@@ -143,5 +145,6 @@ failed_is start now job asked kept answers attempt bytes looked seat caller buys
         );
         shows = refl;
       };
+      lines = tt;
       bytes_are = bytes_are;
     }

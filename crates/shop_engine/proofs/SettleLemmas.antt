@@ -22,6 +22,7 @@ use Rattle.shop_history.specs.Drawing.{new_ids}
 use Rattle.shop_history.specs.Logs.{tables, page_at, Legal, MayFollow}
 use Rattle.shop_history.proofs.cited.Places.{push_here, row_there}
 use Rattle.shop_history.proofs.cited.Rows.{tables_push}
+use Rattle.shop_cache.specs.declared.cache.ListLine.{ListLine}
 use Rattle.shop_draft.specs.declared.draft.Draft.{Draft}
 use Rattle.shop_draft.specs.Pages.{IsPage}
 use Rattle.shop_attempt.specs.declared.attempts.Attempt.{Attempt}
@@ -34,11 +35,11 @@ use Rattle.shop_attempt.specs.Seats.{Seat, IsSeat, Follows, Looked, RoseOnce}
 use Rattle.shop_attempt.specs.Settles.{Accepted, Confirmed, Added, DoneAs, SettledAs, raised}
 use Rattle.shop_attempt.proofs.cited.Settles.{true_longer_all, agrees_now}
 use Rattle.shop_pages.specs.Replies.{reply}
-use Rattle.shop_browse.specs.Attempts.{IsDraftOf, Becomes}
+use Rattle.shop_browse.specs.Attempts.{IsDraftOf, IsList, IsReady, Becomes}
 use Rattle.shop_engine.specs.declared.report.PointKind.TheVariants.{At, Change, Full as FullKind}
 use Rattle.shop_engine.specs.declared.tries.Job.{Job}
 use Rattle.shop_engine.specs.Payments.{IsPaid}
-use Rattle.shop_engine.specs.Tries.{IsAnswer, IsPaidFor, MaySettle, asking_for, called_by}
+use Rattle.shop_engine.specs.Tries.{HasAsked, HasLines, IsAnswer, IsPaidFor, MaySettle, asking_for, called_by}
 use Rattle.shop_engine.proofs.Payments.{asked_for}
 use Rattle.shop_engine.proofs.Seats.{stamp_raised, entries_one, stays_found, stays_refused, stays_confirmed}
 
@@ -66,17 +67,17 @@ some_act (Some act) is = (act, refl)
 
 -- a settle that was done without a change
 
-pub shown_is : (start old new : Seat) (job : Job) (answers : List Answer) (draft : Draft) (attempt : Attempt) (drawn : Drawn) (bytes : List ℕ) → Looked start old → Follows old new → IsSeat new
-    → RoseOnce old.settles new.settles → MaySettle start old job answers draft attempt → DoneAs old new attempt attempt.act drawn → is_some attempt.act ≡ false
-    → ((page : Page) → IsPage draft drawn page → bytes ≡ reply page job.form) → IsAnswer start new job answers bytes (record { kind = At; front = drawn.front; tries = 1 })
-shown_is start old new job answers draft attempt drawn bytes looked follows seat rose may done reads bytes_are =
+read_is : (start old new : Seat) (job : Job) (answers : List Answer) (kept : Option Answer) (draft : Draft) (attempt : Attempt) (lines : Option (List ListLine)) (drawn : Drawn) (bytes : List ℕ)
+    → Looked start old → Follows old new → IsSeat new → RoseOnce old.settles new.settles → old.caller ≡ job.caller → HasAsked job answers kept → IsReady start old (asking_for job) draft attempt → attempt.act ≡ None
+    → (Agrees old.opening (tables new.opening new.seen) attempt.reads → HasLines new job.request.now At lines) → DoneAs old new attempt attempt.act drawn
+    → ((page : Page) → IsPage draft drawn page → bytes ≡ reply page job.form) → IsAnswer start new job answers bytes (record { kind = At; front = drawn.front; tries = 1; lines = lines })
+read_is start old new job answers kept draft attempt lines drawn bytes looked follows seat rose caller has ready none lined done bytes_are =
     let asking = asking_for job in
-    let ready = may.ready in
-    let none : attempt.act ≡ None = no_act attempt.act reads in
     let was : Confirmed old new attempt drawn = subst (λ o. DoneAs old new attempt o drawn) none done in
     let t : Tables = tables new.opening new.seen in
     let drafts : IsDraftOf old.opening asking attempt.reads draft None = subst (IsDraftOf old.opening asking attempt.reads draft) none ready.drafts in
-    let shown = drafts t (agrees_found old new new.seen attempt follows seat was.accepted.is_found.grows (extends_self new.seen) ready.attempts.faithful was.accepted.fresh) in
+    let agrees : Agrees old.opening t attempt.reads = agrees_found old new new.seen attempt follows seat was.accepted.is_found.grows (extends_self new.seen) ready.attempts.faithful was.accepted.fresh in
+    let shown = drafts t agrees in
     record {
       made = [];
       page = shown.page;
@@ -85,12 +86,28 @@ shown_is start old new job answers draft attempt drawn bytes looked follows seat
         some = omega arith;
         few = omega arith;
         alone = λ told. refl;
-        asks = asked_for new job answers may.kept (follows.caller ∙ may.caller) may.asked;
+        asks = asked_for new job answers kept (follows.caller ∙ caller) has;
         cause = (refl, was.accepted.front);
         shows = shown.shows;
       };
+      lines = lined agrees;
       bytes_are = bytes_are shown.page (shown.written drawn);
     }
+
+pub shown_is : (start old new : Seat) (job : Job) (answers : List Answer) (draft : Draft) (attempt : Attempt) (drawn : Drawn) (bytes : List ℕ) → Looked start old → Follows old new → IsSeat new
+    → RoseOnce old.settles new.settles → MaySettle start old job answers draft attempt → DoneAs old new attempt attempt.act drawn → is_some attempt.act ≡ false
+    → ((page : Page) → IsPage draft drawn page → bytes ≡ reply page job.form) → IsAnswer start new job answers bytes (record { kind = At; front = drawn.front; tries = 1; lines = None })
+shown_is start old new job answers draft attempt drawn bytes looked follows seat rose may done reads bytes_are =
+    let none : attempt.act ≡ None = no_act attempt.act reads in
+    read_is start old new job answers may.kept draft attempt None drawn bytes looked follows seat rose may.caller may.asked may.ready none (λ agrees. may.unlisted none) done bytes_are
+
+-- of a list
+pub list_is : (start old new : Seat) (job : Job) (answers : List Answer) (kept : Option Answer) (draft : Draft) (attempt : Attempt) (lines : List ListLine) (drawn : Drawn) (bytes : List ℕ)
+    → Looked start old → Follows old new → IsSeat new → RoseOnce old.settles new.settles → old.caller ≡ job.caller → HasAsked job answers kept → IsList start old (asking_for job) draft attempt lines
+    → DoneAs old new attempt attempt.act drawn → ((page : Page) → IsPage draft drawn page → bytes ≡ reply page job.form)
+    → IsAnswer start new job answers bytes (record { kind = At; front = drawn.front; tries = 1; lines = Some lines })
+list_is start old new job answers kept draft attempt lines drawn bytes looked follows seat rose caller has list done bytes_are =
+    read_is start old new job answers kept draft attempt (Some lines) drawn bytes looked follows seat rose caller has list.ready list.reading (λ agrees. list.listed _ agrees) done bytes_are
 
 -- a settle that was done as a change
 
@@ -119,7 +136,7 @@ paid_there t log same caller by call answers act log_is caller_is paid =
 
 pub changed_is : (start old new : Seat) (job : Job) (answers : List Answer) (draft : Draft) (attempt : Attempt) (drawn : Drawn) (bytes : List ℕ) → Looked start old → Follows old new → IsSeat new
     → RoseOnce old.settles new.settles → MaySettle start old job answers draft attempt → DoneAs old new attempt attempt.act drawn → is_some attempt.act ≡ true
-    → ((page : Page) → IsPage draft drawn page → bytes ≡ reply page job.form) → IsAnswer start new job answers bytes (record { kind = Change; front = drawn.front; tries = 1 })
+    → ((page : Page) → IsPage draft drawn page → bytes ≡ reply page job.form) → IsAnswer start new job answers bytes (record { kind = Change; front = drawn.front; tries = 1; lines = None })
 changed_is start old new job answers draft attempt drawn bytes looked follows seat rose may done changes bytes_are =
     let asking = asking_for job in
     let ready = may.ready in
@@ -181,6 +198,7 @@ changed_is start old new job answers draft attempt drawn bytes looked follows se
         );
         shows = shows;
       };
+      lines = tt;
       bytes_are = bytes_are (play t was.entry.stamp was.entry.act).page page_is;
     }
 
@@ -199,7 +217,7 @@ passes_there opening reads act (Some writes) t stamp makes agrees bound = (makes
 
 pub full_is : (start old new : Seat) (job : Job) (answers : List Answer) (draft : Draft) (attempt : Attempt) (size : ℕ) (bytes : List ℕ) → Looked start old → Follows old new → IsSeat new
     → RoseOnce old.settles new.settles → MaySettle start old job answers draft attempt → SettledAs old new attempt (settle.Full size)
-    → bytes ≡ reply (page_of FullLog) job.form → IsAnswer start new job answers bytes (record { kind = FullKind; front = size; tries = 1 })
+    → bytes ≡ reply (page_of FullLog) job.form → IsAnswer start new job answers bytes (record { kind = FullKind; front = size; tries = 1; lines = None })
 full_is start old new job answers draft attempt size bytes looked follows seat rose may settled bytes_are =
     let asking = asking_for job in
     let ready = may.ready in
@@ -228,5 +246,6 @@ full_is start old new job answers draft attempt size bytes looked follows seat r
         );
         shows = refl;
       };
+      lines = tt;
       bytes_are = bytes_are;
     }

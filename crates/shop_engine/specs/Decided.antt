@@ -1,5 +1,5 @@
 -- What decides the answer to a request, by the kind of its point.
-use Rattle.std.specs.Prelude.{◌≡◌, ℕ, ◌+◌, ◌<◌, ◌≤◌, max, List, [], ◌∷◌, ◌++◌, length, All, AllPairs, Option, Some, None, IsSome, true}
+use Rattle.std.specs.Prelude.{◌≡◌, ℕ, ◌+◌, ◌<◌, ◌≤◌, max, List, [], ◌∷◌, ◌++◌, length, take, All, AllPairs, Option, Some, None, IsSome, true}
 use Rattle.shop_model.specs.declared.page.Page.{Page}
 use Rattle.shop_model.specs.declared.refusal.Refusal.TheVariants as refusal
 use Rattle.shop_model.specs.declared.requests.Request.{Request}
@@ -10,6 +10,7 @@ use Rattle.shop_edges.specs.Charges.{denial}
 use Rattle.shop_history.specs.declared.acts.Entry.{Entry}
 use Rattle.shop_history.specs.Acts.{IsActOf}
 use Rattle.shop_history.specs.Logs.{tables, page_at}
+use Rattle.shop_cache.specs.Keys.{key_asked}
 use Rattle.shop_attempt.specs.declared.attempts.Conflict.{Conflict}
 use Rattle.shop_attempt.specs.Reads.{IsConflict}
 use Rattle.shop_attempt.specs.Seats.{Seat}
@@ -18,6 +19,8 @@ use Rattle.shop_order.specs.Payments.{Call}
 use Rattle.shop_engine.specs.declared.report.Point.{Point}
 use Rattle.shop_engine.specs.declared.report.PointKind.{PointKind}
 use Rattle.shop_engine.specs.declared.report.PointKind.TheVariants.{Plain, At, Change, Busy, Full, Denied, GatewayFailed}
+use Rattle.shop_engine.specs.declared.report.PointKind.TheVariants as kind
+use Rattle.shop_engine.specs.Lists.{IsFresh}
 use Rattle.shop_engine.specs.Payments.{AreFor, IsPaid, IsDenied, IsFailed}
 use Rattle.shop_engine.specs.Seats.{Stays}
 
@@ -66,15 +69,24 @@ pub record IsFull (new : Seat) (request : Request) : Type 0 where
   pub changes : is_changing request ≡ true
   pub passes : check (tables new.opening new.seen) request ≡ None
 
+-- a list that is kept is shown: nothing is asked of the store, and nothing made; it is fresh of the log seen
+pub record IsShownAgain (old new : Seat) (request : Request) (decision : Decision) : Type 0 where
+  pub asked : IsSome (key_asked request)
+  pub stands : new ≡ old
+  pub made : decision.made ≡ []
+  pub tries : decision.point.tries ≡ 0
+  pub fresh : IsFresh new.seen decision.point.front decision.point.moment
+
 -- nothing was made, after so many entries
 abbrev pub MadeNothing : Decision → ℕ → Type 0
 MadeNothing decision front = (decision.made ≡ []) × (decision.point.front ≡ front)
 
--- what decided, the entries made, and the front: the length of the log seen, but for rows that kept changing, and
--- for a gateway that failed
+-- what decided, the entries made, and the front: the length of the log seen, but for a list that was kept, for rows
+-- that kept changing, and for a gateway that failed
 abbrev pub CauseAs : Seat → Seat → Request → Decision → PointKind → Type 0
 CauseAs old new request decision At = MadeNothing decision (length new.seen)
 CauseAs old new request decision Change = IsChanged old new request decision × (decision.point.front ≡ length new.seen)
+CauseAs old new request decision kind.List = IsShownAgain old new request decision
 CauseAs old new request decision (Busy conflicts) = IsBusy old new request decision.point conflicts × MadeNothing decision 0
 CauseAs old new request decision Full = IsFull new request × MadeNothing decision (length new.seen)
 CauseAs old new request decision (Denied charge reason) =
@@ -83,19 +95,22 @@ CauseAs old new request decision (Denied charge reason) =
 CauseAs old new request decision GatewayFailed = IsFailed old new request × MadeNothing decision 0
 CauseAs old new request decision Plain = ⊥
 
--- the page of the answer: what the tables after the log seen show, the page of the last entry, or that of a refusal
-abbrev pub page_as : Seat → Request → ℕ → PointKind → Option Page
-page_as new request draw At = show (tables new.opening new.seen) request draw
-page_as new request draw Change = page_at new.opening new.seen (length new.seen)
-page_as new request draw (Busy conflicts) = Some (page_of refusal.RowsKeptChanging)
-page_as new request draw Full = Some (page_of refusal.FullLog)
-page_as new request draw (Denied charge reason) = Some (page_of (denial reason))
-page_as new request draw GatewayFailed = Some (page_of refusal.GatewayFailed)
-page_as new request draw Plain = None
+-- the page of the answer: what the tables after the log seen show, or, for a list that was kept, those at its front,
+-- the page of the last entry, or that of a refusal
+abbrev pub page_as : Seat → Request → Point → PointKind → Option Page
+page_as new request point At = show (tables new.opening new.seen) request point.draw
+page_as new request point kind.List = show (tables new.opening (take point.front new.seen)) request point.draw
+page_as new request point Change = page_at new.opening new.seen (length new.seen)
+page_as new request point (Busy conflicts) = Some (page_of refusal.RowsKeptChanging)
+page_as new request point Full = Some (page_of refusal.FullLog)
+page_as new request point (Denied charge reason) = Some (page_of (denial reason))
+page_as new request point GatewayFailed = Some (page_of refusal.GatewayFailed)
+page_as new request point Plain = None
 
--- how many attempts the last try settled: one, but none where the gateway failed
+-- how many attempts the last try settled: one, but none where the gateway failed, or a list was kept
 abbrev pub tries_alone : PointKind → ℕ
 tries_alone GatewayFailed = 0
+tries_alone kind.List = 0
 tries_alone _ = 1
 
 -- a request was decided between two views of a seat, by one of eight tries, and the first where the caller is the
@@ -107,4 +122,4 @@ pub record IsDecided (old new : Seat) (request : Request) (decision : Decision) 
   pub alone : IsSome old.latest → decision.point.tries ≡ tries_alone decision.point.kind
   pub asks : AreFor request (call_of new decision.point) decision.answers
   pub cause : CauseAs old new request decision decision.point.kind
-  pub shows : page_as new request decision.point.draw decision.point.kind ≡ Some page
+  pub shows : page_as new request decision.point decision.point.kind ≡ Some page

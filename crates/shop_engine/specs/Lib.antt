@@ -1,6 +1,8 @@
 pub mod Workers
 pub mod WorkerView
 pub mod Seats
+pub mod Lists
+pub mod Keeping
 pub mod Payments
 pub mod Failures
 pub mod Decided

@@ -1,5 +1,5 @@
 -- Answering one message after another.
-use Rattle.std.specs.Prelude.{◌≡◌, ◌==◌, ◌||◌, ℕ, ◌+◌, ◌-◌, ◌≤◌, ◌⊎◌, Bool, min, max, List, [], ◌∷◌, length, Result, Ok, Err, codes}
+use Rattle.std.specs.Prelude.{◌≡◌, ◌==◌, ◌||◌, ℕ, ◌+◌, ◌-◌, ◌≤◌, ◌⊎◌, Bool, min, max, List, [], ◌∷◌, length, Option, Some, None, Result, Ok, Err, codes}
 use Rattle.std.specs.Str.{bytes_eq}
 use Rattle.shop_edges.specs.Causes.{count_up}
 use Rattle.shop_edges.specs.Clocks.{Tells}
@@ -12,6 +12,13 @@ use Rattle.shop_model.specs.rows.Limits.{stamp_limit}
 use Rattle.shop_model.specs.asked.Refusals.{page_of}
 use Rattle.shop_model.specs.population.Words.{word}
 use Rattle.shop_history.specs.declared.acts.Entry.{Entry}
+use Rattle.shop_history.specs.Logs.{tables}
+use Rattle.shop_cache.specs.declared.cache.Kept.{Kept}
+use Rattle.shop_cache.specs.declared.cache.ListLine.{ListLine}
+use Rattle.shop_cache.specs.declared.keys.ListKey.{ListKey}
+use Rattle.shop_cache.specs.Caches.{found, looked, with_kept}
+use Rattle.shop_cache.specs.Keys.{key_asked}
+use Rattle.shop_browse.specs.Lists.{AreLines, items_on, page_by}
 use Rattle.shop_http.specs.declared.requests.Refusal.{Refusal}
 use Rattle.shop_http.specs.Requests.{asked, told_by}
 use Rattle.shop_pages.specs.declared.reply.Form.{Form}
@@ -19,8 +26,11 @@ use Rattle.shop_pages.specs.Replies.{reply}
 use Rattle.shop_engine.specs.declared.report.Answered.{Answered}
 use Rattle.shop_engine.specs.declared.report.Answered.TheVariants as answered
 use Rattle.shop_engine.specs.declared.report.Point.{Point}
+use Rattle.shop_engine.specs.declared.report.PointKind.{PointKind}
+use Rattle.shop_engine.specs.declared.report.PointKind.TheVariants as kind
 use Rattle.shop_engine.specs.declared.report.PointKind.TheVariants.{Plain}
 use Rattle.shop_engine.specs.Decided.{Decision, IsDecided}
+use Rattle.shop_engine.specs.Lists.{looked_for}
 use Rattle.shop_engine.specs.Seats.{Stays}
 use Rattle.shop_engine.specs.Workers.{Caller, Standing}
 
@@ -56,6 +66,29 @@ pub record Accepts (from to : Standing) : Type 0 where
   pub last : to.progress.last ≡ max from.progress.last (min reading stamp_limit)
   pub caller : to.caller ≡ from.caller
 
+-- a list that is kept, and is young enough, is shown
+pub record ShowsKept (key : ListKey) (from to : Standing) (request : Request) (point : Point) (page : Page) : Type 0 where
+  pub kept : Kept
+  pub is_found : found key point.moment from.kept ≡ Some kept
+  pub front : point.front ≡ kept.front
+  pub shows : page_by request kept.lines ≡ Some page
+  pub is_looked : to.kept ≡ looked key from.kept
+
+-- a list that is not is read, and kept then
+pub record KeepsNew (key : ListKey) (from to : Standing) (point : Point) : Type 0 where
+  pub none : found key point.moment from.kept ≡ None
+  pub lines : List ListLine
+  pub are : AreLines (tables to.seat.opening to.seat.seen) (items_on (tables to.seat.opening to.seat.seen) key) lines
+  pub kept : to.kept ≡ with_kept key (record { front = point.front; taken = point.moment; lines = lines }) (looked key from.kept)
+
+-- what becomes of the lists that are kept, by the list that is asked for, if one is: one that is young enough is the
+-- answer, with its lines; one that is read anew is kept, with its front and moment
+abbrev pub KeepsAs : Option ListKey → Standing → Standing → Request → Point → Page → PointKind → Type 0
+KeepsAs None from to request point page _ = to.kept ≡ from.kept
+KeepsAs (Some key) from to request point page kind.List = ShowsKept key from to request point page
+KeepsAs (Some key) from to request point page kind.At = KeepsNew key from to point
+KeepsAs (Some key) from to request point page _ = (found key point.moment from.kept ≡ None) × (to.kept ≡ looked key from.kept)
+
 -- a request was answered: its point has the next call, its moment and its word, and tells what decided; the gateway
 -- tells what it answered; the reply is around the page
 pub record IsAnswered (form : Form) (from : Standing) (step : Step) (to : Standing) (request : Request) : Type 0 where
@@ -66,6 +99,7 @@ pub record IsAnswered (form : Form) (from : Standing) (step : Step) (to : Standi
   pub told : AnsweredBy from.told to.told step.answers
   pub page : Page
   pub decided : IsDecided from.seat to.seat request (decision_of step) page
+  pub lists : KeepsAs (key_asked request) from to request step.point page step.point.kind
   pub reply : step.reply ≡ reply page form
 
 abbrev pub plain_point : Point
@@ -100,7 +134,7 @@ AreSteps answers from (step ∷ steps) to =
     (next : Standing) × IsStep ((answers + 1) == ANSWERS) from step next × AreSteps (answers + 1) next steps to
 
 -- memory ran out before an answer: a request was accepted, or none was; its settles, eight at most, made no entry,
--- and the gateway gave eight answers at most
+-- the gateway gave eight answers at most, and of the lists that are kept one was looked for at most
 pub record GivesUp (from to : Standing) : Type 0 where
   pub accepts : Accepts from to ⊎ (to ≡ from)
   pub settles : ℕ
@@ -109,6 +143,8 @@ pub record GivesUp (from to : Standing) : Type 0 where
   pub answers : List Answer
   pub few_answers : length answers ≤ 8
   pub told : AnsweredBy from.told to.told answers
+  pub key : Option ListKey
+  pub kept : to.kept ≡ looked_for key from.kept
 
 -- a request was answered by this point and this reply, whatever message asked for it
 abbrev pub AnswersRequest : Form → Standing → Standing → Request → Point → List ℕ → Type 0

@@ -11,21 +11,26 @@ use Rattle.shop_edges.specs.Gateways.{Answered}
 use Rattle.shop_edges.specs.Payments.{Keeps, IsFor}
 use Rattle.shop_history.specs.declared.acts.Act.{Act}
 use Rattle.shop_history.specs.declared.acts.Entry.{Entry}
-use Rattle.shop_history.specs.Logs.{version_of}
+use Rattle.shop_history.specs.Logs.{tables, version_of}
+use Rattle.shop_cache.specs.declared.cache.ListLine.{ListLine}
+use Rattle.shop_cache.specs.Keys.{key_asked}
 use Rattle.shop_draft.specs.declared.draft.Draft.{Draft}
 use Rattle.shop_attempt.specs.declared.attempts.Attempt.{Attempt}
 use Rattle.shop_attempt.specs.declared.attempts.Conflict.{Conflict}
+use Rattle.shop_attempt.specs.Marks.{AreMarks}
 use Rattle.shop_attempt.specs.Reads.{Agrees}
 use Rattle.shop_attempt.specs.Seats.{Seat}
 use Rattle.shop_browse.specs.Attempts.{Asking, IsReady, asking_of}
+use Rattle.shop_browse.specs.Lists.{AreListed}
 use Rattle.shop_order.specs.Payments.{Call}
 use Rattle.shop_pages.specs.Replies.{reply}
 use Rattle.shop_engine.specs.declared.report.Point.{Point}
+use Rattle.shop_engine.specs.declared.report.PointKind.{PointKind}
 use Rattle.shop_engine.specs.declared.report.PointKind.TheVariants as kind
 use Rattle.shop_engine.specs.declared.tries.Job.{Job}
 use Rattle.shop_engine.specs.declared.tries.Outcome.{Outcome}
 use Rattle.shop_engine.specs.declared.tries.Tried.{Tried}
-use Rattle.shop_engine.specs.declared.tries.Tried.TheVariants.{Settled, Denied, Again, Failed, Memory}
+use Rattle.shop_engine.specs.declared.tries.Tried.TheVariants.{Settled, Listed, Denied, Again, Failed, Memory}
 use Rattle.shop_engine.specs.Decided.{IsMet, IsDecided, tries_alone}
 use Rattle.shop_engine.specs.Payments.{IsPaid}
 use Rattle.shop_engine.specs.Seats.{Stays}
@@ -75,11 +80,20 @@ pub record Asks (old new : Trying) (job : Job) (answers : List Answer) : Type 0 
 
 -- what came of a job
 
+-- the lines that were read: of the list that was asked for, where the tables decided, and none else
+abbrev pub HasLines : Seat → Request → PointKind → Option (List ListLine) → Type 0
+HasLines new request kind.At (Some lines) = AreListed (tables new.opening new.seen) request lines
+HasLines new request kind.At None = key_asked request ≡ None
+HasLines new request kind.List lines = ⊥
+HasLines new request _ (Some lines) = ⊥
+HasLines new request _ None = Unit {0}
+
 -- it was decided, and these bytes are the reply
 pub record IsAnswer (old new : Seat) (job : Job) (answers : List Answer) (bytes : List ℕ) (outcome : Outcome) : Type 0 where
   pub made : List Entry
   pub page : Page
   pub decided : IsDecided old new job.request.now (record { point = point_of job outcome; made = made; answers = answers }) page
+  pub lines : HasLines new job.request.now outcome.kind outcome.lines
   pub bytes_are : bytes ≡ reply page job.form
 
 -- it was decided, and the gateway tells what it answered
@@ -113,13 +127,15 @@ pub record IsAgain (old new : Seat) (job : Job) (conflict : Conflict) : Type 0 w
 -- after all that the gateway was asked so far, of which a denial is the last
 abbrev pub TriedAs : Seat → Seat → Job → List Answer → List ℕ → Tried → Type 0
 TriedAs old new job answers bytes (Settled kind front) =
-    (tries_alone kind ≡ 1) × IsAnswer old new job answers bytes (record { kind = kind; front = front; tries = 1 })
+    (tries_alone kind ≡ 1) × IsAnswer old new job answers bytes (record { kind = kind; front = front; tries = 1; lines = None })
+TriedAs old new job answers bytes (Listed lines front) =
+    IsAnswer old new job answers bytes (record { kind = kind.At; front = front; tries = 1; lines = Some lines })
 TriedAs old new job answers bytes (Denied reason front) = (charge : ChargeValue)
     × Keeps None answers (Some (record { charge = charge; verdict = verdict.Denied reason }))
-    × IsAnswer old new job answers bytes (record { kind = kind.Denied charge reason; front = front; tries = 1 })
+    × IsAnswer old new job answers bytes (record { kind = kind.Denied charge reason; front = front; tries = 1; lines = None })
 TriedAs old new job answers bytes (Again conflict) = IsAgain old new job conflict
 TriedAs old new job answers bytes Failed =
-    IsAnswer old new job answers bytes (record { kind = kind.GatewayFailed; front = 0; tries = 0 })
+    IsAnswer old new job answers bytes (record { kind = kind.GatewayFailed; front = 0; tries = 0; lines = None })
 TriedAs old new job answers bytes Memory = StaysWithin old new [] 1 job.ask.moment
 
 -- the gateway was asked once at most, and whatever it was asked before, this came of it all
@@ -142,4 +158,21 @@ pub record MaySettle (start now : Seat) (job : Job) (answers : List Answer) (dra
   pub kept : Option Answer
   pub asked : HasAsked job answers kept
   pub ready : IsReady start now (asking_for job) draft attempt
+  pub unlisted : attempt.act ≡ None → key_asked job.request.now ≡ None
   pub paid : (t : Tables) → Agrees now.opening t attempt.reads → IsPaidFor attempt.act t (called_by job) answers
+
+-- what a list leaves that was read
+
+-- its front and moment are marked, and what is marked are marks of the log seen
+pub record LeavesMark (marked : ℕ → ℕ → Type 0) (seen : List Entry) (front moment : ℕ) : Type 0 where
+  pub mark : marked front moment
+  pub marks : AreMarks marked seen
+
+-- by one try
+abbrev pub LeavesListMark : (ℕ → ℕ → Type 0) → List Entry → ℕ → Tried → Type 0
+LeavesListMark marked seen moment (Listed lines front) = LeavesMark marked seen front moment
+LeavesListMark marked seen moment _ = Unit {0}
+
+-- by all
+abbrev pub LeavesMarkOf : (ℕ → ℕ → Type 0) → List Entry → ℕ → Outcome → Type 0
+LeavesMarkOf marked seen moment outcome = IsSome outcome.lines → LeavesMark marked seen outcome.front moment

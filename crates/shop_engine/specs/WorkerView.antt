@@ -7,5 +7,6 @@ state_of i = record {
   store = i.store;
   caller = record { number = i.caller; seed = i.seed; scale = i.scale };
   progress = record { accepted = i.accepted; last = i.last };
+  kept = i.cache;
   reply = bytes_of i.reply;
 }

@@ -1,6 +1,7 @@
 -- What contracts see of a worker.
 use Rattle.std.specs.Prelude.{◌≡◌, ℕ, List, length, Option}
 use Rattle.shop_edges.specs.declared.gateway.Answer.{Answer}
+use Rattle.shop_cache.specs.Caches.{Entries}
 use Rattle.shop_model.specs.lists.Catalogues.{Catalogue, catalogue}
 use Rattle.shop_model.specs.population.Scales.{ScaleRow}
 use Rattle.shop_attempt.specs.Seats.{Seat, IsSeat}
@@ -16,11 +17,12 @@ pub record Progress : Type 0 where
   pub accepted : ℕ
   pub last : ℕ
 
--- its store, its caller and progress, and the reply that it made last
+-- its store, its caller and progress, the lists that it keeps, and the reply that it made last
 pub record WorkerState (St : Type 0) : Type 0 where
   pub store : St
   pub caller : Caller
   pub progress : Progress
+  pub kept : Entries
   pub reply : List ℕ
 
 abbrev pub at_first : Progress
@@ -33,11 +35,12 @@ pub record IsPosted (seat : Seat) (index : Catalogue) (caller : Caller) : Type 0
   pub named : index ≡ catalogue seat.opening
   pub scaled : caller.scale.items ≡ length seat.opening.items
 
--- where a worker stands between two messages: its caller and progress, its seat, and, where they are known, what the
--- clock will read, and what the gateway answered so far
+-- where a worker stands between two messages: its caller and progress, the lists that it keeps, its seat, and, where
+-- they are known, what the clock will read, and what the gateway answered so far
 pub record Standing : Type 0 where
   pub caller : Caller
   pub progress : Progress
+  pub kept : Entries
   pub seat : Seat
   pub clock : Option (List ℕ)
   pub told : Option (List Answer)
@@ -45,4 +48,4 @@ pub record Standing : Type 0 where
 -- by the meaning of its store
 abbrev pub standing : {St : Type 0} → (St → Seat) → WorkerState St → Option (List ℕ) → Option (List Answer) → Standing
 standing seat_of worker clock told =
-    record { caller = worker.caller; progress = worker.progress; seat = seat_of worker.store; clock = clock; told = told }
+    record { caller = worker.caller; progress = worker.progress; kept = worker.kept; seat = seat_of worker.store; clock = clock; told = told }

@@ -14,6 +14,8 @@ pub enum PointKind {
     At,
     /// A change that it made, whose number is the front.
     Change,
+    /// A list that was read at most thirty seconds before, behind as many changes as the front says.
+    List,
     /// Rows kept changing: what each of the tries met.
     Busy(Listed<Conflict>),
     /// The log, which has as many changes as it may have: the front.

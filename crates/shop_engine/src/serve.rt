@@ -1,10 +1,11 @@
-ghost use Rattle.std.specs.Prelude.{◌≡◌, ℕ, ◌+◌, ◌≤◌, ◌<◌, [], ◌∷◌, ◌++◌, Some};
+ghost use Rattle.std.specs.Prelude.{◌≡◌, ℕ, ◌+◌, ◌≤◌, ◌<◌, [], ◌∷◌, ◌++◌, All, Some};
 ghost use Rattle.std.specs.Vec.{vec_len, vec_capacity};
 ghost use Rattle.shop_edges.specs.Causes.{Rose};
 ghost use Rattle.shop_history.specs.Lawful.{IsLawful};
 ghost use Rattle.shop_attempt.specs.Marks.{KeepsMarks};
 ghost use Rattle.shop_engine.specs.Connections.{MessageAs, RefusalAs};
 ghost use Rattle.shop_engine.specs.Failures.{RoseBy, failures, failures_of};
+ghost use Rattle.shop_engine.specs.Lists.{AnswersFresh, IsFreshPoint};
 ghost use Rattle.shop_engine.specs.Served.{Served};
 ghost use Rattle.shop_engine.specs.Steps.{AnsweredAs};
 ghost use Rattle.shop_engine.specs.Workers.{standing};
@@ -42,6 +43,7 @@ pub fn serve_message<St: Store, C: Clock, G: Gateway>(
     ensures caller { worker.new.caller ≡ worker.old.caller }
     ensures lawful { IsLawful (St.seat worker.new.store).opening (St.seat worker.new.store).seen }
     ensures marks { KeepsMarks (St.marked worker.old.store) (St.marked worker.new.store) (St.seat worker.old.store) (St.seat worker.new.store) }
+    ensures fresh { AnswersFresh (St.marked worker.new.store) (St.seat worker.new.store).seen result }
     ensures failures { RoseBy (G.faults gateway.old) (failures_of result) (G.faults gateway.new) }
     ensures later { G.faults gateway.old ≤ G.faults gateway.new }
 {
@@ -63,6 +65,7 @@ fn reply_to<St: Store, C: Clock, G: Gateway>(
     ensures answered { AnsweredAs last (standing St.seat worker.old (C.readings clock.old) (G.answers gateway.old)) (standing St.seat worker.new (C.readings clock.new) (G.answers gateway.new)) message.now result }
     ensures caller { worker.new.caller ≡ worker.old.caller }
     ensures marks { KeepsMarks (St.marked worker.old.store) (St.marked worker.new.store) (St.seat worker.old.store) (St.seat worker.new.store) }
+    ensures fresh { AnswersFresh (St.marked worker.new.store) (St.seat worker.new.store).seen result }
     ensures failures { RoseBy (G.faults gateway.old) (failures_of result) (G.faults gateway.new) }
     ensures later { G.faults gateway.old ≤ G.faults gateway.new }
 {
@@ -96,6 +99,7 @@ pub fn serve_connection<St: Store, S: Source, K: Sink, C: Clock, G: Gateway>(
     ensures write_fault { result.end ≡ Ended.WriteFault → Rose (K.faults sink.old) (K.faults sink.new) }
     ensures reads { S.faults source.old ≤ S.faults source.new }
     ensures writes { K.faults sink.old ≤ K.faults sink.new }
+    ensures fresh { All (IsFreshPoint (St.marked worker.new.store) (St.seat worker.new.store).seen) result.points }
     ensures failures { RoseBy (G.faults gateway.old) (failures result.points) (G.faults gateway.new) }
     ensures asks { G.faults gateway.old ≤ G.faults gateway.new }
 {
@@ -129,6 +133,7 @@ fn serve_all<St: Store, S: Source, K: Sink, C: Clock, G: Gateway>(
     ensures write_fault { result ≡ Ended.WriteFault → Rose (K.faults sink.old) (K.faults sink.new) }
     ensures reads { S.faults source.old ≤ S.faults source.new }
     ensures writes { K.faults sink.old ≤ K.faults sink.new }
+    ensures fresh { All (IsFreshPoint (St.marked worker.new.store) (St.seat worker.new.store).seen) points.new.items }
     ensures failures { RoseBy (G.faults gateway.old) (failures points.new.items) (G.faults gateway.new) }
     ensures asks { G.faults gateway.old ≤ G.faults gateway.new }
 {
@@ -170,6 +175,8 @@ fn serve_one<St: Store, K: Sink, C: Clock, G: Gateway>(
     ensures marks { KeepsMarks (St.marked worker.old.store) (St.marked worker.new.store) (St.seat worker.old.store) (St.seat worker.new.store) }
     ensures write_fault { result ≡ Some Ended.WriteFault → Rose (K.faults sink.old) (K.faults sink.new) }
     ensures writes { K.faults sink.old ≤ K.faults sink.new }
+    ensures fresh { All (IsFreshPoint (St.marked worker.old.store) (St.seat worker.old.store).seen) points.old.items
+        → All (IsFreshPoint (St.marked worker.new.store) (St.seat worker.new.store).seen) points.new.items }
     ensures failures { (before : ℕ) → RoseBy before (failures points.old.items) (G.faults gateway.old) → RoseBy before (failures points.new.items) (G.faults gateway.new) }
     ensures asks { G.faults gateway.old ≤ G.faults gateway.new }
 {
@@ -210,7 +217,9 @@ fn refuse<St: Store, K: Sink>(
     ensures told { RefusalAs refusal (record { points = points.old.items; held = K.held sink.old }) (record { points = points.new.items; held = K.held sink.new }) result }
     ensures write_fault { result ≡ Ended.WriteFault → Rose (K.faults sink.old) (K.faults sink.new) }
     ensures writes { K.faults sink.old ≤ K.faults sink.new }
-    ensures worker { worker.new ≡ record { store = worker.old.store; caller = worker.old.caller; progress = worker.old.progress; reply = worker.new.reply } }
+    ensures fresh { All (IsFreshPoint (St.marked worker.old.store) (St.seat worker.old.store).seen) points.old.items
+        → All (IsFreshPoint (St.marked worker.new.store) (St.seat worker.new.store).seen) points.new.items }
+    ensures worker { worker.new ≡ record { store = worker.old.store; caller = worker.old.caller; progress = worker.old.progress; kept = worker.old.kept; reply = worker.new.reply } }
 {
     let Ok(()) = worker.refuse(refusal, CLOSING) else {
         return Ended::Memory;

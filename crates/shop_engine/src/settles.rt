@@ -9,15 +9,18 @@ ghost use Rattle.shop_attempt.specs.Seats.{Seat, Looked};
 ghost use Rattle.shop_edges.specs.declared.gateway.Answer.{Answer};
 ghost use Rattle.shop_pages.specs.Replies.{bytes_of};
 ghost use Rattle.shop_order.specs.Payments.{IsDenied};
-ghost use Rattle.shop_engine.specs.Tries.{TriedAs, MaySettle, HasAsked, asking_for, called_by};
+ghost use Rattle.shop_browse.specs.Attempts.{IsList};
+ghost use Rattle.shop_engine.specs.Tries.{TriedAs, MaySettle, HasAsked, LeavesListMark, asking_for, called_by};
 
 use crate::replies::refusal_reply;
 use crate::report::PointKind;
 use crate::tries::{Job, Tried};
 use shop_attempt::{Attempt, Settle, Store};
+use shop_cache::ListLine;
 use shop_edges::Reason;
 use shop_model::Refusal;
 use shop_pages::Reply;
+use shop_text::Listed;
 
 /// Settles an attempt whose page is written, in the room that is made before, and finishes its reply.
 pub(crate) fn settle_page<St: Store>(
@@ -33,6 +36,7 @@ pub(crate) fn settle_page<St: Store>(
         → TriedAs start (St.seat store.new) job.now answers (bytes_of reply.new) result }
     ensures never { ¬ (result ≡ Tried.Failed) }
     ensures marks { KeepsMarks (St.marked store.old) (St.marked store.new) (St.seat store.old) (St.seat store.new) }
+    ensures mark { LeavesListMark (St.marked store.new) (St.seat store.new).seen job.now.ask.moment result }
 {
     let Ok(()) = reply.reserve() else {
         return Tried::Memory;
@@ -56,6 +60,38 @@ pub(crate) fn settle_page<St: Store>(
     }
 }
 
+/// Settles an attempt at a list, whose page is written, and finishes its reply; the lines are handed on.
+pub(crate) fn settle_list<St: Store>(
+    store: &mut St,
+    job: &Job,
+    attempt: Attempt,
+    lines: Listed<ListLine>,
+    reply: &mut Reply,
+) -> Tried
+    requires faithful { Faithful (St.seat store.old).opening (St.seat store.old).seen attempt }
+    requires moment { attempt.moment ≤ stamp_limit }
+    requires reading { attempt.act ≡ None }
+    requires caller { (St.seat store.old).caller ≡ job.now.caller }
+    ensures tried { (start : Seat) (kept : Option Answer) (answers : List Answer) → Looked start (St.seat store.old)
+        → HasAsked job.now answers kept → IsList start (St.seat store.old) (asking_for job.now) reply.old.draft attempt lines
+        → TriedAs start (St.seat store.new) job.now answers (bytes_of reply.new) result }
+    ensures never { ¬ (result ≡ Tried.Failed) }
+    ensures marks { KeepsMarks (St.marked store.old) (St.marked store.new) (St.seat store.old) (St.seat store.new) }
+    ensures mark { LeavesListMark (St.marked store.new) (St.seat store.new).seen attempt.moment result }
+{
+    let Ok(()) = reply.reserve() else {
+        return Tried::Memory;
+    };
+    match store.settle(attempt) {
+        Settle::Done(drawn) => {
+            reply.finish(&drawn, job.form);
+            Tried::Listed(lines, drawn.front)
+        }
+        Settle::Stale(conflict) => Tried::Again(conflict),
+        Settle::Full(_) | Settle::Memory => unreachable!(),
+    }
+}
+
 /// Settles an attempt at a purchase that was denied, which changes nothing, and finishes the reply that
 /// tells it.
 pub(crate) fn settle_denied<St: Store>(
@@ -75,6 +111,7 @@ pub(crate) fn settle_denied<St: Store>(
         → TriedAs start (St.seat store.new) job.now answers (bytes_of reply.new) result }
     ensures never { ¬ (result ≡ Tried.Failed) }
     ensures marks { KeepsMarks (St.marked store.old) (St.marked store.new) (St.seat store.old) (St.seat store.new) }
+    ensures mark { LeavesListMark (St.marked store.new) (St.seat store.new).seen job.now.ask.moment result }
 {
     let Ok(()) = reply.reserve() else {
         return Tried::Memory;

@@ -7,13 +7,14 @@ ghost use Rattle.shop_attempt.specs.Seats.{IsSeat};
 ghost use Rattle.shop_browse.specs.Attempts.{Suits};
 ghost use Rattle.shop_pages.specs.Replies.{bytes_of};
 ghost use Rattle.shop_engine.specs.Failures.{RoseBy, failures_as};
-ghost use Rattle.shop_engine.specs.Tries.{IsTried, IsOutcome, IsGivenUp};
+ghost use Rattle.shop_engine.specs.Tries.{IsTried, IsOutcome, IsGivenUp, LeavesListMark, LeavesMarkOf};
 
 use crate::replies::refusal_reply;
 use crate::report::PointKind;
-use crate::settles::{settle_denied, settle_page};
+use crate::settles::{settle_denied, settle_list, settle_page};
 use shop_attempt::{Conflict, Settle, Store};
 use shop_browse::{Ask, Attempted};
+use shop_cache::ListLine;
 use shop_edges::{Answer, Gateway, Reason};
 use shop_model::{Refusal, Request};
 use shop_order::attempt;
@@ -40,6 +41,8 @@ pub(crate) struct Job<'a, 'r> {
 pub(crate) enum Tried {
     /// This decided, at this front, and the reply is made.
     Settled(PointKind, u64),
+    /// A list was read, with these lines, at this front, and the reply is made.
+    Listed(Listed<ListLine>, u64),
     /// The charge of the answer that is kept was denied, at this front, and the reply is made.
     Denied(Reason, u64),
     Again(Conflict),
@@ -48,12 +51,14 @@ pub(crate) enum Tried {
     Memory,
 }
 
-/// What decided a request, at which front, and how many attempts were settled. The reply is made.
+/// What decided a request, at which front, how many attempts were settled, and the lines of a list that
+/// was read. The reply is made.
 #[derive(Debug, Drop)]
 pub(crate) struct Outcome {
     pub(crate) kind: PointKind,
     pub(crate) front: u64,
     pub(crate) tries: u32,
+    pub(crate) lines: Option<Listed<ListLine>>,
 }
 
 /// Reads what the request is about, writes its page, makes room for its reply, settles it, and finishes
@@ -74,11 +79,13 @@ fn try_once<St: Store, G: Gateway>(
         (record { seat = St.seat store.new; kept = kept.new; told = G.answers gateway.new })
         job.now (bytes_of reply.new) result }
     ensures marks { KeepsMarks (St.marked store.old) (St.marked store.new) (St.seat store.old) (St.seat store.new) }
+    ensures mark { LeavesListMark (St.marked store.new) (St.seat store.new).seen job.now.ask.moment result }
     ensures failed { result ≡ Tried.Failed → Rose (G.faults gateway.old) (G.faults gateway.new) }
     ensures later { G.faults gateway.old ≤ G.faults gateway.new }
 {
     match attempt(alloc, store, &job.ask, job.request, reply.draft()) {
         Attempted::Ready(attempt) => settle_page(store, job, attempt, reply),
+        Attempted::Listed(attempt, lines) => settle_list(store, job, attempt, lines, reply),
         Attempted::Pay(attempt) => {
             let Request::BuyConfirm(asked) = job.request else {
                 unreachable!()
@@ -114,7 +121,7 @@ fn denied(
 ) -> Option<Outcome>
     requires { IsSome kept }
     ensures { IfSome result (λ outcome. (answer : AnswerValue) → kept ≡ Some answer →
-        outcome ≡ record { kind = PointKind.Denied answer.charge reason; front = front; tries = tries }) }
+        outcome ≡ record { kind = PointKind.Denied answer.charge reason; front = front; tries = tries; lines = None }) }
 {
     let Some(answer) = kept else { unreachable!() };
     let Ok(charge) = Boxed::new(alloc, answer.charge) else {
@@ -124,6 +131,7 @@ fn denied(
         kind: PointKind::Denied(charge, reason),
         front,
         tries,
+        lines: None,
     })
 }
 
@@ -145,6 +153,7 @@ pub(crate) fn try_all<St: Store, G: Gateway>(
     ensures memory { IsNone result → IsGivenUp (record { seat = St.seat store.old; kept = None; told = G.answers gateway.old })
         (record { seat = St.seat store.new; kept = None; told = G.answers gateway.new }) job.now }
     ensures marks { KeepsMarks (St.marked store.old) (St.marked store.new) (St.seat store.old) (St.seat store.new) }
+    ensures mark { IfSome result (LeavesMarkOf (St.marked store.new) (St.seat store.new).seen job.now.ask.moment) }
     ensures failures { IfSome result (λ outcome. RoseBy (G.faults gateway.old) (failures_as outcome.kind) (G.faults gateway.new)) }
     ensures later { G.faults gateway.old ≤ G.faults gateway.new }
 {
@@ -153,8 +162,20 @@ pub(crate) fn try_all<St: Store, G: Gateway>(
     for tried in 0..TRIES {
         match try_once(alloc, store, job, reply, &mut kept, gateway) {
             Tried::Settled(kind, front) => {
-                let tries = tried + 1;
-                return Some(Outcome { kind, front, tries });
+                return Some(Outcome {
+                    kind,
+                    front,
+                    tries: tried + 1,
+                    lines: None,
+                });
+            }
+            Tried::Listed(lines, front) => {
+                return Some(Outcome {
+                    kind: PointKind::At,
+                    front,
+                    tries: tried + 1,
+                    lines: Some(lines),
+                });
             }
             Tried::Denied(reason, front) => {
                 return denied(alloc, kept, reason, front, tried + 1);
@@ -169,6 +190,7 @@ pub(crate) fn try_all<St: Store, G: Gateway>(
                     kind: PointKind::GatewayFailed,
                     front: 0,
                     tries: tried,
+                    lines: None,
                 });
             }
             Tried::Memory => return None,
@@ -181,5 +203,6 @@ pub(crate) fn try_all<St: Store, G: Gateway>(
         kind: PointKind::Busy(conflicts),
         front: 0,
         tries: TRIES,
+        lines: None,
     })
 }

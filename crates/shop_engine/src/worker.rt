@@ -3,17 +3,18 @@ ghost use Rattle.std.specs.Arc.{arc_value};
 ghost use Rattle.shop_engine.specs.Steps as spec;
 ghost use Rattle.shop_engine.specs.Workers.{IsPosted, at_first};
 
-use crate::replies::refusal_reply;
-use crate::report::{Point, plain_point};
+use crate::replies::{list_reply, refusal_reply};
+use crate::report::{Point, PointKind, plain_point};
 use crate::tries::{Job, try_all};
 use shop_attempt::Store;
 use shop_browse::Ask;
+use shop_cache::{Kept, ListCache, ListKey, ListLine};
 use shop_edges::{Clock, Gateway};
 use shop_http::{Asked, Message, Routes, request};
 use shop_model::{Refusal, Request, STAMP_LIMIT, Scale, word};
 use shop_pages::{Form, Reply};
 use shop_search::Index;
-use shop_text::Memory;
+use shop_text::{Listed, Memory};
 use std::alloc::Global;
 use std::marker::Model;
 use std::sync::Arc;
@@ -32,6 +33,8 @@ pub struct Worker<St: Store> {
     pub(crate) scale: Scale,
     pub(crate) accepted: u64,
     pub(crate) last: u64,
+    /// The lists that were read lately.
+    pub(crate) cache: ListCache,
     /// The reply that was made last. Its room serves one request after another.
     pub(crate) reply: Reply,
 }
@@ -40,6 +43,7 @@ impl<St: Store> Model for Worker<St> {
     ghost use Rattle.std.specs.Arc.{arc_value};
     ghost use Rattle.std.specs.Prelude.{◌≤◌};
     ghost use Rattle.shop_model.specs.rows.Limits.{stamp_limit};
+    ghost use Rattle.shop_engine.specs.Lists.{AreKept};
     ghost use Rattle.shop_engine.specs.Workers.{WorkerState, IsPosted};
 
     ghost Value = { WorkerState St };
@@ -48,7 +52,7 @@ impl<St: Store> Model for Worker<St> {
 
     ghost view = { state_of };
 
-    ghost invariant = { λ i. IsPosted (St.seat i.store) (arc_value i.index) (record { number = i.caller; seed = i.seed; scale = i.scale }) × (i.last ≤ stamp_limit) };
+    ghost invariant = { λ i. IsPosted (St.seat i.store) (arc_value i.index) (record { number = i.caller; seed = i.seed; scale = i.scale }) × (i.last ≤ stamp_limit) × AreKept (St.seat i.store) (St.marked i.store) i.last i.cache };
 }
 
 /// The form of the reply to a message, behind which there is no other or there may be.
@@ -69,14 +73,33 @@ struct Accepted {
     draw: u32,
 }
 
+impl Accepted {
+    /// The point of its answer.
+    fn point(&self, kind: PointKind, front: u64, tries: u32) -> Point
+        ensures { result ≡ record { kind = kind; front = front; moment = self.now.moment; call = self.now.call; draw = self.now.draw; tries = tries } }
+    {
+        Point {
+            kind,
+            front,
+            moment: self.moment,
+            call: self.call,
+            draw: self.draw,
+            tries,
+        }
+    }
+}
+
 impl<St: Store> Worker<St> {
-    ghost use Rattle.std.specs.Prelude.{◌≡◌, ◌≤◌, min, max, [], IfOk, IfSome, IsNone, OnOk};
+    ghost use Rattle.std.specs.Prelude.{◌≡◌, ◌≤◌, min, max, [], IfOk, IfSome, IsSome, IsNone, OnOk, OnErr, option_copied};
     ghost use Rattle.shop_model.specs.rows.Limits.{stamp_limit};
     ghost use Rattle.shop_model.specs.asked.Refusals.{page_of};
     ghost use Rattle.shop_edges.specs.Causes.{count_up};
     ghost use Rattle.shop_history.specs.Lawful.{IsLawful};
     ghost use Rattle.shop_attempt.specs.Marks.{KeepsMarks};
+    ghost use Rattle.shop_cache.specs.Keys.{key_asked};
     ghost use Rattle.shop_pages.specs.Replies as replies;
+    ghost use Rattle.shop_engine.specs.Keeping.{IsAnsweredBy, KeepsLines, kept_now};
+    ghost use Rattle.shop_engine.specs.Lists.{IsFreshPoint, looked_for};
     ghost use Rattle.shop_engine.specs.Failures.{RoseBy, failures_as};
     ghost use Rattle.shop_engine.specs.Steps.{Answers, AnswersRequest, GivesUp, draw_of};
     ghost use Rattle.shop_engine.specs.Workers.{IsPosted, at_first, standing};
@@ -97,11 +120,13 @@ impl<St: Store> Worker<St> {
           store = store;
           caller = record { number = caller; seed = seed; scale = scale };
           progress = at_first;
+          kept = [];
           reply = [];
         }) }
     {
         Ok(Worker {
             routes: Routes::new(alloc)?,
+            cache: ListCache::new(alloc)?,
             reply: Reply::new(alloc)?,
             store,
             index,
@@ -126,6 +151,7 @@ impl<St: Store> Worker<St> {
             scale: _,
             accepted: _,
             last: _,
+            cache: _,
             reply: _,
         } = self;
         store
@@ -161,6 +187,7 @@ impl<St: Store> Worker<St> {
         ensures memory { IsNone result → GivesUp (standing St.seat self.old (C.readings clock.old) (G.answers gateway.old)) (standing St.seat self.new (C.readings clock.new) (G.answers gateway.new)) }
         ensures caller { self.new.caller ≡ self.old.caller }
         ensures marks { KeepsMarks (St.marked self.old.store) (St.marked self.new.store) (St.seat self.old.store) (St.seat self.new.store) }
+        ensures fresh { IfSome result (IsFreshPoint (St.marked self.new.store) (St.seat self.new.store).seen) }
         ensures failures { IfSome result (λ point. RoseBy (G.faults gateway.old) (failures_as point.kind) (G.faults gateway.new)) }
         ensures later { G.faults gateway.old ≤ G.faults gateway.new }
     {
@@ -189,10 +216,19 @@ impl<St: Store> Worker<St> {
         ensures memory { IsNone result → GivesUp (standing St.seat self.old (C.readings clock.old) (G.answers gateway.old)) (standing St.seat self.new (C.readings clock.new) (G.answers gateway.new)) }
         ensures caller { self.new.caller ≡ self.old.caller }
         ensures marks { KeepsMarks (St.marked self.old.store) (St.marked self.new.store) (St.seat self.old.store) (St.seat self.new.store) }
+        ensures fresh { IfSome result (IsFreshPoint (St.marked self.new.store) (St.seat self.new.store).seen) }
         ensures failures { IfSome result (λ point. RoseBy (G.faults gateway.old) (failures_as point.kind) (G.faults gateway.new)) }
         ensures later { G.faults gateway.old ≤ G.faults gateway.new }
     {
         let accepted = self.accept(clock.now());
+        let Ok(key) = ListKey::asked(alloc, request) else {
+            return None;
+        };
+        match self.answer_kept(key.as_ref(), request, form) {
+            Ok(Some(front)) => return Some(accepted.point(PointKind::List, front, 0)),
+            Ok(None) => {}
+            Err(Memory) => return None,
+        }
         let ask = Ask {
             scale: &self.scale,
             index: &self.index,
@@ -209,14 +245,59 @@ impl<St: Store> Worker<St> {
         };
         let (store, reply) = (&mut self.store, &mut self.reply);
         let outcome = try_all(alloc, store, &job, reply, gateway)?;
-        Some(Point {
-            kind: outcome.kind,
-            front: outcome.front,
-            moment: accepted.moment,
-            call: accepted.call,
-            draw: accepted.draw,
-            tries: outcome.tries,
-        })
+        let (front, tries) = (outcome.front, outcome.tries);
+        let Ok(()) = self.keep(key, front, outcome.lines) else {
+            return None;
+        };
+        Some(accepted.point(outcome.kind, front, tries))
+    }
+
+    /// Answers by the list that is kept, where one is asked for, and young enough: makes the reply, and
+    /// tells the front of the list.
+    fn answer_kept(
+        &mut self,
+        key: Option<&ListKey>,
+        request: &Request,
+        form: Form,
+    ) -> Result<Option<u64>, Memory>
+        requires { option_copied key ≡ key_asked request.now }
+        ensures found { IfOk result (IsAnsweredBy St.seat St.marked (option_copied key.entry) request.now form self.old self.new) }
+        ensures worker { self.new ≡ record { store = self.old.store; caller = self.old.caller; progress = self.old.progress; kept = looked_for (option_copied key.entry) self.old.kept; reply = self.new.reply } }
+    {
+        let Some(key) = key else {
+            return Ok(None);
+        };
+        let Some(kept) = self.cache.look(key, self.last) else {
+            return Ok(None);
+        };
+        let front = kept.front;
+        list_reply(&mut self.reply, request, kept.lines.as_slice(), form)?;
+        Ok(Some(front))
+    }
+
+    /// Keeps the lines of a list, if some were read, as of this front and the last moment.
+    fn keep(
+        &mut self,
+        key: Option<ListKey>,
+        front: u64,
+        lines: Option<Listed<ListLine>>,
+    ) -> Result<(), Memory>
+        requires { KeepsLines (St.seat self.old.store) (St.marked self.old.store) self.old.progress.last key front lines }
+        ensures kept { OnOk result (self.new.kept ≡ kept_now key front self.old.progress.last lines self.old.kept) }
+        ensures refused { OnErr result (self.new.kept ≡ self.old.kept) }
+        ensures some { OnErr result (IsSome lines) }
+        ensures worker { self.new ≡ record { store = self.old.store; caller = self.old.caller; progress = self.old.progress; kept = self.new.kept; reply = self.old.reply } }
+    {
+        let (Some(key), Some(lines)) = (key, lines) else {
+            return Ok(());
+        };
+        let kept = Kept {
+            front,
+            taken: self.last,
+            lines,
+        };
+        self.cache.keep(key, kept)?;
+        Ok(())
     }
 
     /// Takes note of one more request at a reading of the clock.
@@ -225,7 +306,7 @@ impl<St: Store> Worker<St> {
         ensures moment { result.moment ≡ max self.old.progress.last (min reading stamp_limit) }
         ensures bound { result.moment ≤ stamp_limit }
         ensures draw { result.draw ≡ draw_of self.old.caller result.call }
-        ensures worker { self.new ≡ record { store = self.old.store; caller = self.old.caller; progress = record { accepted = result.call; last = result.moment }; reply = self.old.reply } }
+        ensures worker { self.new ≡ record { store = self.old.store; caller = self.old.caller; progress = record { accepted = result.call; last = result.moment }; kept = self.old.kept; reply = self.old.reply } }
     {
         let moment = self.last.max(reading.min(STAMP_LIMIT));
         let call = self.accepted.saturating_add(1);
@@ -241,7 +322,7 @@ impl<St: Store> Worker<St> {
     /// Makes the reply around the page of a refusal.
     pub(crate) fn refuse(&mut self, refusal: Refusal, form: Form) -> Result<(), Memory>
         ensures reply { OnOk result (self.new.reply ≡ replies.reply (page_of refusal) form) }
-        ensures worker { self.new ≡ record { store = self.old.store; caller = self.old.caller; progress = self.old.progress; reply = self.new.reply } }
+        ensures worker { self.new ≡ record { store = self.old.store; caller = self.old.caller; progress = self.old.progress; kept = self.old.kept; reply = self.new.reply } }
     {
         refusal_reply(&mut self.reply, refusal, form)
     }

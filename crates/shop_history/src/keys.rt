@@ -3,7 +3,7 @@ ghost use Rattle.std.specs.Prelude.{◌≡◌};
 use shop_model::{
     Address, AddressText, Author, Cart, Country, Customer, Item, ItemDetails, Order, Subject,
 };
-use shop_text::{Boxed, Caption, Listed, Shared, Text};
+use shop_text::{Boxed, Caption, Listed, Memory, Shared, Text};
 use std::marker::Model;
 
 /// What a request can read of the shop, one row at a time.
@@ -55,6 +55,18 @@ impl Model for Label {
 }
 
 impl Label {
+    ghost use Rattle.std.specs.Prelude.{◌≡◌, IfOk};
+
+    /// The label, which stays shared; takes no memory.
+    pub fn share(&self) -> Result<Label, Memory>
+        ensures { IfOk result (λ label. label ≡ self.now) }
+    {
+        Ok(Label {
+            item: self.item.share()?,
+            author: self.author.share()?,
+        })
+    }
+
     pub fn title(&self) -> &Caption
         ensures { result.now ≡ self.now.title }
     {

@@ -88,7 +88,7 @@ pub struct SearchRequest {
 }
 
 /// What a search compares its text with.
-#[derive(Clone, Copy, Debug, PartialEq, Eq)]
+#[derive(Clone, Copy, Debug, PartialEq, Eq, Hash)]
 pub enum SearchKind {
     /// The words of titles.
     Title,

@@ -4,6 +4,8 @@
 #[cfg(test)]
 mod gateways;
 #[cfg(test)]
+mod kept_lists;
+#[cfg(test)]
 mod messages;
 #[cfg(test)]
 mod rankings;

@@ -1,5 +1,5 @@
 -- What a gateway tells over several calls.
-use Rattle.std.proofs.Common.{◌≡◌, List, [], ◌++◌, Option, Some, sym, ap, ◌∙◌, append_assoc}
+use Rattle.std.proofs.Common.{List, [], ◌++◌, Option, Some, sym, ap, ◌∙◌, append_assoc}
 use Rattle.std.proofs.lemmas.List.{append-nil}
 use Rattle.shop_edges.specs.Gateways.{Answered}
 use Rattle.shop_edges.specs.declared.gateway.Answer.{Answer}

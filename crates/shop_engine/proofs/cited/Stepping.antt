@@ -1,5 +1,5 @@
 -- What one step leaves, and one step with what came behind it.
-use Rattle.std.proofs.Common.{◌≡◌, ℕ, ◌+◌, ◌≤◌, Bool, List, ◌++◌, Result, Ok, Err, sym, ap, arith}
+use Rattle.std.proofs.Common.{ℕ, ◌+◌, ◌≤◌, Bool, List, ◌++◌, Result, Ok, Err, sym, ap, arith}
 use Rattle.shop_edges.specs.Gateways.{Answered}
 use Rattle.shop_edges.specs.declared.gateway.Answer.{Answer}
 use Rattle.shop_edges.proofs.cited.Answering.{answered_nothing, answered_more}

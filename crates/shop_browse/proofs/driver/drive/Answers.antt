@@ -1,9 +1,9 @@
 use Rattle.std.proofs.Common.{◌+◌, [], ◌∷◌, Some, sym, ◌∙◌, subst}
 use Rattle.shop_attempt.specs.declared.attempts.Attempt.{Attempt}
 use Rattle.shop_attempt.proofs.cited.Marks.{looks_then}
-use Rattle.shop_browse.specs.declared.driver.Next.TheVariants.{ReadOne, Read, Show, Change, Pay, Never}
-use Rattle.shop_browse.specs.Attempts.{IsReady, IsFree, IsPayable, IsContradiction, asking_of}
-use Rattle.shop_browse.proofs.DriverLemmas.{HasGone, one_round, next_is, showed, changed, payable, never_shown}
+use Rattle.shop_browse.specs.declared.driver.Next.TheVariants.{ReadOne, Read, Show, ShowList, Change, Pay, Never}
+use Rattle.shop_browse.specs.Attempts.{IsPlain, IsList, IsPayable, IsContradiction, asking_of}
+use Rattle.shop_browse.proofs.DriverLemmas.{HasGone, one_round, next_is, showed, listed, changed, payable, never_shown}
 use Rattle.shop_browse.proofs.driver.drive.Goals as goal
 use Rattle.shop_browse.proofs.driver.drive.Goals.{in-ReadOne+in_ok-read_one-in-ReadOne, in-Read+in_ok-read_all-in-Read}
 
@@ -23,7 +23,21 @@ returns-in-Show-clause-attempted g c =
     let reads = c.loop-round.reads.items in
     let draft = c.next.new.draft in
     let next = next_is follows _ request ask c.loop-round.round reads _ draft _ Show (c.next.ensures.same ∙ c.loop-round.invariant.same) c.deref.ensures.value c.in-Show.is c.in_ok-key.ensures.next in
-    subst (λ (a : Attempt). IsReady start now (asking_of ask request) draft a × IsFree a.act) (sym c.looked.ensures) (showed start now follows request ask c.loop-round.round reads draft c.loop-round.invariant.gone.has next)
+    subst (IsPlain start now (asking_of ask request) draft) (sym c.looked.ensures) (showed start now follows request ask c.loop-round.round reads draft c.loop-round.invariant.gone.has next)
+
+pub returns-in-ShowList-clause-attempted : goal.returns-in-ShowList-clause-attempted
+returns-in-ShowList-clause-attempted g c =
+    let ask = c.args.ask.now in
+    let follows = g.I.Interaction.follows c.next.new.self ask in
+    let request = g.I.Interaction.request c.args.interaction in
+    let start = g.St.Store.seat c.args.store.now in
+    let now = g.St.Store.seat c.loop-round.store in
+    let reads = c.loop-round.reads.items in
+    let draft = c.next.new.draft in
+    let lines = c.in-ShowList.lines in
+    let next = next_is follows _ request ask c.loop-round.round reads _ draft _ (ShowList lines) (c.next.ensures.same ∙ c.loop-round.invariant.same) c.deref.ensures.value c.in-ShowList.is c.in_ok-key.ensures.next in
+    subst (λ (a : Attempt). IsList start now (asking_of ask request) draft a lines) (sym c.looked-in-ShowList.ensures)
+    (listed start now follows request ask c.loop-round.round reads draft lines c.loop-round.invariant.gone.has next)
 
 pub returns-in-Change-clause-attempted : goal.returns-in-Change-clause-attempted
 returns-in-Change-clause-attempted g c =
@@ -37,7 +51,7 @@ returns-in-Change-clause-attempted g c =
     let act = c.in-Change.act in
     let writes = c.in-Change.writes in
     let next = next_is follows _ request ask c.loop-round.round reads _ draft _ (Change act writes) (c.next.ensures.same ∙ c.loop-round.invariant.same) c.deref.ensures.value c.in-Change.is c.in_ok-key.ensures.next in
-    subst (λ (a : Attempt). IsReady start now (asking_of ask request) draft (record a { writes = Some writes; act = Some act }) × IsFree (Some act)) (sym c.looked-in-Change.ensures)
+    subst (λ (a : Attempt). IsPlain start now (asking_of ask request) draft (record a { writes = Some writes; act = Some act })) (sym c.looked-in-Change.ensures)
     (changed start now follows request ask c.loop-round.round reads draft act writes c.loop-round.invariant.gone.has next)
 
 pub returns-in-Pay-clause-attempted : goal.returns-in-Pay-clause-attempted

@@ -3,7 +3,7 @@ use Rattle.shop_browse.specs.Lists.{line_in}
 use Rattle.shop_browse.proofs.LabelsLemmas.{blocks_more}
 use Rattle.shop_browse.proofs.lists.each_line.Goals as goal
 
-pub loop-read-preserved : goal.loop-read-preserved
-loop-read-preserved c drawn =
-    blocks_more (line_in (ids_at drawn c.args.ids)) c.args.labels.now c.loop-read.read-index c.read-item.result _ _ _
-    c.loop-read-test.true c.read-item.is (c.loop-read.invariant drawn) (c.in_ok-line.ensures drawn)
+pub loop-one-preserved : goal.loop-one-preserved
+loop-one-preserved c drawn =
+    blocks_more (line_in (ids_at drawn c.args.ids)) c.args.lines.now c.loop-one.one-index c.one-item.result _ _ _
+    c.loop-one-test.true c.one-item.is (c.loop-one.invariant drawn) (c.in_ok-line.ensures drawn)

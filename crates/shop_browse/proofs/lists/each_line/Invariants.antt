@@ -7,5 +7,5 @@ use Rattle.shop_browse.specs.Lists.{line_in}
 use Rattle.shop_browse.proofs.lists.each_line.Given as goal
 
 -- the lines so far were added
-abbrev pub invariant-loop-read : goal.invariant-loop-read
-invariant-loop-read l = Adds l.initial.page l.page (λ drawn. flat_map block_line (map (line_in (ids_at drawn l.ids)) (take l.read-index l.labels)))
+abbrev pub invariant-loop-one : goal.invariant-loop-one
+invariant-loop-one l = Adds l.initial.page l.page (λ drawn. flat_map block_line (map (line_in (ids_at drawn l.ids)) (take l.one-index l.lines)))

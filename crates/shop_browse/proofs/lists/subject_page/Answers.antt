@@ -12,7 +12,7 @@ returns c drawn =
     let heading = Heading (c.args.word.now ++ subject_name c.args.subject) in
     record {
       status = refl;
-      text = list_written (ids_at drawn c.args.ids) c.args.title.now (heading ∷ []) c.args.labels.now _ _ _ (c.in_ok-begin.ensures drawn)
+      text = list_written (ids_at drawn c.args.ids) c.args.title.now (heading ∷ []) c.args.lines.now _ _ _ (c.in_ok-begin.ensures drawn)
           (c.in_ok-subject_heading.ensures drawn ∙ ap (λ (l : List ℕ). filled drawn c.begin.new.self ++ l) (sym (append-nil (block_line heading))))
           (c.in_ok-finish.ensures drawn);
     }

@@ -1,4 +1,4 @@
-use Rattle.std.proofs.Common.{◌≡◌, ◌-◌, List, length, take, drop, ◌∙◌, ap, sym, subst}
+use Rattle.std.proofs.Common.{◌≡◌, ◌-◌, List, length, take, drop, ◌∙◌, ap, sym, subst, refl}
 use Rattle.shop_model.specs.declared.address.Address.{Address}
 use Rattle.shop_model.specs.declared.country.Country.{Country}
 use Rattle.shop_model.specs.declared.requests.IdsAsked.{IdsAsked}
@@ -26,22 +26,25 @@ returns-in_default c round ask t fits =
     ]
 
 pub returns-in_ok-order_page-in-Order-Address-Country : goal.returns-in_ok-order_page-in-Order-Address-Country
-returns-in_ok-order_page-in-Order-Address-Country c round ask t fits =
-    let asked = c.args.asked.now in
-    let reads = c.args.reads.now in
-    let order = c.requires.order in
-    let of = c.in-Order-Address-Country in
-    let shown : OrderRow = c.get-in-Order-Address-Country-2.result.now in
-    let same_order : of.order ≡ order = cc (of.is-0, all_order asked reads c.requires c.index-reads-3.result) in
-    let same_address : of.address ≡ c.requires.address = cc (of.is-1, all_address asked reads c.requires c.index-reads-4.result) in
-    let order_is : shown ≡ order = c.get-in-Order-Address-Country-2.ensures ∙ same_order in
-    let city_is = c.bytes-city.ensures ∙ ap (λ (a : Address). a.text.city) (c.get.ensures ∙ same_address) in
-    let country_is = c.bytes-country.ensures ∙ ap (λ (x : Country). x.name) c.get-in-Order-Address-Country.ensures in
-    let ships = ships_to asked reads c.requires ask.index.now t fits _ of.country of.is-2 in
-    let labelled = order_labelled asked reads c.requires ask.index.now t fits in
-    let here = subst (λ (o : OrderRow). ShipsTo t o.ship_address c.bytes-city.result.now c.bytes-country.result.now) (sym order_is)
-    (record { city_is = ships.city_is ∙ sym city_is; country_is = ships.country_is ∙ sym country_is }) in
-    let labels = subst (λ (o : OrderRow). AreLabelled t o.lines (take (length reads - 6) (drop 6 reads))) (sym order_is) (subst (λ (l : List ReadOf). AreLabelled t order.lines l) (sym (all_labels asked reads c.requires)) labelled) in
-    shows_page t (OrderDisplay asked) ask.draw _ (order_page t asked.ids order) (order_shown asked reads c.requires ask.index.now t fits ask.draw)
-    (subst (λ (o : OrderRow). Shows c.order_page.new.draft (λ drawn. order_page t asked.ids o)) order_is
-    (with_ids c.order_page.new.draft (λ (ids : IdsAsked). order_page t ids shown) c.of.result asked.ids c.of.ensures (c.in_ok-order_page-in-Order-Address-Country.ensures t here labels)))
+returns-in_ok-order_page-in-Order-Address-Country c round ask = (
+  refl,
+  λ t fits.
+      let asked = c.args.asked.now in
+      let reads = c.args.reads.now in
+      let order = c.requires.order in
+      let of = c.in-Order-Address-Country in
+      let shown : OrderRow = c.get-in-Order-Address-Country-2.result.now in
+      let same_order : of.order ≡ order = cc (of.is-0, all_order asked reads c.requires c.index-reads-3.result) in
+      let same_address : of.address ≡ c.requires.address = cc (of.is-1, all_address asked reads c.requires c.index-reads-4.result) in
+      let order_is : shown ≡ order = c.get-in-Order-Address-Country-2.ensures ∙ same_order in
+      let city_is = c.bytes-city.ensures ∙ ap (λ (a : Address). a.text.city) (c.get.ensures ∙ same_address) in
+      let country_is = c.bytes-country.ensures ∙ ap (λ (x : Country). x.name) c.get-in-Order-Address-Country.ensures in
+      let ships = ships_to asked reads c.requires ask.index.now t fits _ of.country of.is-2 in
+      let labelled = order_labelled asked reads c.requires ask.index.now t fits in
+      let here = subst (λ (o : OrderRow). ShipsTo t o.ship_address c.bytes-city.result.now c.bytes-country.result.now) (sym order_is)
+      (record { city_is = ships.city_is ∙ sym city_is; country_is = ships.country_is ∙ sym country_is }) in
+      let labels = subst (λ (o : OrderRow). AreLabelled t o.lines (take (length reads - 6) (drop 6 reads))) (sym order_is) (subst (λ (l : List ReadOf). AreLabelled t order.lines l) (sym (all_labels asked reads c.requires)) labelled) in
+      shows_page t (OrderDisplay asked) ask.draw _ (order_page t asked.ids order) (order_shown asked reads c.requires ask.index.now t fits ask.draw)
+      (subst (λ (o : OrderRow). Shows c.order_page.new.draft (λ drawn. order_page t asked.ids o)) order_is
+      (with_ids c.order_page.new.draft (λ (ids : IdsAsked). order_page t ids shown) c.of.result asked.ids c.of.ensures (c.in_ok-order_page-in-Order-Address-Country.ensures t here labels))),
+)

@@ -1,3 +1,4 @@
+use Rattle.std.proofs.Common.{refl}
 use Rattle.shop_model.specs.declared.refusal.Refusal.TheVariants.{NoUserName}
 use Rattle.shop_model.specs.declared.requests.Request.TheVariants.{OrderDisplay}
 use Rattle.shop_model.specs.asked.Refusals.{page_of}
@@ -14,7 +15,10 @@ returns-in_ok-customer_keys-in-Id c ask =
     (has_user asked reads _ c.requires c.in-Id.id c.in-Id.is) c.in_ok-customer_keys-in-Id.ensures
 
 pub returns-in_ok-refusal-in-Absent : goal.returns-in_ok-refusal-in-Absent
-returns-in_ok-refusal-in-Absent c ask t fits =
-    let asked = c.args.asked.now in
-    shows_page t (OrderDisplay asked) ask.draw _ (page_of NoUserName)
-    (user_missing asked c.args.reads.now _ c.requires t ask.draw c.in-Absent.is fits.shows) c.in_ok-refusal-in-Absent.ensures
+returns-in_ok-refusal-in-Absent c ask = (
+  refl,
+  λ t fits.
+      let asked = c.args.asked.now in
+      shows_page t (OrderDisplay asked) ask.draw _ (page_of NoUserName)
+      (user_missing asked c.args.reads.now _ c.requires t ask.draw c.in-Absent.is fits.shows) c.in_ok-refusal-in-Absent.ensures,
+)

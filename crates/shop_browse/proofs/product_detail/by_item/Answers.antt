@@ -1,3 +1,4 @@
+use Rattle.std.proofs.Common.{refl}
 use Rattle.shop_model.specs.declared.refusal.Refusal.TheVariants.{NoItem}
 use Rattle.shop_model.specs.declared.requests.Request.TheVariants.{ProductDetail}
 use Rattle.shop_model.specs.asked.Refusals.{page_of}
@@ -9,6 +10,9 @@ pub returns-in-Item : goal.returns-in-Item
 returns-in-Item c = asks_label c.args.asked.now c.args.item.now c.in-Item.field-0 c.requires c.in-Item.is
 
 pub returns-in_ok-refusal-in-Absent : goal.returns-in_ok-refusal-in-Absent
-returns-in_ok-refusal-in-Absent c ask t fits =
-    shows_page t (ProductDetail c.args.asked.now) ask.draw _ (page_of NoItem)
-    (none_shown c.args.asked.now c.args.item.now ask.draw t c.requires c.in-Absent.is fits.shows.0) c.in_ok-refusal-in-Absent.ensures
+returns-in_ok-refusal-in-Absent c ask = (
+  refl,
+  λ t fits.
+      shows_page t (ProductDetail c.args.asked.now) ask.draw _ (page_of NoItem)
+      (none_shown c.args.asked.now c.args.item.now ask.draw t c.requires c.in-Absent.is fits.shows.0) c.in_ok-refusal-in-Absent.ensures,
+)

@@ -1,8 +1,10 @@
-use Rattle.std.proofs.Common.{◌≡◌, refl, arith, [], ◌+◌, ◌==◌, length, ap, ◌∙◌}
+use Rattle.std.proofs.Common.{◌≡◌, refl, arith, [], ◌+◌, ◌==◌, length, All, ap, ◌∙◌, subst, sym}
 use Rattle.shop_attempt.proofs.cited.Marks.{keeps_self, keeps_then}
 use Rattle.shop_edges.proofs.cited.Known.{Consumes-nothing}
 use Rattle.shop_engine.proofs.ConnectionLemmas.{nothing_met, nothing_begun, still_standing, one_point, SoFar-message}
 use Rattle.shop_engine.proofs.ServedLemmas.{Served-closed, Served-inside, Served-broken, Served-memory, Served-spent, Served-message, Served-refusal}
+use Rattle.std.proofs.lemmas.List.Elements.{All-nil}
+use Rattle.shop_engine.specs.Lists.{IsFreshPoint}
 use Rattle.shop_engine.specs.Steps.{ANSWERS}
 use Rattle.shop_engine.proofs.serve.serve_all.Goals as goal
 
@@ -14,6 +16,7 @@ loop-alloc-init g c = record {
   reads = omega arith;
   writes = omega arith;
   marks = keeps_self _ _;
+  fresh = subst (All (IsFreshPoint _ _)) (sym c.requires) (All-nil (IsFreshPoint _ _));
   failures = rw c.requires (omega arith);
   asks = omega arith;
 }
@@ -56,6 +59,7 @@ loop-alloc-preserved g c =
       reads = omega (arith, c.loop-alloc.invariant.reads, c.in-Message.ensures.later);
       writes = omega (arith, c.loop-alloc.invariant.writes, c.serve_one-ended.ensures.writes);
       marks = keeps_then _ _ _ _ _ _ c.loop-alloc.invariant.marks c.serve_one-ended.ensures.marks;
+      fresh = c.serve_one-ended.ensures.fresh c.loop-alloc.invariant.fresh;
       failures = c.serve_one-ended.ensures.failures (g.G.Gateway.faults c.args.gateway.now) c.loop-alloc.invariant.failures;
       asks = omega (arith, c.loop-alloc.invariant.asks, c.serve_one-ended.ensures.asks);
     }

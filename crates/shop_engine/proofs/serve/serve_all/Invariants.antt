@@ -1,7 +1,8 @@
-use Rattle.std.proofs.Common.{◌≡◌, ◌-◌, ◌≤◌, length}
+use Rattle.std.proofs.Common.{◌≡◌, ◌-◌, ◌≤◌, length, All}
 use Rattle.shop_attempt.specs.Marks.{KeepsMarks}
 use Rattle.shop_engine.specs.Connections.{SoFar}
 use Rattle.shop_engine.specs.Failures.{RoseBy, failures}
+use Rattle.shop_engine.specs.Lists.{IsFreshPoint}
 use Rattle.shop_engine.specs.Workers.{standing}
 use Rattle.shop_engine.proofs.serve.serve_all.Given as goal
 
@@ -15,6 +16,7 @@ invariant-loop-alloc g l = record {
   reads : g.S.Source.faults l.fn.source ≤ g.S.Source.faults l.source;
   writes : g.K.Sink.faults l.fn.sink ≤ g.K.Sink.faults l.sink;
   marks : KeepsMarks (g.St.Store.marked l.fn.worker.store) (g.St.Store.marked l.worker.store) (g.St.Store.seat l.fn.worker.store) (g.St.Store.seat l.worker.store);
+  fresh : All (IsFreshPoint (g.St.Store.marked l.worker.store) (g.St.Store.seat l.worker.store).seen) l.points.items;
   failures : RoseBy (g.G.Gateway.faults l.fn.gateway) (failures l.points.items) (g.G.Gateway.faults l.gateway);
   asks : g.G.Gateway.faults l.fn.gateway ≤ g.G.Gateway.faults l.gateway;
 }

@@ -1,10 +1,11 @@
-use Rattle.std.proofs.Common.{rules, refl, sym, ◌∙◌, subst, arith, IsSome}
+use Rattle.std.proofs.Common.{rules, refl, sym, ◌∙◌, subst, arith, IsSome, List, None}
 use Rattle.shop_attempt.proofs.cited.Marks.{keeps_self}
 use Rattle.shop_engine.specs.declared.tries.Outcome.{Outcome}
 use Rattle.shop_engine.specs.Failures.{RoseBy, failures_as}
-use Rattle.shop_engine.specs.Tries.{IsOutcome}
+use Rattle.shop_cache.specs.declared.cache.ListLine.{ListLine}
+use Rattle.shop_engine.specs.Tries.{IsOutcome, LeavesMarkOf}
 use Rattle.shop_engine.proofs.Conflicts.{met_more, none_met}
-use Rattle.shop_engine.proofs.Outcomes.{behind_conflict, behind_denial, busy_is, denial_decides, denial_kept, failed_is, in_a_try, settled_counts, settled_is}
+use Rattle.shop_engine.proofs.Outcomes.{behind_conflict, behind_denial, busy_is, denial_decides, denial_kept, failed_is, in_a_try, listed_is, settled_counts, settled_is}
 use Rattle.shop_engine.proofs.tries.try_all.Goals as goal
 
 pub loop-tried-init : goal.loop-tried-init
@@ -29,6 +30,9 @@ returns-in-Settled-clause-failures g c =
     let none = settled_counts _ _ _ _ _ _ c.loop-tried-test.true c.loop-tried.invariant.so_far _ _ _ c.in-Settled.ensures.tried in
     omega (arith, none, c.loop-tried.invariant.later, c.in-Settled.ensures.later)
 
+pub returns-in-Listed-clause-answer : goal.returns-in-Listed-clause-answer
+returns-in-Listed-clause-answer g c = listed_is _ _ _ _ _ _ c.loop-tried-test.true c.loop-tried.invariant.so_far _ _ _ c.in-Listed.ensures.tried
+
 -- the answer that is kept is the denial
 
 pub denied-requires : goal.denied-requires
@@ -43,6 +47,13 @@ returns-in-Denied-clause-answer g c =
 
 pub returns-in-Denied-clause-memory : goal.returns-in-Denied-clause-memory
 returns-in-Denied-clause-memory g c none = behind_denial _ _ _ _ _ _ c.loop-tried-test.true c.loop-tried.invariant.so_far _ _ _ c.in-Denied.ensures.tried
+
+pub returns-in-Denied-clause-mark : goal.returns-in-Denied-clause-mark
+returns-in-Denied-clause-mark g c =
+    let denial = denial_kept _ _ _ _ _ _ c.loop-tried-test.true c.loop-tried.invariant.so_far _ _ _ c.in-Denied.ensures.tried in
+    denial_decides _ _ _ _ _ c.denied.result c.denied.ensures denial.1
+    (LeavesMarkOf (g.St.Store.marked c.try_once.new.store) (g.St.Store.seat c.try_once.new.store).seen c.args.job.now.ask.moment)
+    (λ some. absurd (let no : IsSome {T = List ListLine} None = some in cc))
 
 pub returns-in-Denied-clause-failures : goal.returns-in-Denied-clause-failures
 returns-in-Denied-clause-failures g c =

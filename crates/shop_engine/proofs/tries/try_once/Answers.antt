@@ -40,12 +40,18 @@ returns-in-Ready-clause-tried g c =
       caller = looked.follows.caller ∙ c.requires.caller;
       kept = c.args.kept.now;
       asked = has;
-      ready = c.in-Ready.ensures.attempted.0;
-      paid = λ t agrees. free_paid c.in-Ready.attempt.act c.in-Ready.ensures.attempted.1 t _ before;
+      ready = c.in-Ready.ensures.attempted.ready;
+      unlisted = c.in-Ready.ensures.attempted.unlisted;
+      paid = λ t agrees. free_paid c.in-Ready.attempt.act c.in-Ready.ensures.attempted.free t _ before;
     }))
 
 pub returns-in-Ready-clause-failed : goal.returns-in-Ready-clause-failed
 returns-in-Ready-clause-failed g c failed = absurd (c.settle_page.ensures.never failed)
+
+pub returns-in-Listed-clause-tried : goal.returns-in-Listed-clause-tried
+returns-in-Listed-clause-tried g c =
+    let looked = c.attempt.ensures.looks.looked in
+    unasked _ _ _ _ _ refl refl (λ before has. c.settle_list.ensures.tried _ _ before looked has c.in-Listed.ensures.attempted)
 
 pub returns-in-Approved-clause-tried : goal.returns-in-Approved-clause-tried
 returns-in-Approved-clause-tried g c =

@@ -1,4 +1,4 @@
-use Rattle.std.proofs.Common.{List, ◌∷◌, [], sym, ◌∙◌, ap, subst}
+use Rattle.std.proofs.Common.{List, ◌∷◌, [], sym, ◌∙◌, ap, subst, refl}
 use Rattle.std.proofs.lemmas.Result.{IfOk-weaker}
 use Rattle.shop_model.specs.declared.requests.Request.TheVariants.{BuyRequest}
 use Rattle.shop_model.specs.asked.CustomersAsked.{LoginAsked}
@@ -30,7 +30,7 @@ returns-in-Err c =
     let stops = subst (λ p. StopsBy Customer (check_password p) (has_customer asked login begun ask reads c.requires.buyer c.requires.all).customer.row c.in-Err.stop) pass
     (subst (λ (r : ReadOf). StopsBy Customer (check_password c.login.inside.pass) r.row c.in-Err.stop) read c.in-Err.ensures.err) in
     IfOk-weaker c.stopped.result _ _
-    (λ next done. stopped_next (FollowsBuy asked) (BuyRequest asked) ask reads c.stopped.new.draft c.in-Err.stop next (login_stops asked login begun ask reads c.requires.buyer c.requires.all c.in-Err.stop stops) done)
+    (λ next done. stopped_next (FollowsBuy asked) (BuyRequest asked) ask reads c.stopped.new.draft c.in-Err.stop next refl (login_stops asked login begun ask reads c.requires.buyer c.requires.all c.in-Err.stop stops) done)
     c.stopped.ensures
 
 pub returns : goal.returns

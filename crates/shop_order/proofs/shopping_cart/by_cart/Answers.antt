@@ -9,11 +9,14 @@ use Rattle.shop_order.proofs.ShoppingCartLemmas.{refusal_shown, asks_items}
 use Rattle.shop_order.proofs.shopping_cart.by_cart.Goals as goal
 
 pub returns-in_ok-refusal-in-Refused : goal.returns-in_ok-refusal-in-Refused
-returns-in_ok-refusal-in-Refused c t fits =
-    let ask = c.args.ask.now in
-    let refuses = subst (IsBegun ask.scale.now.items c.args.asked.now ask.draw (option_copied c.args.cart)) c.in-Refused.is c.in_ok-begun.ensures in
-    shows_page t (CartRequest c.args.asked.now) ask.draw _ (page_of c.in-Refused.refusal)
-    (refusal_shown c.args.asked.now ask (option_copied c.args.cart) c.in-Refused.refusal c.requires.whole refuses t fits) c.in_ok-refusal-in-Refused.ensures
+returns-in_ok-refusal-in-Refused c = (
+  refl,
+  λ t fits.
+      let ask = c.args.ask.now in
+      let refuses = subst (IsBegun ask.scale.now.items c.args.asked.now ask.draw (option_copied c.args.cart)) c.in-Refused.is c.in_ok-begun.ensures in
+      shows_page t (CartRequest c.args.asked.now) ask.draw _ (page_of c.in-Refused.refusal)
+      (refusal_shown c.args.asked.now ask (option_copied c.args.cart) c.in-Refused.refusal c.requires.whole refuses t fits) c.in_ok-refusal-in-Refused.ensures,
+)
 
 pub returns-in-Never : goal.returns-in-Never
 returns-in-Never c t fits =

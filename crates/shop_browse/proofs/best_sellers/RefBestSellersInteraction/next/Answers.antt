@@ -1,19 +1,18 @@
-use Rattle.std.proofs.Common.{List, [], ◌∷◌, ◌++◌, ◌-◌, length, take, drop, codes, Some, refl, ap, subst}
-use Rattle.shop_model.specs.declared.page.Block.{Block}
-use Rattle.shop_model.specs.declared.page.Block.TheVariants.{Heading}
-use Rattle.shop_model.specs.declared.requests.IdsAsked.{IdsAsked}
+use Rattle.std.proofs.Common.{List, refl, subst}
 use Rattle.shop_model.specs.declared.requests.Request.TheVariants.{BestSellers}
-use Rattle.shop_model.specs.pages.BestSellers.{best_sellers}
-use Rattle.shop_model.specs.rows.Subjects.{subject_name}
+use Rattle.shop_model.specs.declared.tables.Tables.{Tables}
 use Rattle.shop_history.specs.declared.keys.Key.TheVariants.{BestIn}
+use Rattle.shop_cache.specs.declared.cache.ListLine.{ListLine}
+use Rattle.shop_cache.specs.declared.keys.ListKey.TheVariants.{Best}
 use Rattle.shop_draft.specs.Pages.{Shows}
-use Rattle.shop_attempt.specs.declared.attempts.ReadOf.{ReadOf}
 use Rattle.shop_browse.specs.Labels.{AsksLabels}
-use Rattle.shop_browse.specs.Lists.{page_in}
+use Rattle.shop_browse.specs.Driver.{Fits}
+use Rattle.shop_browse.specs.Lines.{AreLinesRead}
+use Rattle.shop_browse.specs.Lists.{AreListed, best_page}
 use Rattle.shop_browse.proofs.LabelsLemmas.{asks_next}
-use Rattle.shop_browse.proofs.cited.Reads.{behind, shows_page}
-use Rattle.shop_browse.proofs.DriverLemmas.{with_ids}
-use Rattle.shop_browse.proofs.ListsLemmas.{list_shown}
+use Rattle.shop_browse.proofs.LinesLemmas.{key_lines, key_labels}
+use Rattle.shop_browse.proofs.cited.Lists.{listed_shown}
+use Rattle.shop_browse.proofs.cited.Reads.{shows_page}
 use Rattle.shop_browse.proofs.best_sellers.RefBestSellersInteraction.next.Goals as goal
 
 pub returns-in-Some : goal.returns-in-Some
@@ -21,19 +20,20 @@ returns-in-Some c =
     let asks = subst (AsksLabels (BestIn c.args.self.now.now.subject) c.args.ask.now c.args.round c.args.reads.now) c.in-Some.is c.in_ok-next.ensures in
     record { same = refl; next = asks_next _ c.args.ask.now c.args.round c.args.reads.now (BestSellers c.args.self.now.now) c.args.draft.now c.in-Some.next (λ opening log named. refl) asks }
 
-pub returns-in_ok-subject_page-in-None : goal.returns-in_ok-subject_page-in-None
-unfolding best_sellers
-returns-in_ok-subject_page-in-None c =
+pub returns-in_ok-write_page-in-Some-2-clause-next : goal.returns-in_ok-write_page-in-Some-2-clause-next
+returns-in_ok-write_page-in-Some-2-clause-next c =
     let asked = c.args.self.now.now in
     let ask = c.args.ask.now in
     let reads = c.args.reads.now in
-    let title = codes "Best Sellers" in
-    let head : List Block = Heading (codes "Best " ++ subject_name asked.subject) ∷ [] in
+    let lines = c.in-Some-2.lines in
     let have = subst (AsksLabels (BestIn asked.subject) ask c.args.round reads) c.in-None.is c.in_ok-next.ensures in
-    let written = with_ids c.subject_page.new.draft (λ (ids : IdsAsked). page_in ids title head (take (length reads - 1) (drop 1 reads))) c.of.result asked.ids c.of.ensures c.in_ok-subject_page-in-None.ensures in
-    record {
-      same = refl;
-      next = λ t fits. shows_page t (BestSellers asked) ask.draw _ _
-          (ap Some (list_shown ask.index.now t (BestIn asked.subject) asked.ids title head reads have fits))
-          (subst (λ (l : List ReadOf). Shows c.subject_page.new.draft (λ drawn. page_in asked.ids title head l)) (behind reads) written);
-    }
+    let read = subst (AreLinesRead _) c.in-Some-2.is c.in_ok-lines-in-None.ensures in
+    let listed : (t : Tables) → Fits ask.index.now t reads → AreListed t (BestSellers asked) lines = λ t fits. record { key = Best asked.subject; asked = refl; are = key_lines ask.index.now t (BestIn asked.subject) reads have fits lines read } in
+    let written = subst (λ (l : List ListLine). Shows c.write_page.new.draft (λ drawn. best_page asked l)) c.as_slice.ensures c.in_ok-write_page-in-Some-2.ensures in
+    (listed, λ t fits. shows_page t (BestSellers asked) ask.draw _ (best_page asked lines) (listed_shown t (BestSellers asked) ask.draw lines (listed t fits)) written)
+
+pub returns-in-None-2-clause-next : goal.returns-in-None-2-clause-next
+returns-in-None-2-clause-next c t fits =
+    let asked = c.args.self.now.now in
+    let have = subst (AsksLabels (BestIn asked.subject) c.args.ask.now c.args.round c.args.reads.now) c.in-None.is c.in_ok-next.ensures in
+    key_labels c.args.ask.now.index.now t (BestIn asked.subject) c.args.reads.now have fits (subst (AreLinesRead _) c.in-None-2.is c.in_ok-lines-in-None.ensures)

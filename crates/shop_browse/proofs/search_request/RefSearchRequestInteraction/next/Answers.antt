@@ -30,6 +30,10 @@ returns-in_ok-write_page-in-None c =
     let written = with_ids c.write_page.new.draft (λ (ids : IdsAsked). search_in ids (take (length reads - 1) (drop 1 reads))) c.of.result asked.ids c.of.ensures c.in_ok-write_page-in-None.ensures in
     record {
       same = refl;
-      next = λ t fits. shows_page t (SearchRequest asked) ask.draw _ _ (ap Some (search_shown ask asked.ids reads c.requires.whole have t fits))
-          (subst (λ (l : List ReadOf). Shows c.write_page.new.draft (λ drawn. search_in asked.ids l)) (behind reads) written);
+      next = (
+        refl,
+        λ t fits.
+            shows_page t (SearchRequest asked) ask.draw _ _ (ap Some (search_shown ask asked.ids reads c.requires.whole have t fits))
+            (subst (λ (l : List ReadOf). Shows c.write_page.new.draft (λ drawn. search_in asked.ids l)) (behind reads) written),
+      );
     }

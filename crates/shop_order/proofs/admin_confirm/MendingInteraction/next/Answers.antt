@@ -1,4 +1,4 @@
-use Rattle.std.proofs.Common.{◌≡◌, ℕ, ◌+◌, List, length, map, Some, sym, ◌∙◌, ap, subst}
+use Rattle.std.proofs.Common.{◌≡◌, ℕ, ◌+◌, List, length, map, Some, sym, ◌∙◌, ap, subst, refl}
 use Rattle.std.proofs.lemmas.Result.{IfOk-weaker}
 use Rattle.shop_model.specs.declared.refusal.Refusal.TheVariants.{NoItem}
 use Rattle.shop_model.specs.declared.requests.Request.TheVariants.{AdminConfirm}
@@ -25,7 +25,7 @@ returns-in-Err-clause-next c =
     let stops = item_stops asked ask reads stop has
     (subst (λ (r : ReadOf). StopsBy Item (check_there NoItem) r.row stop) (at_book asked.item reads c.index-reads-0.result has) c.in-Err.ensures.err) in
     IfOk-weaker c.stopped.result _ _
-    (λ next done. stopped_next (FollowsAdmin asked c.args.self.now.related ask) (AdminConfirm asked) ask reads c.stopped.new.draft stop next stops done c.args.round) c.stopped.ensures
+    (λ next done. stopped_next (FollowsAdmin asked c.args.self.now.related ask) (AdminConfirm asked) ask reads c.stopped.new.draft stop next refl stops done c.args.round) c.stopped.ensures
 
 pub returns-then-round-eq1-clause-next : goal.returns-then-round-eq1-clause-next
 returns-then-round-eq1-clause-next c =

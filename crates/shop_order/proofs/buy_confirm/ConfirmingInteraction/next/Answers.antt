@@ -32,7 +32,7 @@ returns-in-Err-clause-next c =
     let fits : IsStop (λ t. Fits ask.index.now t reads) (BuyConfirm asked) stop
     = stop_weaker (λ t. Shows t (buyer ∷ cart ∷ [])) (λ t. Fits ask.index.now t reads) (BuyConfirm asked) stop
     (λ t fits. shows_first asked reads buyer cart t has c.index-reads-0.is c.index-reads-1.is fits.shows) stops in
-    IfOk-weaker c.stopped.result _ _ (λ next done. stopped_next (FollowsConfirm asked) (BuyConfirm asked) ask reads c.stopped.new.draft stop next fits done c.args.round) c.stopped.ensures
+    IfOk-weaker c.stopped.result _ _ (λ next done. stopped_next (FollowsConfirm asked) (BuyConfirm asked) ask reads c.stopped.new.draft stop next refl fits done c.args.round) c.stopped.ensures
 
 pub returns-then-round-eq1-clause-next : goal.returns-then-round-eq1-clause-next
 returns-then-round-eq1-clause-next c =

@@ -1,4 +1,4 @@
-use Rattle.std.proofs.Common.{[], ◌∷◌, sym, ◌∙◌, subst}
+use Rattle.std.proofs.Common.{[], ◌∷◌, sym, ◌∙◌, subst, refl}
 use Rattle.std.proofs.lemmas.Result.{IfOk-weaker}
 use Rattle.shop_model.specs.declared.requests.Request.TheVariants.{BuyRequest}
 use Rattle.shop_attempt.specs.declared.attempts.ReadOf.{ReadOf}
@@ -31,7 +31,7 @@ returns-in-Err-clause-next c =
     let fits : IsStop (λ t. Fits ask.index.now t reads) (BuyRequest asked) stop
     = stop_weaker (λ t. Shows t (cart ∷ found ∷ [])) (λ t. Fits ask.index.now t reads) (BuyRequest asked) stop
     (λ t fits. shows_first asked reads cart found t has c.index-reads-0.is c.index-reads-1.is fits.shows) stops in
-    IfOk-weaker c.stopped.result _ _ (λ next done. stopped_next (FollowsBuy asked) (BuyRequest asked) ask reads c.stopped.new.draft stop next fits done c.args.round) c.stopped.ensures
+    IfOk-weaker c.stopped.result _ _ (λ next done. stopped_next (FollowsBuy asked) (BuyRequest asked) ask reads c.stopped.new.draft stop next refl fits done c.args.round) c.stopped.ensures
 
 pub returns-then-round-eq1-clause-next : goal.returns-then-round-eq1-clause-next
 returns-then-round-eq1-clause-next c =

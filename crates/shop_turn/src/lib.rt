@@ -1,0 +1,11 @@
+//! A book that several callers share, one turn after another.
+#![tactic(auto)]
+
+mod desk;
+mod rule;
+mod seats;
+mod shop;
+mod turns;
+
+pub use desk::Desk;
+pub use shop::Shop;
