@@ -43,7 +43,7 @@ fn hello<K: Sink>(sink: &mut K) -> bool {
 }
 
 /// The first reading, and one of a twin.
-fn two_readings<C: Clock>(clock: &mut C) -> [u64; 2] {
+fn two_readings<C: Clock + Drop>(clock: &mut C) -> [u64; 2] {
     let first = clock.now();
     let mut twin = clock.twin();
     [first, twin.now()]

@@ -2,7 +2,7 @@
 use crate::answers::{answer, heading};
 use crate::stop::Stop;
 use shop_text::{Memory, Text};
-use shop_words::command_of;
+use shop_words::{command_of, race_of};
 use std::alloc::Global;
 
 /// The words on one line. Two apostrophes are an empty word.
@@ -15,9 +15,12 @@ fn words_of(alloc: Global, line: &str) -> Result<Vec<Text>, Memory> {
     Ok(words)
 }
 
-/// Prints what the words on a line say.
+/// Prints what the words on a line say, of a race where they begin so.
 pub fn print_line(rt: &(impl Print + AllocGlobal), line: &str) -> Result<(), Stop> {
     let words = words_of(rt.alloc(), line)?;
+    if line.starts_with("race") {
+        return answer(rt, &line, &race_of(rt.alloc(), &words));
+    }
     answer(rt, &line, &command_of(rt.alloc(), &words))
 }
 

@@ -76,7 +76,7 @@ fn session_of(rt: &(impl Env + AllocGlobal)) -> Result<Session> {
         words.push(Text::from_vec(word.as_bytes().to_vec(alloc)?))?;
     }
     match command_of(alloc, &words) {
-        Parsed::Command(Command::Session(session)) => Ok(session),
+        Parsed::Good(Command::Session(session)) => Ok(session),
         _ => Err(anyhow!("the words ask for no session")),
     }
 }

@@ -1,6 +1,6 @@
 -- Over a shop that one caller has, each turn of a browser is settled at once, and the log is what the changes made.
-use Rattle.std.proofs.Common.{◌≡◌, ℕ, ◌≤◌, List, [], ◌∷◌, ◌++◌, map, Option, Some, Result, Ok, Err, OnErr, inl, inr, arith, refl, sym, subst, ◌∙◌, ap}
-use Rattle.std.specs.Prelude.{All, flat_map}
+use Rattle.std.proofs.Common.{◌≡◌, false, true, ℕ, ◌≤◌, List, [], ◌∷◌, ◌++◌, map, Option, Some, Result, Ok, Err, OnErr, inl, inr, arith, refl, sym, subst, ◌∙◌, ap}
+use Rattle.std.specs.Prelude.{All, IsErr, MatchResult, flat_map}
 use Rattle.std.proofs.lemmas.List.{map-append}
 use Rattle.std.proofs.lemmas.List.Elements.{All-cons, All-nil}
 use Rattle.shop_text.specs.declared.memory.Memory.{Memory}
@@ -16,10 +16,11 @@ use Rattle.shop_book.specs.Solos.{SoloValue, seat_of}
 use Rattle.shop_browsers.specs.Browsers.{BrowserState}
 use Rattle.shop_http.specs.Requests.{asked}
 use Rattle.shop_drive.specs.declared.tally.Tally.{Tally}
-use Rattle.shop_drive.specs.Drives.{Drove, StoppedAmid}
+use Rattle.shop_drive.specs.Drives.{AreFresh, Drives, Drove, StoppedAmid, points_of}
 use Rattle.shop_drive.specs.Turns.{Stage, Turn, AreTurns}
 use Rattle.shop_words.specs.declared.command.Drive.{Drive}
 use Rattle.shop_engine.specs.Workers.{WorkerState, standing}
+use Rattle.shop_engine.proofs.cited.Fresh.{all_fresh}
 use Rattle.shop_app.specs.declared.driven.Driven.{Driven}
 use Rattle.shop_app.specs.Driving.{DroveTo, NotedAs, Outside, TellsOf, Unfinished, first_browsers, first_stage}
 use Rattle.shop_app.specs.Session.{IsFirst, first_seat, first_standing, moment_as, moments_of}
@@ -42,10 +43,22 @@ turns_stamped from to (turn ∷ turns) (next, is, are) alone =
     ∙ ap (λ (l : List ℕ). moment_as turn.step.point.moment turn.step.point.kind ++ l)
     (turns_stamped next to turns are (alone_next _ from.worker next.worker turn.step (asked turn.step.message) is.asks.answered alone))
 
+no_error : false ≡ true → ⊥
+no_error e = cc
+
 -- what holds anyway holds where memory ran out
 pub on_err : {A : Type 0} (P : Type 0) (result : Result A Memory) → P → OnErr result P
 on_err P (Ok value) holds = tt
 on_err P (Err memory) holds = holds
+
+-- a drive whose answers were noted
+pub noted_by : (marked : ℕ → ℕ → Type 0) (all : List Answer) (from to : Stage) (steps : ℕ) (tally : Result Tally Memory) (answers : List Answer) (result : Result Driven Memory) → Drives marked from to steps tally
+    → MatchResult result (λ driven. (tally ≡ Ok driven.tally) × (driven.answers ≡ answers)) (λ _. IsErr tally) → answers ≡ firsts all → NotedAs marked all from to steps result
+noted_by marked all from to steps tally answers (Ok driven) drives (is, same) first =
+    let drove : (drove : Drove from to steps driven.tally) × AreFresh marked to drove.turns = subst (Drives marked from to steps) is drives in
+    (drove.0, drove.1, same ∙ first)
+noted_by marked all from to steps (Ok tally) answers (Err memory) drives failed first = absurd (no_error failed)
+noted_by marked all from to steps (Err gone) answers (Err memory) drives failed first = drives
 
 -- where the browsers of the words and the first worker stand
 pub first_is : (drive : Drive) (worker : WorkerState SoloValue) (browsers : List BrowserState) (clock : Option (List ℕ)) (failures : ℕ) → IsFirst drive.shop worker → browsers ≡ first_browsers drive
@@ -57,12 +70,14 @@ first_is drive worker browsers clock failures first are =
 -- browsers that were driven over the shop of the words
 module _ (drive : Drive) (from to : Stage) (old new : Outside) (all : List Answer) (is_first : from ≡ first_stage drive old.clock old.failures)
     (clock : to.worker.clock ≡ new.clock) (failed : to.failures ≡ new.failures) (kept : old.failures ≤ new.failures) where
-  drove_to : (tally : Tally) (answers : List Answer) (book : BookValue) (lines : List ℕ) → Drove from to drive.steps tally → answers ≡ firsts all → to.worker.told ≡ Some all
+  drove_to : (marked : ℕ → ℕ → Type 0) (tally : Tally) (answers : List Answer) (book : BookValue) (lines : List ℕ) → (given : Drove from to drive.steps tally) → AreFresh marked to given.turns → answers ≡ firsts all → to.worker.told ≡ Some all
       → Answered old.told new.told all → IsLawful to.worker.seat.opening to.worker.seat.seen → book.opening.tables ≡ to.worker.seat.opening → book.log ≡ to.worker.seat.seen
       → lines ≡ drive_lines tally answers book → DroveTo drive old new lines
   unfolding first_seat
-  drove_to tally answers book lines given first_of said told lawful opened entries printed =
-      let drove : Drove (first_stage drive old.clock old.failures) to drive.steps tally = rw is_first at given in
+  drove_to marked tally answers book lines given fresh first_of said told lawful opened entries printed =
+      let both : (drove : Drove (first_stage drive old.clock old.failures) to drive.steps tally) × AreFresh marked to drove.turns
+      = subst (λ (s : Stage). (drove : Drove s to drive.steps tally) × AreFresh marked to drove.turns) is_first (given, fresh) in
+      let drove : Drove (first_stage drive old.clock old.failures) to drive.steps tally = both.0 in
       let at_first : Stage = first_stage drive old.clock old.failures in
       let alone : IsAlone at_first.worker = record { stamp = 0; latest = refl; within = omega arith } in
       let same : to.worker.seat.opening ≡ populated drive.shop.seed drive.shop.scale = drove.stays.follows.opening in
@@ -79,6 +94,7 @@ module _ (drive : Drive) (from to : Stage) (old new : Outside) (all : List Answe
         alone = turns_once at_first to drove.turns drove.run alone;
         lawful = subst (λ (t : Tables). IsLawful t to.worker.seat.seen) same lawful;
         log = log;
+        fresh = all_fresh marked to.worker.seat.seen (points_of drove.turns) both.1;
         stamps = ap (map (λ (e : Entry). e.stamp)) log ∙ turns_stamped at_first to drove.turns drove.run alone;
         book = book;
         opened = opened ∙ same;
@@ -95,12 +111,12 @@ module _ (drive : Drive) (from to : Stage) (old new : Outside) (all : List Answe
   driven_short : (tally : Tally) → Drove from to drive.steps tally → Unfinished drive old new
   driven_short tally drove = inr (to, inr (tally, rw is_first at drove), clock, failed, kept)
 
-  pub drove_by : (result : Result Driven Memory) (book : BookValue) (lines : List ℕ) → NotedAs all from to drive.steps result → TellsOf result book lines → to.worker.told ≡ Some all
+  pub drove_by : (marked : ℕ → ℕ → Type 0) (result : Result Driven Memory) (book : BookValue) (lines : List ℕ) → NotedAs marked all from to drive.steps result → TellsOf result book lines → to.worker.told ≡ Some all
       → Answered old.told new.told all → IsLawful to.worker.seat.opening to.worker.seat.seen → book.opening.tables ≡ to.worker.seat.opening → book.log ≡ to.worker.seat.seen → DroveTo drive old new lines
-  drove_by result book lines noted (driven, is, printed) said told lawful opened entries =
-      let both : Drove from to drive.steps driven.tally × (driven.answers ≡ firsts all) = subst (NotedAs all from to drive.steps) is noted in
-      drove_to driven.tally driven.answers book lines both.0 both.1 said told lawful opened entries printed
+  drove_by marked result book lines noted (driven, is, printed) said told lawful opened entries =
+      let all_of : (drove : Drove from to drive.steps driven.tally) × AreFresh marked to drove.turns × (driven.answers ≡ firsts all) = subst (NotedAs marked all from to drive.steps) is noted in
+      drove_to marked driven.tally driven.answers book lines all_of.0 all_of.1 all_of.2 said told lawful opened entries printed
 
-  pub unfinished : (result : Result Driven Memory) → NotedAs all from to drive.steps result → Unfinished drive old new
-  unfinished (Ok driven) (drove, same) = driven_short driven.tally drove
-  unfinished (Err memory) amid = stopped_short amid
+  pub unfinished : (marked : ℕ → ℕ → Type 0) (result : Result Driven Memory) → NotedAs marked all from to drive.steps result → Unfinished drive old new
+  unfinished marked (Ok driven) (drove, fresh, same) = driven_short driven.tally drove
+  unfinished marked (Err memory) amid = stopped_short amid

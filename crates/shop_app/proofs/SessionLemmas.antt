@@ -69,7 +69,7 @@ module _ (session : Session) (before after : Standing) (old new : Run) (points :
   session-by-end ended.WriteFault served read write = (write refl, served_to ended.WriteFault served)
   session-by-end ended.Memory served read write = inr (served_to ended.Memory served)
 
-items_of : (seed : ℕ) (scale : ScaleRow) → length (populated seed scale).items ≡ scale.items
+pub items_of : (seed : ℕ) (scale : ScaleRow) → length (populated seed scale).items ≡ scale.items
 unfolding populated items_table
 items_of seed scale = length-map-range_with_len (item_row seed scale) 1 scale.items
 

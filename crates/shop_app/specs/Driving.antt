@@ -11,9 +11,10 @@ use Rattle.shop_model.specs.population.Population.{populated}
 use Rattle.shop_history.specs.Lawful.{IsLawful}
 use Rattle.shop_book.specs.Books.{BookValue}
 use Rattle.shop_browsers.specs.Browsers.{BrowserState, new_browser}
+use Rattle.shop_engine.specs.Lists.{IsFreshIn}
 use Rattle.shop_engine.specs.Steps.{plain_point}
 use Rattle.shop_drive.specs.declared.tally.Tally.{Tally}
-use Rattle.shop_drive.specs.Drives.{Drove, StoppedAmid}
+use Rattle.shop_drive.specs.Drives.{AreFresh, Drove, StoppedAmid, points_of}
 use Rattle.shop_drive.specs.Turns.{Stage}
 use Rattle.shop_text.specs.declared.memory.Memory.{Memory}
 use Rattle.shop_words.specs.declared.command.Drive.{Drive}
@@ -42,7 +43,7 @@ abbrev pub outside_of : Run → Outside
 outside_of run = record { clock = run.clock; told = run.told; failures = run.failures }
 
 -- the browsers took all their turns over the shop of the words: no settle was stale, the log is lawful, and it is what
--- the changes made, each with its moment as its stamp. The lines tell how the requests went, what the log came to, and
+-- the changes made, each with its moment as its stamp; each list that was kept is fresh of it. The lines tell how the requests went, what the log came to, and
 -- how many charges were approved in these turns for which no order came
 pub record DroveTo (drive : Drive) (old new : Outside) (lines : List ℕ) : Type 0 where
   pub after : Stage
@@ -52,20 +53,22 @@ pub record DroveTo (drive : Drive) (old new : Outside) (lines : List ℕ) : Type
   pub failed : after.failures ≡ new.failures
   pub kept : old.failures ≤ new.failures
   pub told : Answered old.told new.told (flat_map (λ t. t.step.answers) drove.turns)
-  pub alone : All (λ p. (p ≡ plain_point) ⊎ IsAtOnce p) (map (λ t. t.step.point) drove.turns)
+  pub alone : All (λ p. (p ≡ plain_point) ⊎ IsAtOnce p) (points_of drove.turns)
   pub lawful : IsLawful (populated drive.shop.seed drive.shop.scale) after.worker.seat.seen
   pub log : after.worker.seat.seen ≡ flat_map (λ t. t.step.made) drove.turns
-  pub stamps : map (λ e. e.stamp) after.worker.seat.seen ≡ moments_of (map (λ t. t.step.point) drove.turns)
+  pub fresh : All (IsFreshIn after.worker.seat.seen) (points_of drove.turns)
+  pub stamps : map (λ e. e.stamp) after.worker.seat.seen ≡ moments_of (points_of drove.turns)
   pub book : BookValue
   pub opened : book.opening.tables ≡ populated drive.shop.seed drive.shop.scale
   pub entries : book.log ≡ after.worker.seat.seen
   pub printed : lines ≡ drive_lines tally (firsts (flat_map (λ t. t.step.answers) drove.turns)) book
 
--- browsers were driven from one stage to another, and these were the first answers among all that the gateway gave; or
--- memory ran out
-abbrev pub NotedAs : List Answer → Stage → Stage → ℕ → Result Driven Memory → Type 0
-NotedAs all from to steps (Ok driven) = Drove from to steps driven.tally × (driven.answers ≡ firsts all)
-NotedAs all from to steps (Err memory) = StoppedAmid from to steps
+-- browsers were driven from one stage to another, where the store keeps these marks, and these were the first answers
+-- among all that the gateway gave; or memory ran out
+abbrev pub NotedAs : (ℕ → ℕ → Type 0) → List Answer → Stage → Stage → ℕ → Result Driven Memory → Type 0
+NotedAs marked all from to steps (Ok driven) =
+    (drove : Drove from to steps driven.tally) × AreFresh marked to drove.turns × (driven.answers ≡ firsts all)
+NotedAs marked all from to steps (Err memory) = StoppedAmid from to steps
 
 -- the browsers were driven, and the lines tell of it over this book
 abbrev pub TellsOf : Result Driven Memory → BookValue → List ℕ → Type 0

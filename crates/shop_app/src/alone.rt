@@ -20,8 +20,8 @@ use std::sync::Arc;
 /// The caller of a session.
 const CALLER: u32 = 1;
 
-/// How many changes the log of the shop holds.
-const LIMIT: u64 = 1_000_000;
+/// How many changes the log of a shop holds.
+pub(crate) const LIMIT: u64 = 1_000_000;
 
 /// Does what the words say, for one caller, over the shop that the options choose, whose payments the gateway takes:
 /// `session` serves one connection from the source to the sink, and `drive` has browsers ask, and prints a summary to
@@ -66,7 +66,7 @@ fn run<S: Source, K: Sink, C: Clock, G: Gateway>(
         result }
 {
     match command_of(alloc, words) {
-        Parsed::Command(command) => obey(alloc, command, source, sink, clock, gateway),
+        Parsed::Good(command) => obey(alloc, command, source, sink, clock, gateway),
         Parsed::Bad => Status::BadWords,
         Parsed::Memory => Status::Memory,
     }

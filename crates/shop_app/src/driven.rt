@@ -3,7 +3,7 @@ ghost use Rattle.std.specs.Prelude.{◌≡◌, ◌≢◌, ◌≤◌, ℕ, List, 
 ghost use Rattle.shop_edges.specs.Gateways.{Answered};
 ghost use Rattle.shop_edges.specs.declared.gateway.Answer.{Answer as AnswerValue};
 ghost use Rattle.shop_history.specs.Lawful.{IsLawful};
-ghost use Rattle.shop_book.specs.Solos.{seat_of};
+ghost use Rattle.shop_book.specs.Solos.{marks_of, seat_of};
 ghost use Rattle.shop_engine.specs.Workers.{standing};
 ghost use Rattle.shop_drive.specs.Drives.{Drives};
 ghost use Rattle.shop_app.specs.Driving as spec;
@@ -65,7 +65,7 @@ fn drive_noting<'a, C: Clock, G: Gateway, T: Told>(
     requires told { G.answers gateway.old ≡ T.told }
     ensures name { result.gateway.ghost_name ≡ gateway.entry.ghost_name }
     ensures driven { (all : List AnswerValue) × Answered (G.answers gateway.old) (G.answers result.gateway.now) all
-        × spec.NotedAs all (record { worker = standing seat_of worker.old (C.readings clock.old) (Some []); browsers = browsers.old; failures = G.faults gateway.old })
+        × spec.NotedAs (marks_of worker.new.store) all (record { worker = standing seat_of worker.old (C.readings clock.old) (Some []); browsers = browsers.old; failures = G.faults gateway.old })
         (record { worker = standing seat_of worker.new (C.readings clock.new) (Some all); browsers = browsers.new; failures = G.faults result.gateway.now })
         steps result.outcome }
     ensures lawful { IsLawful (seat_of worker.new.store).opening (seat_of worker.new.store).seen }
@@ -93,7 +93,7 @@ fn drive_noted<C: Clock, G: Gateway>(
     steps: u32,
 ) -> Result<Driven, Memory>
     ensures driven { (all : List AnswerValue) × Answered (G.answers gateway.old) (G.answers gateway.new) all
-        × spec.NotedAs all (record { worker = standing seat_of worker.old (C.readings clock.old) (Some []); browsers = browsers.old; failures = G.faults gateway.old })
+        × spec.NotedAs (marks_of worker.new.store) all (record { worker = standing seat_of worker.old (C.readings clock.old) (Some []); browsers = browsers.old; failures = G.faults gateway.old })
         (record { worker = standing seat_of worker.new (C.readings clock.new) (Some all); browsers = browsers.new; failures = G.faults gateway.new })
         steps result }
     ensures lawful { IsLawful (seat_of worker.new.store).opening (seat_of worker.new.store).seen }

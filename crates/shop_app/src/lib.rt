@@ -3,9 +3,12 @@
 
 mod alone;
 mod driven;
+mod raced;
+mod shared;
 mod status;
 mod summary;
 
 pub use alone::{first_worker, run_alone};
+pub use shared::run_shared;
 pub use status::Status;
 pub use summary::authorised_only;

@@ -11,6 +11,8 @@ pub enum Status {
     ReadFault,
     /// The sink failed.
     WriteFault,
+    /// A job could not be started.
+    WorkerFault,
     /// Memory ran out.
     Memory,
 }
@@ -29,6 +31,7 @@ impl Status {
             Status::BadWords => 2,
             Status::ReadFault => 3,
             Status::WriteFault => 4,
+            Status::WorkerFault => 6,
             Status::Memory => 7,
         }
     }
@@ -43,6 +46,7 @@ impl Status {
             Status::BadWords => b"tpcw: bad words\n",
             Status::ReadFault => b"tpcw: read fault\n",
             Status::WriteFault => b"tpcw: write fault\n",
+            Status::WorkerFault => b"tpcw: worker fault\n",
             Status::Memory => b"tpcw: out of memory\n",
         }
     }

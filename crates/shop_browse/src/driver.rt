@@ -105,40 +105,6 @@ fn looked(ask: &Ask, reads: Vec<ReadOf>) -> Attempt
     }
 }
 
-fn drive<St: Store, I: Interaction + Drop>(
-    alloc: Global,
-    store: &mut St,
-    ask: &Ask,
-    interaction: I,
-    draft: &mut Draft,
-) -> Result<Attempted, Memory>
-    requires begins { I.follows interaction ask.now 0 [] }
-    requires suits { Suits ask.now (St.seat store.old) }
-    ensures looks { Looks St.seat St.marked store.old store.new }
-    ensures attempted { IfOk result (AttemptedAs (St.seat store.old) (St.seat store.new) (asking_of ask.now (I.request interaction)) draft.new) }
-{
-    let mut interaction = interaction;
-    let mut reads = Vec::with_capacity(alloc, READS)?;
-    for round in 0..ROUNDS {
-        match interaction.next(alloc, ask, round, &reads, draft)? {
-            Next::ReadOne(key) => read_one(store, &mut reads, key)?,
-            Next::Read(keys) => read_all(store, &mut reads, keys)?,
-            Next::Show => return Ok(Attempted::Ready(looked(ask, reads))),
-            Next::ShowList(lines) => return Ok(Attempted::Listed(looked(ask, reads), lines)),
-            Next::Change(act, writes) => {
-                return Ok(Attempted::Ready(Attempt {
-                    writes: Some(writes),
-                    act: Some(act),
-                    ..looked(ask, reads)
-                }));
-            }
-            Next::Pay => return Ok(Attempted::Pay(looked(ask, reads))),
-            Next::Never => return Ok(Attempted::Contradiction(looked(ask, reads))),
-        }
-    }
-    unreachable!()
-}
-
 /// An attempt at an interaction, which writes its page into the draft.
 pub fn attempt_by<St: Store, I: Interaction + Drop>(
     alloc: Global,
@@ -152,8 +118,37 @@ pub fn attempt_by<St: Store, I: Interaction + Drop>(
     ensures looks { Looks St.seat St.marked store.old store.new }
     ensures attempted { AttemptedAs (St.seat store.old) (St.seat store.new) (asking_of ask.now (I.request interaction)) draft.new result }
 {
-    match drive(alloc, store, ask, interaction, draft) {
-        Ok(attempted) => attempted,
-        Err(Memory) => Attempted::Memory,
+    let mut interaction = interaction;
+    let Ok(mut reads) = Vec::with_capacity(alloc, READS) else {
+        return Attempted::Memory;
+    };
+    for round in 0..ROUNDS {
+        let Ok(next) = interaction.next(alloc, ask, round, &reads, draft) else {
+            return Attempted::Memory;
+        };
+        match next {
+            Next::ReadOne(key) => {
+                let Ok(()) = read_one(store, &mut reads, key) else {
+                    return Attempted::Memory;
+                };
+            }
+            Next::Read(keys) => {
+                let Ok(()) = read_all(store, &mut reads, keys) else {
+                    return Attempted::Memory;
+                };
+            }
+            Next::Show => return Attempted::Ready(looked(ask, reads)),
+            Next::ShowList(lines) => return Attempted::Listed(looked(ask, reads), lines),
+            Next::Change(act, writes) => {
+                return Attempted::Ready(Attempt {
+                    writes: Some(writes),
+                    act: Some(act),
+                    ..looked(ask, reads)
+                });
+            }
+            Next::Pay => return Attempted::Pay(looked(ask, reads)),
+            Next::Never => return Attempted::Contradiction(looked(ask, reads)),
+        }
     }
+    unreachable!()
 }

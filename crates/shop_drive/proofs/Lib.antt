@@ -1,1 +1,2 @@
 mod TurnLemmas
+pub mod cited

@@ -4,9 +4,13 @@ use Rattle.std.specs.List.{concat, range_with_len}
 use Rattle.std.specs.Prelude.{IsErr, flat_map, sum_by, count_by}
 use Rattle.std.specs.Str.{bytes_eq}
 use Rattle.std.proofs.lemmas.List.{map-append, length-set, replicate_more, replicate-append-replicate}
+use Rattle.std.proofs.lemmas.List.Elements.{All-nil}
 use Rattle.std.proofs.lemmas.List.Folds.{concat-append}
 use Rattle.std.proofs.lemmas.List.Sums.{sum_by-append, sum_by-cons}
 use Rattle.shop_text.specs.declared.memory.Memory.{Memory}
+use Rattle.shop_attempt.specs.Marks.{KeepsMarks}
+use Rattle.shop_attempt.specs.Seats.{Follows}
+use Rattle.shop_attempt.proofs.cited.Looks.{follows_trans}
 use Rattle.shop_edges.specs.Gateways.{Answered}
 use Rattle.shop_edges.proofs.cited.Answering.{answered_nothing}
 use Rattle.shop_message.specs.Messages.{AreMessages, Between}
@@ -23,13 +27,15 @@ use Rattle.shop_browsers.specs.Requests.{message_bytes}
 use Rattle.shop_browsers.specs.Shown.{Shows, after_page}
 use Rattle.shop_engine.specs.Seats.{Stays}
 use Rattle.shop_engine.specs.Failures.{RoseBy, failures_as}
+use Rattle.shop_engine.specs.Lists.{IsFreshPoint}
 use Rattle.shop_engine.specs.Steps.{Answers, Step, IsStep, IsStepFor, GivesUp, form_of}
 use Rattle.shop_engine.specs.declared.report.Point.{Point}
 use Rattle.shop_engine.specs.Workers.{Standing}
+use Rattle.shop_engine.proofs.KeptLemmas.{points_more}
 use Rattle.shop_engine.proofs.Seats.{stays_same}
 use Rattle.shop_engine.proofs.cited.Stepping.{step_last, stays_then, told_then}
 use Rattle.shop_drive.specs.declared.tally.Tally.{Tally}
-use Rattle.shop_drive.specs.Drives.{Drives, Drove, StoppedAmid, in_turn, places_of}
+use Rattle.shop_drive.specs.Drives.{AreFresh, Drives, StoppedAmid, in_turn, places_of, points_of}
 use Rattle.shop_drive.specs.Tallies.{counted, no_requests, tally_of}
 use Rattle.shop_drive.specs.Turns.{Pair, Stage, Turn, Asks, IsTurn, AreTurns, TurnAs, is_page, pair_at}
 
@@ -43,11 +49,11 @@ pub page_shown : (last : Bool) (from to : Standing) (step : Step) → IsStep las
 page_shown last from to step is = shown_for (form_of step.message last) from to step (asked step.message) is
 
 -- a browser asked, was answered, and took what the reply shows
-pub turn_taken : (from to : Pair) (mid : BrowserState) (message : Message) (point : Point) (bytes : List ℕ) → Answers false from.worker to.worker message point bytes
+pub turn_taken : (marked : ℕ → ℕ → Type 0) (from to : Pair) (mid : BrowserState) (message : Message) (point : Point) (bytes : List ℕ) → Answers false from.worker to.worker message point bytes
     → AreMessages (message_bytes from.browser) (message ∷ []) Between → message.method ≡ codes "GET" → mid ≡ after_request from.browser
-    → RoseBy from.failures (failures_as point.kind) to.failures → ((p : Page) → Shows bytes p → to.browser ≡ after_page mid p)
-    → (step : Step) × (page : Page) × Asks from to step page × (step.reply ≡ bytes)
-turn_taken from to mid message point bytes (made, answers, is) asks get goes rose takes =
+    → RoseBy from.failures (failures_as point.kind) to.failures → ((p : Page) → Shows bytes p → to.browser ≡ after_page mid p) → IsFreshPoint marked to.worker.seat.seen point
+    → (step : Step) × (page : Page) × Asks from to step page × (step.reply ≡ bytes) × IsFreshPoint marked to.worker.seat.seen step.point
+turn_taken marked from to mid message point bytes (made, answers, is) asks get goes rose takes fresh =
     let step : Step = record { message = message; point = point; made = made; answers = answers; reply = bytes } in
     let shown = page_shown false from.worker to.worker step is in (
       step,
@@ -60,6 +66,7 @@ turn_taken from to mid message point bytes (made, answers, is) asks get goes ros
         taken = takes shown.0 (inr (form_of message false, ap (λ m. bytes_eq m (codes "HEAD")) get, shown.1)) ∙ ap (λ b. after_page b shown.0) goes;
       },
       refl,
+      fresh,
     )
 
 -- what turns leave together
@@ -122,23 +129,26 @@ found_at (first ∷ browsers) zero other within = refl
 found_at (first ∷ browsers) (suc place) other within = found_at browsers place other (omega (arith, within))
 
 -- these turns were taken so far, at these places, and this is how they went
-pub record SoFar (from now : Stage) (tally : Tally) (places : List ℕ) : Type 0 where
+pub record SoFar (marked : ℕ → ℕ → Type 0) (from now : Stage) (tally : Tally) (places : List ℕ) : Type 0 where
   pub turns : List Turn
   pub run : AreTurns from turns now
+  pub fresh : AreFresh marked now turns
   pub order : places_of turns ≡ places
   pub counts : tally ≡ tally_of turns
 
-pub nothing_yet : (from : Stage) (tally : Tally) → tally ≡ no_requests → SoFar from from tally []
-nothing_yet from tally none = record { turns = []; run = refl; order = refl; counts = none }
+pub nothing_yet : (marked : ℕ → ℕ → Type 0) (from : Stage) (tally : Tally) → tally ≡ no_requests → SoFar marked from from tally []
+nothing_yet marked from tally none = record { turns = []; run = refl; fresh = All-nil (IsFreshPoint marked from.worker.seat.seen); order = refl; counts = none }
 
-pub one_more : (from now to : Stage) (tally : Tally) (places : List ℕ) (place : ℕ) (before after : BrowserState) (good : Bool) → SoFar from now tally places
-    → slice_get now.browsers place ≡ Some before → TurnAs (pair_at now before) (pair_at to after) (Ok good) → to.browsers ≡ slice_set now.browsers place after
-    → SoFar from to (counted tally good) (places ++ place ∷ [])
-one_more from now to tally places place before after good so_far there (step, page, asks, is) others =
+pub one_more : (marked marked' : ℕ → ℕ → Type 0) (from now to : Stage) (tally : Tally) (places : List ℕ) (place : ℕ) (before after : BrowserState) (good : Bool) → SoFar marked from now tally places
+    → slice_get now.browsers place ≡ Some before → TurnAs marked' (pair_at now before) (pair_at to after) (Ok good) → to.browsers ≡ slice_set now.browsers place after
+    → KeepsMarks marked marked' now.worker.seat to.worker.seat → SoFar marked' from to (counted tally good) (places ++ place ∷ [])
+one_more marked marked' from now to tally places place before after good so_far there (step, page, asks, is, fresh) others keeps =
     let turn : Turn = record { place = place; step = step; page = page } in
     record {
       turns = so_far.turns ++ turn ∷ [];
       run = turns_one from now to so_far.turns turn so_far.run (record { before = before; after = after; there = there; asks = asks; others = others });
+      fresh = points_more now.worker.seat to.worker.seat marked marked' (points_of so_far.turns) (points_of so_far.turns) (points_of (so_far.turns ++ turn ∷ [])) step.point keeps fresh refl
+          (map-append (λ (t : Turn). t.step.point) so_far.turns (turn ∷ [])) so_far.fresh;
       order = map-append (λ (t : Turn). t.place) so_far.turns (turn ∷ []) ∙ ap (λ (l : List ℕ). l ++ place ∷ []) so_far.order;
       counts = ap (λ (t : Tally). counted t good) so_far.counts ∙ tally_more so_far.turns turn good is;
     }
@@ -196,20 +206,24 @@ places_left count steps round place early inside =
     ∙ sym (append_assoc (in_turn count round) before (behind ++ in_turn count left))
 
 -- all turns were taken
-pub all_taken : (from to : Stage) (steps round : ℕ) (tally : Tally) → SoFar from to tally (in_turn (length from.browsers) round) → round ≡ steps → Drove from to steps tally
-all_taken from to steps round tally so_far all = record {
-  turns = so_far.turns;
-  run = so_far.run;
-  order = so_far.order ∙ ap (in_turn (length from.browsers)) all;
-  stays = stays_of from to so_far.turns so_far.run;
-  asked = told_of from to so_far.turns so_far.run;
-  counts = so_far.counts;
-}
+pub all_taken : (marked : ℕ → ℕ → Type 0) (from to : Stage) (steps round : ℕ) (tally : Tally) → SoFar marked from to tally (in_turn (length from.browsers) round) → round ≡ steps
+    → Drives marked from to steps (Ok tally)
+all_taken marked from to steps round tally so_far all = (
+  record {
+    turns = so_far.turns;
+    run = so_far.run;
+    order = so_far.order ∙ ap (in_turn (length from.browsers)) all;
+    stays = stays_of from to so_far.turns so_far.run;
+    asked = told_of from to so_far.turns so_far.run;
+    counts = so_far.counts;
+  },
+  so_far.fresh,
+)
 
 -- memory ran out in a turn
-pub stopped : (from now to : Stage) (steps round place : ℕ) (tally : Tally) → SoFar from now tally (in_turn (length from.browsers) round ++ range_with_len 0 place)
+pub stopped : (marked : ℕ → ℕ → Type 0) (from now to : Stage) (steps round place : ℕ) (tally : Tally) → SoFar marked from now tally (in_turn (length from.browsers) round ++ range_with_len 0 place)
     → round < steps → place < length from.browsers → GivesUp now.worker to.worker → StoppedAmid from to steps
-stopped from now to steps round place tally so_far early inside gave = record {
+stopped marked from now to steps round place tally so_far early inside gave = record {
   turns = so_far.turns;
   mid = now;
   run = so_far.run;
@@ -224,10 +238,16 @@ stopped from now to steps round place tally so_far early inside gave = record {
 differ : false ≡ true → ⊥
 differ e = cc
 
-pub turn_failed : (from to : Pair) (result : Result Bool Memory) → IsErr result → GivesUp from.worker to.worker → TurnAs from to result
-turn_failed from to (Ok good) failed gave = absurd (differ failed)
-turn_failed from to (Err memory) failed gave = gave
+pub turn_failed : (marked : ℕ → ℕ → Type 0) (from to : Pair) (result : Result Bool Memory) → IsErr result → GivesUp from.worker to.worker → TurnAs marked from to result
+turn_failed marked from to (Ok good) failed gave = absurd (differ failed)
+turn_failed marked from to (Err memory) failed gave = gave
 
-pub drive_failed : (from to : Stage) (steps : ℕ) (result : Result Tally Memory) → IsErr result → StoppedAmid from to steps → Drives from to steps result
-drive_failed from to steps (Ok tally) failed amid = absurd (differ failed)
-drive_failed from to steps (Err memory) failed amid = amid
+pub drive_failed : (marked : ℕ → ℕ → Type 0) (from to : Stage) (steps : ℕ) (result : Result Tally Memory) → IsErr result → StoppedAmid from to steps → Drives marked from to steps result
+drive_failed marked from to steps (Ok tally) failed amid = absurd (differ failed)
+drive_failed marked from to steps (Err memory) failed amid = amid
+
+-- whatever came of it, the seat follows
+pub drives_follow : (marked : ℕ → ℕ → Type 0) (from to : Stage) (steps : ℕ) (result : Result Tally Memory) → Drives marked from to steps result → Follows from.worker.seat to.worker.seat
+drives_follow marked from to steps (Ok tally) (drove, fresh) = drove.stays.follows
+drives_follow marked from to steps (Err memory) amid =
+    follows_trans from.worker.seat amid.mid.worker.seat to.worker.seat (stays_of from amid.mid amid.turns amid.run).follows amid.gave.stays.follows

@@ -1,9 +1,11 @@
 -- What driving browsers over a worker comes to.
-use Rattle.std.specs.Prelude.{◌≡◌, ℕ, List, ◌++◌, length, map, flat_map, sum_by, replicate, Result, Ok, Err}
+use Rattle.std.specs.Prelude.{◌≡◌, ℕ, max, List, [], ◌∷◌, ◌++◌, length, map, flat_map, sum_by, replicate, All, Result, Ok, Err}
 use Rattle.std.specs.List.{concat, range_with_len}
 use Rattle.shop_text.specs.declared.memory.Memory.{Memory}
 use Rattle.shop_edges.specs.Gateways.{Answered}
+use Rattle.shop_engine.specs.Lists.{IsFreshPoint}
 use Rattle.shop_engine.specs.Seats.{Stays}
+use Rattle.shop_engine.specs.declared.report.Point.{Point}
 use Rattle.shop_engine.specs.Steps.{GivesUp}
 use Rattle.shop_drive.specs.declared.tally.Tally.{Tally}
 use Rattle.shop_drive.specs.Tallies.{tally_of}
@@ -15,6 +17,18 @@ in_turn count steps = concat (replicate steps (range_with_len 0 count))
 
 abbrev pub places_of : List Turn → List ℕ
 places_of turns = map (λ t. t.place) turns
+
+abbrev pub points_of : List Turn → List Point
+points_of turns = map (λ t. t.step.point) turns
+
+-- the greatest moment of points, 0 where there is none
+abbrev pub greatest_moment : List Point → ℕ
+greatest_moment [] = 0
+greatest_moment (point ∷ points) = max point.moment (greatest_moment points)
+
+-- each list that was kept is fresh, by what the store marks behind the last turn
+abbrev pub AreFresh : (ℕ → ℕ → Type 0) → Stage → List Turn → Type 0
+AreFresh marked to turns = All (IsFreshPoint marked to.worker.seat.seen) (points_of turns)
 
 -- all turns were taken, in order. They made these entries of the caller by so many settles, the gateway tells what it
 -- was asked in them, and said, and this is how they went
@@ -35,6 +49,7 @@ pub record StoppedAmid (from to : Stage) (steps : ℕ) : Type 0 where
   pub order : in_turn (length from.browsers) steps ≡ places_of turns ++ left
   pub gave : GivesUp mid.worker to.worker
 
-abbrev pub Drives : Stage → Stage → ℕ → Result Tally Memory → Type 0
-Drives from to steps (Ok tally) = Drove from to steps tally
-Drives from to steps (Err memory) = StoppedAmid from to steps
+-- by what the store marks behind it
+abbrev pub Drives : (ℕ → ℕ → Type 0) → Stage → Stage → ℕ → Result Tally Memory → Type 0
+Drives marked from to steps (Ok tally) = (drove : Drove from to steps tally) × AreFresh marked to drove.turns
+Drives marked from to steps (Err memory) = StoppedAmid from to steps

@@ -9,6 +9,7 @@ use Rattle.shop_browsers.specs.Browsers.{BrowserState, after_request}
 use Rattle.shop_browsers.specs.Requests.{message_bytes}
 use Rattle.shop_browsers.specs.Shown.{after_page}
 use Rattle.shop_engine.specs.Failures.{RoseBy, failures_as}
+use Rattle.shop_engine.specs.Lists.{IsFreshPoint}
 use Rattle.shop_engine.specs.Steps.{Step, IsStep, GivesUp, form_of}
 use Rattle.shop_engine.specs.Workers.{Standing}
 
@@ -31,10 +32,11 @@ pub record Asks (from to : Pair) (step : Step) (page : Page) : Type 0 where
 abbrev pub is_page : List ℕ → Bool
 is_page reply = starts_with nat_eq reply (codes "HTTP/1.1 200 ")
 
--- what came of a browser's turn
-abbrev pub TurnAs : Pair → Pair → Result Bool Memory → Type 0
-TurnAs from to (Ok good) = (step : Step) × (page : Page) × Asks from to step page × (good ≡ is_page step.reply)
-TurnAs from to (Err memory) = GivesUp from.worker to.worker
+-- what came of a browser's turn; a list that was kept is fresh by what the store marks after it
+abbrev pub TurnAs : (ℕ → ℕ → Type 0) → Pair → Pair → Result Bool Memory → Type 0
+TurnAs marked from to (Ok good) =
+    (step : Step) × (page : Page) × Asks from to step page × (good ≡ is_page step.reply) × IsFreshPoint marked to.worker.seat.seen step.point
+TurnAs marked from to (Err memory) = GivesUp from.worker to.worker
 
 -- where a worker and all browsers stand
 pub record Stage : Type 0 where

@@ -1,5 +1,6 @@
 ghost use Rattle.std.specs.Prelude.{◌≡◌, ◌≤◌};
 ghost use Rattle.shop_attempt.specs.Marks.{KeepsMarks};
+ghost use Rattle.shop_attempt.specs.Seats.{Follows};
 ghost use Rattle.shop_engine.specs.Workers.{standing};
 ghost use Rattle.shop_history.specs.Lawful.{IsLawful};
 ghost use Rattle.shop_drive.specs.Drives.{Drives};
@@ -24,10 +25,11 @@ pub fn drive<St: Store, C: Clock, G: Gateway>(
     browsers: &mut [Browser],
     steps: u32,
 ) -> Result<Tally, Memory>
-    ensures drives { Drives (record { worker = standing St.seat worker.old (C.readings clock.old) (G.answers gateway.old); browsers = browsers.old; failures = G.faults gateway.old })
+    ensures drives { Drives (St.marked worker.new.store) (record { worker = standing St.seat worker.old (C.readings clock.old) (G.answers gateway.old); browsers = browsers.old; failures = G.faults gateway.old })
         (record { worker = standing St.seat worker.new (C.readings clock.new) (G.answers gateway.new); browsers = browsers.new; failures = G.faults gateway.new })
         steps result }
     ensures caller { worker.new.caller ≡ worker.old.caller }
+    ensures follows { Follows (St.seat worker.old.store) (St.seat worker.new.store) }
     ensures lawful { IsLawful (St.seat worker.new.store).opening (St.seat worker.new.store).seen }
     ensures marks { KeepsMarks (St.marked worker.old.store) (St.marked worker.new.store) (St.seat worker.old.store) (St.seat worker.new.store) }
     ensures later { G.faults gateway.old ≤ G.faults gateway.new }
@@ -47,7 +49,7 @@ fn take_turns<St: Store, C: Clock, G: Gateway>(
     browsers: &mut [Browser],
     steps: u32,
 ) -> Result<Tally, Memory>
-    ensures drives { Drives (record { worker = standing St.seat worker.old (C.readings clock.old) (G.answers gateway.old); browsers = browsers.old; failures = G.faults gateway.old })
+    ensures drives { Drives (St.marked worker.new.store) (record { worker = standing St.seat worker.old (C.readings clock.old) (G.answers gateway.old); browsers = browsers.old; failures = G.faults gateway.old })
         (record { worker = standing St.seat worker.new (C.readings clock.new) (G.answers gateway.new); browsers = browsers.new; failures = G.faults gateway.new })
         steps result }
     ensures caller { worker.new.caller ≡ worker.old.caller }
@@ -73,7 +75,7 @@ fn take_turn<St: Store, C: Clock, G: Gateway>(
     gateway: &mut G,
     browser: &mut Browser,
 ) -> Result<bool, Memory>
-    ensures turn { TurnAs (record { worker = standing St.seat worker.old (C.readings clock.old) (G.answers gateway.old); browser = browser.old; failures = G.faults gateway.old })
+    ensures turn { TurnAs (St.marked worker.new.store) (record { worker = standing St.seat worker.old (C.readings clock.old) (G.answers gateway.old); browser = browser.old; failures = G.faults gateway.old })
         (record { worker = standing St.seat worker.new (C.readings clock.new) (G.answers gateway.new); browser = browser.new; failures = G.faults gateway.new })
         result }
     ensures caller { worker.new.caller ≡ worker.old.caller }

@@ -3,7 +3,7 @@ ghost use Rattle.std.specs.Prelude.{◌≡◌};
 use crate::{BytesIn, BytesOut, Sink, Source};
 
 /// The side of a link that bytes come from.
-pub trait LinkIn: Source + Send + Drop + 'static {
+pub trait LinkIn: Source {
     /// Lets the link go: a read after it may fail.
     fn end(&mut self)
         ensures left { Self.left self.new ≡ Self.left self.old }
@@ -11,7 +11,7 @@ pub trait LinkIn: Source + Send + Drop + 'static {
 }
 
 /// The side of a link that bytes go to.
-pub trait LinkOut: Sink + Send + Drop + 'static {
+pub trait LinkOut: Sink {
     /// Lets the link go: a write after it may fail.
     fn end(&mut self)
         ensures held { Self.held self.new ≡ Self.held self.old }

@@ -7,12 +7,12 @@ use std::rt;
 ///
 /// Trusted: that the system's clock tells the time.
 #[derive(Drop)]
-pub struct SystemClock<T: rt::Clock + Copy + Send + 'static> {
+pub struct SystemClock<T: rt::Clock + Copy> {
     system: T,
     last: u64,
 }
 
-impl<T: rt::Clock + Copy + Send + 'static> Model for SystemClock<T> {
+impl<T: rt::Clock + Copy> Model for SystemClock<T> {
     ghost use Rattle.std.specs.Prelude.{ℕ};
 
     ghost Value = { ℕ };
@@ -20,7 +20,7 @@ impl<T: rt::Clock + Copy + Send + 'static> Model for SystemClock<T> {
     ghost view = { λ c. c.last };
 }
 
-impl<T: rt::Clock + Copy + Send + 'static> SystemClock<T> {
+impl<T: rt::Clock + Copy> SystemClock<T> {
     ghost use Rattle.std.specs.Prelude.{◌≡◌};
 
     pub fn new(system: T) -> SystemClock<T>
@@ -30,7 +30,7 @@ impl<T: rt::Clock + Copy + Send + 'static> SystemClock<T> {
     }
 }
 
-impl<T: rt::Clock + Copy + Send + 'static> Clock for SystemClock<T> {
+impl<T: rt::Clock + Copy> Clock for SystemClock<T> {
     ghost use Rattle.std.specs.Prelude.{◌≡◌, None};
 
     ghost readings = { λ _. None };

@@ -1,5 +1,5 @@
 -- Lists that a worker keeps: they stay so, one is shown again, and one that was read is kept.
-use Rattle.std.proofs.Common.{◌≡◌, ℕ, ◌+◌, ◌≤◌, List, [], ◌∷◌, ◌++◌, length, length-append, take, All, Option, Some, None, IsSome, refl, sym, ◌∙◌, ap, subst, arith}
+use Rattle.std.proofs.Common.{◌≡◌, ℕ, ◌+◌, ◌≤◌, List, [], ◌∷◌, ◌++◌, length, length-append, take, false, All, Option, Some, None, IsSome, is_some, refl, sym, ◌∙◌, ap, subst, arith}
 use Rattle.std.proofs.lemmas.List.{take_all, take-append-le}
 use Rattle.std.proofs.lemmas.List.Elements.{All-contains, All-push, All-weaker}
 use Rattle.shop_model.specs.declared.page.Page.{Page}
@@ -116,6 +116,11 @@ page_there lines = by_list (λ r. (page : Page) × (page_by r lines ≡ Some pag
 
 none_asked : (call : Call) (request : Request) (key : ListKey) → key_asked request ≡ Some key → AreFor request call []
 none_asked call = by_list (λ r. AreFor r call []) (λ asked. refl) (λ asked. refl) (λ asked. refl)
+
+-- the test of a request for one
+pub none_listed : (key : Option ListKey) → is_some key ≡ false → key ≡ None
+none_listed None is = refl
+none_listed (Some key) is = absurd cc
 
 -- the list that is found
 

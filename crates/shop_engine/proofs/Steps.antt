@@ -15,6 +15,7 @@ use Rattle.shop_history.specs.declared.acts.Entry.{Entry}
 use Rattle.shop_history.specs.Lawful.{IsLawful}
 use Rattle.shop_history.proofs.cited.GoodTables.{sound_throughout}
 use Rattle.shop_cache.specs.declared.keys.ListKey.{ListKey}
+use Rattle.shop_cache.specs.Caches.{Entries}
 use Rattle.shop_cache.specs.Keys.{key_asked}
 use Rattle.shop_attempt.specs.Seats.{Seat, Follows, IsSeat}
 use Rattle.shop_http.specs.declared.requests.Refusal.{Refusal}
@@ -208,6 +209,13 @@ module _ {St : Type 0} (seat_of : St → Seat) (old inside new : WorkerState St)
         ),
         subst (λ (s : Seat). IsMarkedFresh marked s.seen front moment) (sym same) is.marked_is,
       )
+
+-- which lists are kept after a look, by itself
+pub looked_there : {St : Type 0} (accepted looked : WorkerState St) (key : Option ListKey)
+    → looked ≡ record { store = accepted.store; caller = accepted.caller; progress = accepted.progress; kept = looked.kept; reply = looked.reply } → looked.kept ≡ looked_for key accepted.kept
+    → looked ≡ record { store = accepted.store; caller = accepted.caller; progress = accepted.progress; kept = looked_for key accepted.kept; reply = looked.reply }
+looked_there {St} accepted looked key same kept =
+    same ∙ ap (λ (k : Entries). record { store = accepted.store; caller = accepted.caller; progress = accepted.progress; kept = k; reply = looked.reply }) kept
 
 -- after a request was accepted, and its list looked for
 pub looked_worker : {St : Type 0} (old accepted looked inside : WorkerState St) (moment call : ℕ) (key : Option ListKey)

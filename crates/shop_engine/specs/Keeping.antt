@@ -13,13 +13,17 @@ use Rattle.shop_attempt.specs.Seats.{Seat}
 use Rattle.shop_browse.specs.Lists.{page_by}
 use Rattle.shop_pages.specs.declared.reply.Form.{Form}
 use Rattle.shop_pages.specs.Replies.{reply}
-use Rattle.shop_engine.specs.Lists.{IsFresh, IsKept, IsMarkedFresh}
+use Rattle.shop_engine.specs.Lists.{IsFresh, IsKept, IsMarkedFresh, looked_for}
 use Rattle.shop_engine.specs.Workers.{WorkerState}
 
 -- the list of a key that is found at a moment, if a list is asked for
 abbrev pub found_for : Option ListKey → ℕ → Entries → Option Kept
 found_for None moment entries = None
 found_for (Some key) moment entries = found key moment entries
+
+-- after a look for one list at most
+abbrev pub IsLookedOnce : Entries → Entries → Type 0
+IsLookedOnce old new = (key : Option ListKey) × (new ≡ looked_for key old)
 
 -- a list that is kept, which was read at this front, was found for the request, and the reply is around its page, which
 -- is what the tables at that front show

@@ -20,7 +20,8 @@ use Rattle.shop_attempt.specs.declared.attempts.Conflict.{Conflict}
 use Rattle.shop_attempt.specs.Marks.{AreMarks}
 use Rattle.shop_attempt.specs.Reads.{Agrees}
 use Rattle.shop_attempt.specs.Seats.{Seat}
-use Rattle.shop_browse.specs.Attempts.{Asking, IsReady, asking_of}
+use Rattle.shop_browse.specs.declared.attempted.Attempted.{Attempted}
+use Rattle.shop_browse.specs.Attempts.{Asking, AttemptedAs, IsReady, asking_of}
 use Rattle.shop_browse.specs.Lists.{AreListed}
 use Rattle.shop_order.specs.Payments.{Call}
 use Rattle.shop_pages.specs.Replies.{reply}
@@ -146,6 +147,10 @@ pub record IsTried (old new : Trying) (job : Job) (bytes : List ℕ) (tried : Tr
   pub is : (before : List Answer) → HasAsked job before old.kept → TriedAs old.seat new.seat job (before ++ answers) bytes tried
 
 -- attempts that may be settled
+
+-- what was attempted, from some seat on
+abbrev pub WasAttempted : Seat → Asking → Draft → Attempted → Type 0
+WasAttempted now asking draft attempted = (start : Seat) × AttemptedAs start now asking draft attempted
 
 -- what is done, if anything, was paid in these tables
 abbrev pub IsPaidFor : Option Act → Tables → Call → List Answer → Type 0

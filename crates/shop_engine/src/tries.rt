@@ -3,11 +3,11 @@ ghost use Rattle.shop_model.specs.rows.Limits.{stamp_limit};
 ghost use Rattle.shop_edges.specs.Causes.{Rose};
 ghost use Rattle.shop_edges.specs.declared.gateway.Answer.{Answer as AnswerValue};
 ghost use Rattle.shop_attempt.specs.Marks.{KeepsMarks};
-ghost use Rattle.shop_attempt.specs.Seats.{IsSeat};
-ghost use Rattle.shop_browse.specs.Attempts.{Suits};
+ghost use Rattle.shop_attempt.specs.Seats.{Seat, IsSeat, Looked};
+ghost use Rattle.shop_browse.specs.Attempts.{AttemptedAs, Suits};
 ghost use Rattle.shop_pages.specs.Replies.{bytes_of};
 ghost use Rattle.shop_engine.specs.Failures.{RoseBy, failures_as};
-ghost use Rattle.shop_engine.specs.Tries.{IsTried, IsOutcome, IsGivenUp, LeavesListMark, LeavesMarkOf};
+ghost use Rattle.shop_engine.specs.Tries.{IsTried, IsOutcome, IsGivenUp, LeavesListMark, LeavesMarkOf, WasAttempted, asking_for};
 
 use crate::replies::refusal_reply;
 use crate::report::PointKind;
@@ -84,6 +84,37 @@ fn try_once<St: Store, G: Gateway>(
     ensures later { G.faults gateway.old ≤ G.faults gateway.new }
 {
     match attempt(alloc, store, &job.ask, job.request, reply.draft()) {
+        Attempted::Ready(attempt) => settle_page(store, job, attempt, reply),
+        other => try_other(alloc, store, job, other, reply, kept, gateway),
+    }
+}
+
+/// Settles an attempt at a list, or at a purchase, which is paid before. It stands apart, so that most
+/// requests make no room for it.
+#[inline(never)]
+fn try_other<St: Store, G: Gateway>(
+    alloc: Global,
+    store: &mut St,
+    job: &Job,
+    attempted: Attempted,
+    reply: &mut Reply,
+    kept: &mut Option<Answer>,
+    gateway: &mut G,
+) -> Tried
+    requires attempted { WasAttempted (St.seat store.old) (asking_for job.now) reply.old.draft attempted }
+    requires suits { Suits job.now.ask (St.seat store.old) }
+    requires caller { (St.seat store.old).caller ≡ job.now.caller }
+    requires moment { job.now.ask.moment ≤ stamp_limit }
+    ensures tried { (start : Seat) → Looked start (St.seat store.old) → IsSeat start → start.caller ≡ job.now.caller → AttemptedAs start (St.seat store.old) (asking_for job.now) reply.old.draft attempted
+        → IsTried (record { seat = start; kept = kept.old; told = G.answers gateway.old })
+        (record { seat = St.seat store.new; kept = kept.new; told = G.answers gateway.new })
+        job.now (bytes_of reply.new) result }
+    ensures marks { KeepsMarks (St.marked store.old) (St.marked store.new) (St.seat store.old) (St.seat store.new) }
+    ensures mark { LeavesListMark (St.marked store.new) (St.seat store.new).seen job.now.ask.moment result }
+    ensures failed { result ≡ Tried.Failed → Rose (G.faults gateway.old) (G.faults gateway.new) }
+    ensures later { G.faults gateway.old ≤ G.faults gateway.new }
+{
+    match attempted {
         Attempted::Ready(attempt) => settle_page(store, job, attempt, reply),
         Attempted::Listed(attempt, lines) => settle_list(store, job, attempt, lines, reply),
         Attempted::Pay(attempt) => {

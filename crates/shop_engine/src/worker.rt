@@ -1,4 +1,5 @@
-ghost use Rattle.std.specs.Prelude.{◌≡◌, IfOk, []};
+ghost use Rattle.std.specs.Prelude.{◌≡◌, IfOk, [], is_some};
+ghost use Rattle.shop_cache.specs.Keys.{key_asked};
 ghost use Rattle.std.specs.Arc.{arc_value};
 ghost use Rattle.shop_engine.specs.Steps as spec;
 ghost use Rattle.shop_engine.specs.Workers.{IsPosted, at_first};
@@ -65,6 +66,16 @@ fn form_of(message: &Message, last: bool) -> Form
     }
 }
 
+/// Whether a list is asked for.
+fn asks_list(request: &Request) -> bool
+    ensures { result ≡ is_some (key_asked request.now) }
+{
+    matches!(
+        request,
+        Request::NewProducts(_) | Request::BestSellers(_) | Request::SearchResults(_)
+    )
+}
+
 /// An accepted request: its moment, its number among the caller's, and its word.
 #[derive(Clone, Copy, Debug)]
 struct Accepted {
@@ -90,7 +101,7 @@ impl Accepted {
 }
 
 impl<St: Store> Worker<St> {
-    ghost use Rattle.std.specs.Prelude.{◌≡◌, ◌≤◌, min, max, [], IfOk, IfSome, IsSome, IsNone, OnOk, OnErr, option_copied};
+    ghost use Rattle.std.specs.Prelude.{◌≡◌, ◌≤◌, min, max, [], IfOk, IfSome, IsSome, IsNone, OnOk, OnErr};
     ghost use Rattle.shop_model.specs.rows.Limits.{stamp_limit};
     ghost use Rattle.shop_model.specs.asked.Refusals.{page_of};
     ghost use Rattle.shop_edges.specs.Causes.{count_up};
@@ -98,7 +109,7 @@ impl<St: Store> Worker<St> {
     ghost use Rattle.shop_attempt.specs.Marks.{KeepsMarks};
     ghost use Rattle.shop_cache.specs.Keys.{key_asked};
     ghost use Rattle.shop_pages.specs.Replies as replies;
-    ghost use Rattle.shop_engine.specs.Keeping.{IsAnsweredBy, KeepsLines, kept_now};
+    ghost use Rattle.shop_engine.specs.Keeping.{IsAnsweredBy, IsLookedOnce, KeepsLines, kept_now};
     ghost use Rattle.shop_engine.specs.Lists.{IsFreshPoint, looked_for};
     ghost use Rattle.shop_engine.specs.Failures.{RoseBy, failures_as};
     ghost use Rattle.shop_engine.specs.Steps.{Answers, AnswersRequest, GivesUp, draw_of};
@@ -221,10 +232,7 @@ impl<St: Store> Worker<St> {
         ensures later { G.faults gateway.old ≤ G.faults gateway.new }
     {
         let accepted = self.accept(clock.now());
-        let Ok(key) = ListKey::asked(alloc, request) else {
-            return None;
-        };
-        match self.answer_kept(key.as_ref(), request, form) {
+        match self.answer_kept(alloc, request, form) {
             Ok(Some(front)) => return Some(accepted.point(PointKind::List, front, 0)),
             Ok(None) => {}
             Err(Memory) => return None,
@@ -246,7 +254,7 @@ impl<St: Store> Worker<St> {
         let (store, reply) = (&mut self.store, &mut self.reply);
         let outcome = try_all(alloc, store, &job, reply, gateway)?;
         let (front, tries) = (outcome.front, outcome.tries);
-        let Ok(()) = self.keep(key, front, outcome.lines) else {
+        let Ok(()) = self.keep(alloc, request, front, outcome.lines) else {
             return None;
         };
         Some(accepted.point(outcome.kind, front, tries))
@@ -256,18 +264,40 @@ impl<St: Store> Worker<St> {
     /// tells the front of the list.
     fn answer_kept(
         &mut self,
-        key: Option<&ListKey>,
+        alloc: Global,
         request: &Request,
         form: Form,
     ) -> Result<Option<u64>, Memory>
-        requires { option_copied key ≡ key_asked request.now }
-        ensures found { IfOk result (IsAnsweredBy St.seat St.marked (option_copied key.entry) request.now form self.old self.new) }
-        ensures worker { self.new ≡ record { store = self.old.store; caller = self.old.caller; progress = self.old.progress; kept = looked_for (option_copied key.entry) self.old.kept; reply = self.new.reply } }
+        ensures found { IfOk result (IsAnsweredBy St.seat St.marked (key_asked request.now) request.now form self.old self.new) }
+        ensures looked { OnOk result (self.new.kept ≡ looked_for (key_asked request.now) self.old.kept) }
+        ensures refused { OnErr result (IsLookedOnce self.old.kept self.new.kept) }
+        ensures worker { self.new ≡ record { store = self.old.store; caller = self.old.caller; progress = self.old.progress; kept = self.new.kept; reply = self.new.reply } }
     {
-        let Some(key) = key else {
+        // Most requests ask for none, and make no room for its key.
+        if asks_list(request) {
+            self.answer_list(alloc, request, form)
+        } else {
+            Ok(None)
+        }
+    }
+
+    /// Answers by the list that is asked for, if it is kept, and young enough.
+    #[inline(never)]
+    fn answer_list(
+        &mut self,
+        alloc: Global,
+        request: &Request,
+        form: Form,
+    ) -> Result<Option<u64>, Memory>
+        ensures found { IfOk result (IsAnsweredBy St.seat St.marked (key_asked request.now) request.now form self.old self.new) }
+        ensures looked { OnOk result (self.new.kept ≡ looked_for (key_asked request.now) self.old.kept) }
+        ensures refused { OnErr result (IsLookedOnce self.old.kept self.new.kept) }
+        ensures worker { self.new ≡ record { store = self.old.store; caller = self.old.caller; progress = self.old.progress; kept = self.new.kept; reply = self.new.reply } }
+    {
+        let Some(key) = ListKey::asked(alloc, request)? else {
             return Ok(None);
         };
-        let Some(kept) = self.cache.look(key, self.last) else {
+        let Some(kept) = self.cache.look(&key, self.last) else {
             return Ok(None);
         };
         let front = kept.front;
@@ -278,17 +308,21 @@ impl<St: Store> Worker<St> {
     /// Keeps the lines of a list, if some were read, as of this front and the last moment.
     fn keep(
         &mut self,
-        key: Option<ListKey>,
+        alloc: Global,
+        request: &Request,
         front: u64,
         lines: Option<Listed<ListLine>>,
     ) -> Result<(), Memory>
-        requires { KeepsLines (St.seat self.old.store) (St.marked self.old.store) self.old.progress.last key front lines }
-        ensures kept { OnOk result (self.new.kept ≡ kept_now key front self.old.progress.last lines self.old.kept) }
+        requires { KeepsLines (St.seat self.old.store) (St.marked self.old.store) self.old.progress.last (key_asked request.now) front lines }
+        ensures kept { OnOk result (self.new.kept ≡ kept_now (key_asked request.now) front self.old.progress.last lines self.old.kept) }
         ensures refused { OnErr result (self.new.kept ≡ self.old.kept) }
         ensures some { OnErr result (IsSome lines) }
         ensures worker { self.new ≡ record { store = self.old.store; caller = self.old.caller; progress = self.old.progress; kept = self.new.kept; reply = self.old.reply } }
     {
-        let (Some(key), Some(lines)) = (key, lines) else {
+        let Some(lines) = lines else {
+            return Ok(());
+        };
+        let Some(key) = ListKey::asked(alloc, request)? else {
             return Ok(());
         };
         let kept = Kept {

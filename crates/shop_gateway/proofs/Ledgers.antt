@@ -4,12 +4,13 @@ use Rattle.std.specs.List.{find}
 use Rattle.std.specs.Option.{option_or, IfSome}
 use Rattle.std.proofs.lemmas.List.Folds.{find-append}
 use Rattle.std.proofs.lemmas.List.Quantifiers.{all_pairs_push}
+use Rattle.std.proofs.lemmas.List.Sums.{fold_push}
 use Rattle.shop_edges.specs.Charges.{ChargeValue}
 use Rattle.shop_edges.specs.declared.gateway.Answer.{Answer}
 use Rattle.shop_edges.specs.declared.gateway.Reason.TheVariants.{Reused}
 use Rattle.shop_edges.specs.declared.gateway.Verdict.{Verdict}
 use Rattle.shop_edges.specs.declared.gateway.Verdict.TheVariants.{Approved, Denied, Failed, Memory}
-use Rattle.shop_gateway.specs.Verdicts.{Key, key_of, same_key, same_charge, entry_at, verdict_by, ledger_by, first_verdict, first_answer, next_verdict, next_answer}
+use Rattle.shop_gateway.specs.Verdicts.{Key, AreVerdicts, key_of, same_key, same_charge, entry_at, verdict, verdict_by, ledger_after, ledger_by, ledger_left, first_verdict, first_answer, next_verdict, next_answer}
 use Rattle.shop_gateway.specs.Emulators.{EmulatorValue, IsSaid, IsLedger, IsDecided, IsAuthorized}
 use Rattle.shop_gateway.proofs.Charges.{same_key_is, same_key_self}
 
@@ -28,11 +29,41 @@ none_passes test (entry ∷ entries) is zero d within = (passed_by (test entry) 
 none_passes test (entry ∷ entries) is (suc k) d within =
     none_passes test entries (passed_by (test entry) entry (find test entries) is).1 k d (omega arith)
 
+-- answers, and one more by the ledger that they left
+verdicts_more : (ledger answers : List Answer) (answer : Answer) → AreVerdicts ledger answers → answer.verdict ≡ verdict (ledger_left ledger answers) answer.charge
+    → AreVerdicts ledger (answers ++ answer ∷ [])
+verdicts_more ledger [] answer are is = (is, tt)
+verdicts_more ledger (one ∷ answers) answer are is = (are.0, verdicts_more (ledger_after ledger one.charge) answers answer are.1 is)
+
+left_more : (ledger answers : List Answer) (answer : Answer) → ledger ≡ ledger_left [] answers → ledger_after ledger answer.charge ≡ ledger_left [] (answers ++ answer ∷ [])
+left_more ledger answers answer left =
+    ap (λ (before : List Answer). ledger_after before answer.charge) left
+    ∙ sym (fold_push (λ (before : List Answer) (a : Answer). ledger_after before a.charge) [] answers answer)
+
+-- an answer by an entry leaves the ledger as it was
+pub told : (ledger answers : List Answer) (entry answer : Answer) (entries : Key → Option Answer) → IsLedger ledger answers entries → entry_at ledger (key_of answer.charge) ≡ Some entry
+    → answer.verdict ≡ next_verdict entry answer.charge → IsLedger ledger (answers ++ answer ∷ []) entries
+told ledger answers entry answer entries was there is = record {
+  left = ap (λ (o : Option Answer). ledger_by o ledger answer.charge) (sym there) ∙ left_more ledger answers answer was.left;
+  verdicts = verdicts_more [] answers answer was.verdicts
+      (is ∙ ap (λ (o : Option Answer). verdict_by o answer.charge) (sym there) ∙ ap (λ (before : List Answer). verdict before answer.charge) was.left);
+  found = was.found;
+  said = was.said;
+  apart = was.apart;
+}
+
 -- an entry with a new key is found by it, and the others as before
-pub entered : (ledger : List Answer) (entry : Answer) (entries later : Key → Option Answer) → IsLedger ledger entries → entry_at ledger (key_of entry.charge) ≡ None
-    → IsSaid entry.verdict → ((q : Key) → later q ≡ cond (same_key (key_of entry.charge) q) (Some entry) (entries q)) → IsLedger (ledger ++ entry ∷ []) later
-entered ledger entry entries later was absent said changes =
+pub entered : (ledger answers : List Answer) (entry : Answer) (entries later : Key → Option Answer) → IsLedger ledger answers entries → entry_at ledger (key_of entry.charge) ≡ None
+    → entry.verdict ≡ first_verdict entry.charge → IsSaid entry.verdict → ((q : Key) → later q ≡ cond (same_key (key_of entry.charge) q) (Some entry) (entries q))
+    → IsLedger (ledger ++ entry ∷ []) (answers ++ entry ∷ []) later
+entered ledger answers entry entries later was absent first said changes =
     record {
+      left =
+          ap (λ v. let a : Answer = record { charge = entry.charge; verdict = v } in ledger ++ a ∷ []) first
+          ∙ ap (λ (o : Option Answer). ledger_by o ledger entry.charge) (sym absent)
+          ∙ left_more ledger answers entry was.left;
+      verdicts = verdicts_more [] answers entry was.verdicts
+          (first ∙ ap (λ (o : Option Answer). verdict_by o entry.charge) (sym absent) ∙ ap (λ (before : List Answer). verdict before entry.charge) was.left);
       found = λ q. changes q ∙ found_at q (same_key (key_of entry.charge) q) refl;
       said = λ q. subst (λ (o : Option Answer). IfSome o (λ e. IsSaid e.verdict)) (sym (changes q)) (said_at q (same_key (key_of entry.charge) q));
       apart = all_pairs_push (λ (one other : Answer). key_of one.charge ≢ key_of other.charge) ledger entry was.apart

@@ -1,1 +1,2 @@
 pub mod Notings
+pub mod Verdicts

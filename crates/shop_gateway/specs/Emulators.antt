@@ -4,7 +4,7 @@ use Rattle.shop_edges.specs.Charges.{ChargeValue}
 use Rattle.shop_edges.specs.declared.gateway.Answer.{Answer}
 use Rattle.shop_edges.specs.declared.gateway.Verdict.{Verdict}
 use Rattle.shop_edges.specs.declared.gateway.Verdict.TheVariants.{Approved, Denied, Failed, Memory}
-use Rattle.shop_gateway.specs.Verdicts.{Key, key_of, entry_at, verdict, ledger_after}
+use Rattle.shop_gateway.specs.Verdicts.{Key, AreVerdicts, key_of, entry_at, verdict, ledger_after, ledger_left}
 
 -- its ledger, and all its answers
 pub record EmulatorValue : Type 0 where
@@ -22,8 +22,10 @@ IsSaid Memory = ⊥
 abbrev pub AreApart : List Answer → Type 0
 AreApart ledger = AllPairs (λ one other. key_of one.charge ≢ key_of other.charge) ledger
 
--- the entries of the ledger are found by their keys
-pub record IsLedger (ledger : List Answer) (entries : Key → Option Answer) : Type 0 where
+-- the entries of the ledger are found by their keys, and it is what its answers left of an empty one
+pub record IsLedger (ledger answers : List Answer) (entries : Key → Option Answer) : Type 0 where
+  pub left : ledger ≡ ledger_left [] answers
+  pub verdicts : AreVerdicts [] answers
   pub found : (key : Key) → entries key ≡ entry_at ledger key
   pub said : (key : Key) → IfSome (entries key) (λ entry. IsSaid entry.verdict)
   pub apart : AreApart ledger

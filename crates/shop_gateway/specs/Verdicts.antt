@@ -1,6 +1,6 @@
 -- What a gateway that decides by its ledger says to a charge; this project's own.
-use Rattle.std.specs.Prelude.{ℕ, ◌&&◌, ◌==◌, Bool, true, false, nat_eq, nat_lt, List, [], ◌∷◌, ◌++◌, Option, Some, None, codes, if◌then◌else◌}
-use Rattle.std.specs.List.{find, ends_with}
+use Rattle.std.specs.Prelude.{◌≡◌, ⊤, ℕ, ◌&&◌, ◌==◌, Bool, true, false, nat_eq, nat_lt, List, [], ◌∷◌, ◌++◌, Option, Some, None, codes, if◌then◌else◌}
+use Rattle.std.specs.List.{find, fold, ends_with}
 use Rattle.std.specs.Str.{bytes_eq}
 use Rattle.std.specs.Str.Parse.{digits_value}
 use Rattle.shop_model.specs.rows.AuthIds.{auth_id}
@@ -77,3 +77,15 @@ ledger_by (Some entry) ledger charge = ledger
 -- the ledger after it: a new key adds one entry, denied or approved
 abbrev pub ledger_after : List Answer → ChargeValue → List Answer
 ledger_after ledger charge = ledger_by (entry_at ledger (key_of charge)) ledger charge
+
+-- ---- over many charges
+
+-- the ledger after these answers
+abbrev pub ledger_left : List Answer → List Answer → List Answer
+ledger_left ledger answers = fold (λ before answer. ledger_after before answer.charge) ledger answers
+
+-- each answer is the verdict of the ledger as the answers before it left it
+abbrev pub AreVerdicts : List Answer → List Answer → Type 0
+AreVerdicts ledger [] = ⊤
+AreVerdicts ledger (answer ∷ answers) =
+    (answer.verdict ≡ verdict ledger answer.charge) × AreVerdicts (ledger_after ledger answer.charge) answers

@@ -28,7 +28,7 @@ impl Model for Emulator {
 
     ghost view = { λ e. record { ledger = e.ledger.items; answers = e.answers.items } };
 
-    ghost invariant = { λ e. IsLedger e.ledger.items (get same_key e.entries) };
+    ghost invariant = { λ e. IsLedger e.ledger.items e.answers.items (get same_key e.entries) };
 }
 
 /// The key of a charge.
@@ -94,7 +94,8 @@ impl Emulator {
 
     /// All its answers, as it gave them.
     pub fn answers(&self) -> &[Shared<Answer>]
-        ensures { result.now ≡ self.now.answers }
+        ensures answers { result.now ≡ self.now.answers }
+        ensures verdicts { spec.AreVerdicts [] self.now.answers }
     {
         &self.answers
     }

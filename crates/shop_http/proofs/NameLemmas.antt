@@ -1,7 +1,7 @@
 -- The parameters by their names and places, and the value that one more pair keeps.
 use Rattle.std.proofs.Common.{◌≡◌, ◌≢◌, ℕ, ◌==◌, ◌<◌, Bool, true, false, cond, List, [], ◌∷◌, length, Option, Some, None, refl, sym, ap, ◌∙◌, set}
 use Rattle.std.specs.Borrow.{Bor}
-use Rattle.std.specs.List.{find}
+use Rattle.std.specs.List.{find, list_all}
 use Rattle.std.specs.Option.{is_some, option_or}
 use Rattle.std.specs.Prelude.{slice_get, slice_index_or}
 use Rattle.std.specs.Str.{bytes_eq}
@@ -13,9 +13,10 @@ use Rattle.shop_model.specs.declared.parameter.Parameter.{Parameter}
 use Rattle.shop_model.specs.declared.parameter.Parameter.TheVariants.{C, Cart, Item, Qty, Subject, Kind, Text, User, Pass, FirstName, LastName, Street1, Street2, City, State, Zip, Country, Phone, Email, Card, Number, Name, Expiry, Ship, Cost, Image, Thumb}
 use Rattle.shop_model.specs.asked.Parameters.{parameter_name}
 use Rattle.shop_http.specs.Firsts.{kept}
-use Rattle.shop_http.specs.Forms.{decoded_text, value_of}
+use Rattle.shop_http.specs.Forms.{decoded_text, is_plain, value_of}
 use Rattle.shop_http.specs.declared.requests.names.TheConstants.{PARAMETERS}
 use Rattle.shop_http.specs.Names.{parameters, parameter_named, place_of}
+use Rattle.shop_http.proofs.DecodedLemmas.{decoded_text-plain}
 use Rattle.shop_http.proofs.FirstLemmas.{none_behind}
 
 -- each is found by its name and at its place
@@ -110,6 +111,42 @@ other_name name parameter other = go (bytes_eq name (parameter_name parameter)) 
     go : (same : Bool) → bytes_eq name (parameter_name parameter) ≡ same → same ≡ false
     go true is = absurd (other (ap parameter_named ((bytes_eq-Decides name (parameter_name parameter)).0 is) ∙ by_name parameter))
     go false is = refl
+
+-- and stands for itself
+
+plain_name : (parameter : Parameter) → list_all is_plain (parameter_name parameter) ≡ true
+plain_name C = refl
+plain_name Cart = refl
+plain_name Item = refl
+plain_name Qty = refl
+plain_name Subject = refl
+plain_name Kind = refl
+plain_name Text = refl
+plain_name User = refl
+plain_name Pass = refl
+plain_name FirstName = refl
+plain_name LastName = refl
+plain_name Street1 = refl
+plain_name Street2 = refl
+plain_name City = refl
+plain_name State = refl
+plain_name Zip = refl
+plain_name Country = refl
+plain_name Phone = refl
+plain_name Email = refl
+plain_name Card = refl
+plain_name Number = refl
+plain_name Name = refl
+plain_name Expiry = refl
+plain_name Ship = refl
+plain_name Cost = refl
+plain_name Image = refl
+plain_name Thumb = refl
+
+pub named-encoded : (encoded : List ℕ) (parameter : Parameter) → parameter_named encoded ≡ Some parameter → decoded_text encoded ≡ encoded
+named-encoded encoded parameter is =
+    let same : encoded ≡ parameter_name parameter = (bytes_eq-Decides encoded (parameter_name parameter)).0 (has_name encoded parameter is) in
+    decoded_text-plain encoded (ap (list_all is_plain) same ∙ plain_name parameter)
 
 -- the value that a pair gives
 

@@ -29,6 +29,7 @@ mod fault;
 mod forms;
 mod names;
 mod pairs;
+mod subjects;
 mod values;
 
 /// Why a message is not answered by an interaction.

@@ -1,4 +1,4 @@
-ghost use Rattle.std.specs.Prelude.{◌≡◌, None, Ok, [], OnOk, take};
+ghost use Rattle.std.specs.Prelude.{◌≡◌, None, Some, Ok, [], IfSome, OnOk, take};
 ghost use Rattle.matchit.specs.Order.{placed};
 ghost use Rattle.matchit.specs.Route.{parse_route};
 ghost use Rattle.matchit.specs.Router.{nearest};
@@ -32,6 +32,9 @@ impl Routes {
     pub(crate) fn interaction(&self, path: &[u8]) -> Option<Interaction>
         ensures { result ≡ interaction_of path.now }
     {
+        if let Some(interaction) = linked(path) {
+            return Some(interaction);
+        }
         let Ok(path) = from_utf8(path) else {
             return None;
         };
@@ -39,6 +42,44 @@ impl Routes {
             Ok(found) => Some(*found.value),
             Err(_) => None,
         }
+    }
+}
+
+/// The interaction that pages link to by this path. Most messages ask for one, and need no router.
+#[tactic(auto, unfolding(shop_model::specs::asked::Interactions::interaction_of))]
+fn linked(path: &[u8]) -> Option<Interaction>
+    ensures { IfSome result (λ interaction. Some interaction ≡ interaction_of path.now) }
+{
+    if path == b"/home".as_slice() {
+        Some(Interaction::Home)
+    } else if path == b"/new_products".as_slice() {
+        Some(Interaction::NewProducts)
+    } else if path == b"/best_sellers".as_slice() {
+        Some(Interaction::BestSellers)
+    } else if path == b"/product_detail".as_slice() {
+        Some(Interaction::ProductDetail)
+    } else if path == b"/search_request".as_slice() {
+        Some(Interaction::SearchRequest)
+    } else if path == b"/search_results".as_slice() {
+        Some(Interaction::SearchResults)
+    } else if path == b"/shopping_cart".as_slice() {
+        Some(Interaction::ShoppingCart)
+    } else if path == b"/customer_registration".as_slice() {
+        Some(Interaction::CustomerRegistration)
+    } else if path == b"/buy_request".as_slice() {
+        Some(Interaction::BuyRequest)
+    } else if path == b"/buy_confirm".as_slice() {
+        Some(Interaction::BuyConfirm)
+    } else if path == b"/order_inquiry".as_slice() {
+        Some(Interaction::OrderInquiry)
+    } else if path == b"/order_display".as_slice() {
+        Some(Interaction::OrderDisplay)
+    } else if path == b"/admin_request".as_slice() {
+        Some(Interaction::AdminRequest)
+    } else if path == b"/admin_confirm".as_slice() {
+        Some(Interaction::AdminConfirm)
+    } else {
+        None
     }
 }
 

@@ -1,6 +1,7 @@
 //! A book that several callers share, one turn after another.
 #![tactic(auto)]
 
+mod boxed_book;
 mod desk;
 mod rule;
 mod seats;

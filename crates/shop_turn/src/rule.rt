@@ -1,5 +1,6 @@
 //! The table at which callers share a book: four words, a slot for the book, and the rule that they
 //! keep to between any two steps.
+use crate::boxed_book::BoxedBook;
 use atomic_table::{Join, Play, Seat, Shared, Split, Table, TableRule};
 use shop_book::{Book, Opening};
 use shop_history::Entry;
@@ -63,7 +64,7 @@ pub struct Start {
 
 pub struct Law;
 
-impl TableRule<Option<Book>, View, Start> for Law {
+impl TableRule<Option<BoxedBook>, View, Start> for Law {
     ghost use Rattle.shop_turn.specs.Views.{opening_view};
     ghost use Rattle.shop_turn.specs.Rule.{Holds};
 
@@ -72,17 +73,17 @@ impl TableRule<Option<Book>, View, Start> for Law {
     ghost first = { λ start. opening_view start.book.value start.callers };
 }
 
-pub type Board = Table<Option<Book>, View, Start, Law, Global>;
+pub type Board = Table<Option<BoxedBook>, View, Start, Law, Global>;
 
 /// What the seats of one table step at.
-pub type Common = Shared<Option<Book>, View, Start, Law>;
+pub type Common = Shared<Option<BoxedBook>, View, Start, Law>;
 
-pub type Place = Seat<Option<Book>, View>;
+pub type Place = Seat<Option<BoxedBook>, View>;
 
 /// A seat without a number gets the next one.
 pub struct Name;
 
-impl Play<Option<Book>, View> for Name {
+impl Play<Option<BoxedBook>, View> for Name {
     ghost use Rattle.shop_turn.specs.Plays.{Names};
 
     ghost then = { Names };
@@ -91,7 +92,7 @@ impl Play<Option<Book>, View> for Name {
 /// A seat takes the turn and the book, where nobody has the turn.
 pub struct Take;
 
-impl Play<Option<Book>, View> for Take {
+impl Play<Option<BoxedBook>, View> for Take {
     ghost use Rattle.shop_turn.specs.Plays.{Takes};
 
     ghost then = { Takes };
@@ -100,7 +101,7 @@ impl Play<Option<Book>, View> for Take {
 /// The seat with the turn counts the log.
 pub struct Look;
 
-impl Play<Option<Book>, View> for Look {
+impl Play<Option<BoxedBook>, View> for Look {
     ghost use Rattle.shop_turn.specs.Plays.{Looks};
 
     ghost then = { Looks 0 };
@@ -109,7 +110,7 @@ impl Play<Option<Book>, View> for Look {
 /// The same within a settle.
 pub struct LookToSettle;
 
-impl Play<Option<Book>, View> for LookToSettle {
+impl Play<Option<BoxedBook>, View> for LookToSettle {
     ghost use Rattle.shop_turn.specs.Plays.{Looks};
 
     ghost then = { Looks 1 };
@@ -118,7 +119,7 @@ impl Play<Option<Book>, View> for LookToSettle {
 /// The seat with the turn raises the latest stamp to the moment of a settle that was accepted.
 pub struct Raise;
 
-impl Play<Option<Book>, View> for Raise {
+impl Play<Option<BoxedBook>, View> for Raise {
     ghost use Rattle.shop_turn.specs.Plays.{Raises};
 
     ghost then = { Raises };
@@ -127,7 +128,7 @@ impl Play<Option<Book>, View> for Raise {
 /// The seat with the turn counts one entry more, which the book in the slot has.
 pub struct Append;
 
-impl Play<Option<Book>, View> for Append {
+impl Play<Option<BoxedBook>, View> for Append {
     ghost use Rattle.shop_turn.specs.Plays.{Appends};
 
     ghost then = { Appends };
@@ -136,7 +137,7 @@ impl Play<Option<Book>, View> for Append {
 /// The seat with the turn gives it up, with the book in the slot.
 pub struct GiveBack;
 
-impl Play<Option<Book>, View> for GiveBack {
+impl Play<Option<BoxedBook>, View> for GiveBack {
     ghost use Rattle.shop_turn.specs.Plays.{Gives};
 
     ghost then = { Gives };

@@ -5,6 +5,7 @@ ghost use Rattle.shop_attempt.specs.Faithful.{Faithful};
 ghost use Rattle.shop_turn.specs.Views.{named_as, taking, looking, together, copy};
 ghost use Rattle.shop_turn.specs.Seats.{IsAt, IsReady, MayBeNamed, SeatIs, Found, Finds, Reads, Settled};
 
+use crate::boxed_book::BoxedBook;
 use crate::rule::{Both, COUNT, Common, Copies, Look, LookToSettle, NAMED, Name, Place};
 use crate::turns::{accept, give_back, take_turn};
 use shop_attempt::{Attempt, Settle};
@@ -50,14 +51,14 @@ pub fn new_seat<R: Wait>(rt: &R, shared: &Common, root: &mut Place, number: u64)
 }
 
 /// Waits for the turn, takes the book, and looks at its log.
-fn find_book<R: Wait>(rt: &R, shared: &Common, seat: &mut Place, number: u64) -> Book
+fn find_book<R: Wait>(rt: &R, shared: &Common, seat: &mut Place, number: u64) -> BoxedBook
     requires at { IsAt shared.now.table_id seat.old }
     requires ready { IsReady number seat.old.me }
     ensures found { Found result seat.old.me.0 }
     ensures seat { SeatIs seat.old (looking 0 (taking result seat.old.me.0), (0, None) ∷ []) seat.new }
 {
     let book = take_turn(rt, shared, seat, number);
-    let _size = book.size();
+    let _size = book.get().size();
     shared.load::<Look>(seat, COUNT);
     book
 }
@@ -85,7 +86,7 @@ pub fn read_at<R: Wait>(
     ensures { Reads seat.old seat.new key.now result }
 {
     let mut book = find_book(rt, shared, seat, number);
-    let read = book.read(key);
+    let read = book.get_mut().read(key);
     give_back(shared, seat, book);
     read
 }
@@ -106,10 +107,10 @@ pub fn settle_at<R: Wait>(
 {
     let mut book = take_turn(rt, shared, seat, u64::from(number));
     shared.load::<LookToSettle>(seat, COUNT);
-    let next = book.count_of(number) + 1;
+    let next = book.get().count_of(number) + 1;
     let moment = attempt.moment;
     let changes = attempt.act.is_some();
-    let answer = book.settle(number, next, attempt);
+    let answer = book.get_mut().settle(number, next, attempt);
     match answer {
         Settle::Done(drawn) => {
             accept(shared, seat, book, moment, changes);
@@ -159,5 +160,5 @@ pub fn close_at<R: Wait>(rt: &R, shared: &Common, seat: &mut Place, number: u64)
     requires ready { IsReady number seat.old.me }
     ensures { Found result seat.old.me.0 }
 {
-    find_book(rt, shared, seat, number)
+    find_book(rt, shared, seat, number).into_inner()
 }

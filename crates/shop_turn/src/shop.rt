@@ -4,6 +4,7 @@ ghost use Rattle.shop_turn.specs.Desks.{IsOneShop};
 ghost use Rattle.shop_turn.specs.Shops.{most_callers, IsLaid, Opens, Closes};
 
 use crate::Desk;
+use crate::boxed_book::BoxedBook;
 use crate::rule::{Board, Place, Start};
 use crate::seats::{close_at, join_at, new_seat};
 use atomic_table::{Refused, Table};
@@ -22,8 +23,9 @@ fn lay(alloc: Global, book: Book, callers: u32) -> Result<(Arc<Board, Global>, P
         callers: u64::from(callers),
     };
     let words = [0, book.size(), book.latest(), 0];
+    let boxed = BoxedBook::new(alloc, book)?;
     let mut slots = Vec::with_capacity(alloc, 1)?;
-    slots.push_reserved(Some(book));
+    slots.push_reserved(Some(boxed));
     let (table, root) = match Table::new(alloc, &words, slots, &start) {
         Ok(made) => made,
         Err(Refused { slots: _ }) => return Err(Memory),

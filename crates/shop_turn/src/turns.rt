@@ -3,12 +3,13 @@ ghost use Rattle.std.specs.Prelude.{◌≡◌, ◌<◌, ◌+◌, ◌^◌, [], le
 ghost use Rattle.shop_turn.specs.Views.{held_book, giving, raising, appending};
 ghost use Rattle.shop_turn.specs.Seats.{IsAt, IsReady, HasTurn, SeatIs, TakesBook, IsLonger, IsAccepted};
 
+use crate::boxed_book::BoxedBook;
 use crate::rule::{Append, COUNT, Common, GiveBack, LATEST, Place, Raise, TURN, Take};
-use shop_book::Book;
+use std::hint::spin_loop;
 use std::sync::Wait;
 
 /// Takes the book, where nobody has the turn.
-fn try_turn(shared: &Common, seat: &mut Place, number: u64) -> Option<Book>
+fn try_turn(shared: &Common, seat: &mut Place, number: u64) -> Option<BoxedBook>
     requires at { IsAt shared.now.table_id seat.old }
     requires ready { IsReady number seat.old.me }
     ensures took { IfSome result (λ book. TakesBook seat.old book seat.new) }
@@ -21,7 +22,7 @@ fn try_turn(shared: &Common, seat: &mut Place, number: u64) -> Option<Book>
 }
 
 /// Waits for the turn, and takes the book.
-pub fn take_turn<R: Wait>(rt: &R, shared: &Common, seat: &mut Place, number: u64) -> Book
+pub fn take_turn<R: Wait>(rt: &R, shared: &Common, seat: &mut Place, number: u64) -> BoxedBook
     requires at { IsAt shared.now.table_id seat.old }
     requires ready { IsReady number seat.old.me }
     ensures { TakesBook seat.old result seat.new }
@@ -35,10 +36,20 @@ pub fn take_turn<R: Wait>(rt: &R, shared: &Common, seat: &mut Place, number: u64
     unreachable!()
 }
 
-/// Sleeps while the turn is another's; it may wake for no reason.
+/// How often a caller looks whether the turn is free before it sleeps. These looks take some microseconds:
+/// longer than most turns, and no longer than a sleep with its wake-up.
+const LOOKS: u32 = 500;
+
+/// Waits while the turn is another's, at first awake, then asleep; it may end for no reason.
 fn wait_for_turn<R: Wait>(rt: &R, shared: &Common)
     requires { TURN < shared.now.table_id.words }
 {
+    for _ in 0..LOOKS {
+        if shared.peek(TURN) == 0 {
+            return;
+        }
+        spin_loop();
+    }
     let turn = shared.peek(TURN);
     if 0 < turn && turn <= u64::from(u32::MAX) {
         shared.park(rt, TURN, turn as u32);
@@ -46,7 +57,7 @@ fn wait_for_turn<R: Wait>(rt: &R, shared: &Common)
 }
 
 /// Gives the book back, and the turn.
-pub fn give_back(shared: &Common, seat: &mut Place, book: Book)
+pub fn give_back(shared: &Common, seat: &mut Place, book: BoxedBook)
     requires at { IsAt shared.now.table_id seat.old }
     requires turn { HasTurn seat.old.me }
     requires book { book ≡ held_book seat.old.me.0 }
@@ -58,7 +69,7 @@ pub fn give_back(shared: &Common, seat: &mut Place, book: Book)
 }
 
 /// Gives back a book that has one entry more. It lies in the slot before the entry counts.
-fn give_back_longer(shared: &Common, seat: &mut Place, book: Book)
+fn give_back_longer(shared: &Common, seat: &mut Place, book: BoxedBook)
     requires at { IsAt shared.now.table_id seat.old }
     requires turn { HasTurn seat.old.me }
     requires single { seat.old.me.0.others ≡ [] }
@@ -73,7 +84,7 @@ fn give_back_longer(shared: &Common, seat: &mut Place, book: Book)
 }
 
 /// Leaves a mark, and gives back the book of a settle that was accepted.
-pub fn accept(shared: &Common, seat: &mut Place, book: Book, moment: u64, changes: bool)
+pub fn accept(shared: &Common, seat: &mut Place, book: BoxedBook, moment: u64, changes: bool)
     requires at { IsAt shared.now.table_id seat.old }
     requires turn { HasTurn seat.old.me }
     requires book { IsAccepted moment changes seat.old.me.0 book }

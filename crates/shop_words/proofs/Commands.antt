@@ -10,6 +10,7 @@ use Rattle.std.proofs.lemmas.Str.Ascii.{IsAscii-from_all}
 use Rattle.clap.specs.Walk.{Text}
 use Rattle.shop_words.specs.declared.options.Refusal.{Refusal}
 use Rattle.shop_words.specs.declared.options.Refusal.TheVariants as refusal
+use Rattle.shop_words.specs.Commands.{IsGiven, IsRead}
 use Rattle.shop_words.specs.Options.{AreOptions, Given, IsChosen, IsOptionName, IsPlain, IsReading, IsWord, name_of, value_for, value_of}
 use Rattle.shop_words.proofs.Parses.{by-recursion, from-recursion}
 use Rattle.shop_words.proofs.Readings.{option-words}
@@ -64,13 +65,29 @@ pub record IsForm {A : Type 0} (names : List Text) (Chooses : (Text → Option T
   pub same : (values : Text → Option Text) (one other : A) → Chooses values one → Chooses values other → one ≡ other
   pub plain : (values : Text → Option Text) (chosen : A) → Chooses values chosen → AllByRecursion (IsPlainAt values) names
 
--- the words are a name, and options that choose this
-pub record IsGiven {A : Type 0} (first : Text) (names : List Text) (Chooses : (Text → Option Text) → A → Type 0) (words : List Text) (chosen : A) : Type 0 where
-  pub rest : List Text
-  pub named : words ≡ first ∷ rest
-  pub given : List Given
-  pub options : AreOptions names rest given
-  pub chooses : Chooses (value_for given) chosen
+-- a choice with one option more than another one: it chooses a part by the others, and its own by this one
+pub record IsMore {A B C : Type 0} (Inner : (Text → Option Text) → A → Type 0) (Outer : (Text → Option Text) → C → Type 0) (name : Text) (form : Text → Option B) (fallback : B) : Type 0 where
+  pub part : C → A
+  pub own : C → B
+  pub whole : (one other : C) → part one ≡ part other → own one ≡ own other → one ≡ other
+  pub apart : (values : Text → Option Text) (chosen : C) → Outer values chosen → Inner values (part chosen) × IsChosen form fallback (values name) (own chosen)
+  pub joined : (values : Text → Option Text) (chosen : C) → Inner values (part chosen) → IsChosen form fallback (values name) (own chosen) → Outer values chosen
+
+module _ {A B C : Type 0} {Inner : (Text → Option Text) → A → Type 0} {Outer : (Text → Option Text) → C → Type 0} {name : Text} {form : Text → Option B} {fallback : B} (more : IsMore Inner Outer name form fallback) where
+  pub more-form : (names : List Text) → IsForm names Inner → IsOptionName name → ((text : Text) (x : B) → form text ≡ Some x → IsPlain text) → IsForm (name ∷ names) Outer
+  more-form names inner named plain = record {
+    known = (named, inner.known);
+    along = λ values others same chosen chooses.
+        let parts = more.apart values chosen chooses in
+        more.joined others chosen (inner.along values others same (more.part chosen) parts.0) (chosen-along form fallback (values name) (others name) (more.own chosen) (same name) parts.1);
+    same = λ values one other x y.
+        let first = more.apart values one x in
+        let second = more.apart values other y in
+        more.whole one other (inner.same values (more.part one) (more.part other) first.0 second.0) (chosen-same form fallback (values name) (more.own one) (more.own other) first.1 second.1);
+    plain = λ values chosen chooses.
+        let parts = more.apart values chosen chooses in
+        (chosen-plain form fallback values name (more.own chosen) plain parts.1, inner.plain values (more.part chosen) parts.0);
+  }
 
 -- each option's value is that of its name
 own-value : (given : List Given) → IsDistinct bytes_eq (map name_of given) → AllByRecursion (λ g. value_for given (name_of g) ≡ Some (value_of g)) given
@@ -137,10 +154,14 @@ module _ {A : Type 0} (first : Text) (names : List Text) (Chooses : (Text → Op
 
 -- ---- the steps of reading one
 
--- an error that is passed up is the one that came
-pub came : {T : Type 0} (r : Result T Refusal) (e : Refusal) → IsErrAnd r (λ y. y ≡ e) → r ≡ Err refusal.Bad → e ≡ refusal.Bad
-came (Ok x) e is bad = absurd is
-came (Err y) e is bad = let same : y ≡ refusal.Bad = cc in sym is ∙ same
+-- an error that is passed up tells what came
+pub passed : {T : Type 0} (Is : T → Type 0) (r : Result T Refusal) (e : Refusal) → IsErrAnd r (λ y. y ≡ e) → (e ≡ refusal.Bad → (asked : T) → ¬ (Is asked)) → IsRead Is r
+passed Is (Ok x) e is none = absurd is
+passed {T} Is (Err y) e is none = subst (λ z. IsRead Is (Err z)) (sym is) (by e none)
+  where
+    by : (z : Refusal) → (z ≡ refusal.Bad → (asked : T) → ¬ (Is asked)) → IsRead Is (Err z)
+    by refusal.Bad none = none refl
+    by refusal.Memory none = tt
 
 abbrev pub texts : List (Bor Text) → List Text
 texts = map (λ s. s.now)

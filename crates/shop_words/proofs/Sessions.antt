@@ -1,20 +1,22 @@
--- Sessions and drives in words: what their options choose.
-use Rattle.std.proofs.Common.{◌≡◌, ◌∙◌, Bool, true, false, refl, sym, ap, ap₂, subst, List, ◌∷◌, Option, Some, None, Bor, map, codes, arith, ℕ}
+-- Sessions, drives and races in words: what their options choose.
+use Rattle.std.proofs.Common.{◌≡◌, ◌∙◌, Bool, true, false, refl, sym, ap, ap₂, subst, List, ◌∷◌, Option, Some, None, Ok, Err, Bor, map, codes, arith, ℕ}
 use Rattle.std.specs.List.{All}
 use Rattle.std.specs.Str.{bytes_eq}
 use Rattle.clap.specs.Walk.{Text}
 use Rattle.shop_model.specs.population.Scales.{desk}
 use Rattle.shop_browsers.specs.declared.mix.Mix.{Mix}
 use Rattle.shop_browsers.specs.declared.mix.Mix.TheVariants.{Shopping}
+use Rattle.shop_words.specs.declared.choices.Workload.{Workload}
 use Rattle.shop_words.specs.declared.command.Command.{Command}
 use Rattle.shop_words.specs.declared.command.Command.TheVariants as command
-use Rattle.shop_words.specs.declared.command.Drive.{Drive}
+use Rattle.shop_words.specs.declared.command.Race.{Race}
 use Rattle.shop_words.specs.declared.command.Session.{Session}
-use Rattle.shop_words.specs.Commands.{Chooses, ChoosesDrive, IsCommand, IsDrive, IsSession, drive_options, session_options}
-use Rattle.shop_words.specs.Options.{AreOptions, Given, IsPlain, IsReading, IsWord, value_of}
+use Rattle.shop_words.specs.declared.options.Refusal.TheVariants as refusal
+use Rattle.shop_words.specs.Commands.{Chooses, ChoosesDrive, ChoosesRace, ChoosesWorkload, IsCommand, IsDrive, IsGiven, IsRace, IsRead, IsSession, drive_options, race_options, session_options, workload_of_drive, workload_of_race, workload_options}
+use Rattle.shop_words.specs.Options.{AreOptions, Given, IsChosen, IsPlain, IsReading, IsWord, value_of}
 use Rattle.shop_text.specs.Numbers.{number_of}
-use Rattle.shop_words.specs.Values.{browsers_of, mix_of, scale_of, steps_of, within}
-use Rattle.shop_words.proofs.Commands.{IsForm, IsGiven, chosen-along, chosen-plain, chosen-same, chosen-by, given-words, is-given, name-from, no-options, one-given, plain-from, rest-of, texts, word-from}
+use Rattle.shop_words.specs.Values.{mix_of, scale_of, within}
+use Rattle.shop_words.proofs.Commands.{IsForm, more-form, chosen-along, chosen-plain, chosen-same, chosen-by, given-words, is-given, name-from, no-options, one-given, plain-from, rest-of, texts, word-from}
 use Rattle.shop_words.proofs.Numbers.{number-plain}
 use Rattle.shop_words.proofs.Rules.{same-text}
 use Rattle.shop_words.proofs.ScaleNames.{scale-plain}
@@ -39,7 +41,7 @@ mix-plain text mix is = go (bytes_eq text (codes "browsing")) (bytes_eq text (co
     go false false true b s o = subst IsPlain (sym (same-text text (codes "ordering") o)) (plain-from (codes "ordering") refl (λ e. omega (arith, e)))
     go false false false b s o = let none : None ≡ Some mix = rw (b, s, o) at is in cc
 
--- ---- what the options of a session choose, and those of a drive
+-- ---- what options choose
 
 pub session-form : IsForm session_options Chooses
 session-form = record {
@@ -56,109 +58,103 @@ session-form = record {
   );
 }
 
-drive-same : (values : Text → Option Text) (one other : Drive) → ChoosesDrive values one → ChoosesDrive values other → one ≡ other
-drive-same values one other x y =
-    ap₂ (λ shop browsers. record { shop = shop; browsers = browsers; steps = one.steps; mix = one.mix })
-    (session-form.same values one.shop other.shop x.shop y.shop) (chosen-same browsers_of 1 (values (codes "browsers")) one.browsers other.browsers x.browsers y.browsers)
-    ∙ ap₂ (λ steps mix. record { shop = other.shop; browsers = other.browsers; steps = steps; mix = mix })
-    (chosen-same steps_of 100 (values (codes "steps")) one.steps other.steps x.steps y.steps) (chosen-same mix_of Shopping (values (codes "mix")) one.mix other.mix x.mix y.mix)
+mixed-form : IsForm (codes "mix" ∷ session_options) (λ values (p : Session × Mix). Chooses values p.0 × IsChosen mix_of Shopping (values (codes "mix")) p.1)
+mixed-form =
+    more-form
+    (record {
+      part = λ p. p.0;
+      own = λ p. p.1;
+      whole = λ one other shop mix. ap₂ (λ shop mix. (shop, mix)) shop mix;
+      apart = λ values p chooses. chooses;
+      joined = λ values p shop mix. (shop, mix);
+    })
+    session_options session-form (name-from (codes "mix") (omega arith) refl refl) mix-plain
+
+workload-form : IsForm workload_options ChoosesWorkload
+workload-form =
+    more-form
+    (record {
+      part = λ w. (w.shop, w.mix);
+      own = λ w. w.steps;
+      whole = λ one other rest steps. ap₂ (λ (p : Session × Mix) (steps : ℕ). record { shop = p.0; steps = steps; mix = p.1 }) rest steps;
+      apart = λ values w chooses. ((chooses.shop, chooses.mix), chooses.steps);
+      joined = λ values w rest steps. record { shop = rest.0; steps = steps; mix = rest.1 };
+    })
+    (codes "mix" ∷ session_options) mixed-form (name-from (codes "steps") (omega arith) refl refl) (within-plain 1 100_000)
 
 pub drive-form : IsForm drive_options ChoosesDrive
-drive-form = record {
-  known = (
-    name-from (codes "scale") (omega arith) refl refl,
-    (
-      name-from (codes "seed") (omega arith) refl refl,
-      (
-        name-from (codes "browsers") (omega arith) refl refl,
-        (name-from (codes "steps") (omega arith) refl refl, (name-from (codes "mix") (omega arith) refl refl, tt)),
-      ),
-    ),
-  );
-  along = λ values others same chosen chooses. record {
-    shop = session-form.along values others same chosen.shop chooses.shop;
-    browsers = chosen-along browsers_of 1 _ _ chosen.browsers (same (codes "browsers")) chooses.browsers;
-    steps = chosen-along steps_of 100 _ _ chosen.steps (same (codes "steps")) chooses.steps;
-    mix = chosen-along mix_of Shopping _ _ chosen.mix (same (codes "mix")) chooses.mix;
-  };
-  same = drive-same;
-  plain = λ values chosen chooses. (
-    chosen-plain scale_of desk values (codes "scale") chosen.shop.scale scale-plain chooses.shop.scale,
-    (
-      chosen-plain number_of 0 values (codes "seed") chosen.shop.seed number-plain chooses.shop.seed,
-      (
-        chosen-plain browsers_of 1 values (codes "browsers") chosen.browsers (within-plain 1 64) chooses.browsers,
-        (
-          chosen-plain steps_of 100 values (codes "steps") chosen.steps (within-plain 1 100_000) chooses.steps,
-          (chosen-plain mix_of Shopping values (codes "mix") chosen.mix mix-plain chooses.mix, tt),
-        ),
-      ),
-    ),
-  );
-}
+drive-form =
+    more-form
+    (record {
+      part = workload_of_drive;
+      own = λ drive. drive.browsers;
+      whole = λ one other rest browsers. ap₂ (λ (w : Workload) (n : ℕ). record { shop = w.shop; browsers = n; steps = w.steps; mix = w.mix }) rest browsers;
+      apart = λ values drive chooses. (chooses.workload, chooses.browsers);
+      joined = λ values drive rest browsers. record { workload = rest; browsers = browsers };
+    })
+    workload_options workload-form (name-from (codes "browsers") (omega arith) refl refl) (within-plain 1 64)
+
+pub race-form : IsForm race_options ChoosesRace
+race-form =
+    more-form
+    (record {
+      part = workload_of_race;
+      own = λ race. race.workers;
+      whole = λ one other rest workers. ap₂ (λ (w : Workload) (n : ℕ). record { shop = w.shop; workers = n; steps = w.steps; mix = w.mix }) rest workers;
+      apart = λ values race chooses. (chooses.workload, chooses.workers);
+      joined = λ values race rest workers. record { workload = rest; workers = workers };
+    })
+    workload_options workload-form (name-from (codes "workers") (omega arith) refl refl) (within-plain 1 16)
 
 -- ---- as the grammar has them
-
-abbrev pub SessionGiven : List Text → Session → Type 0
-SessionGiven = IsGiven (codes "session") session_options Chooses
-
-abbrev pub DriveGiven : List Text → Drive → Type 0
-DriveGiven = IsGiven (codes "drive") drive_options ChoosesDrive
-
-given-session : (words : List Text) (session : Session) → IsSession words session → SessionGiven words session
-given-session words session is = record { rest = is.rest; named = is.named; given = is.given; options = is.options; chooses = is.chosen }
-
-is-session : (words : List Text) (session : Session) → SessionGiven words session → IsSession words session
-is-session words session is = record { rest = is.rest; named = is.named; given = is.given; options = is.options; chosen = is.chooses }
-
-given-drive : (words : List Text) (drive : Drive) → IsDrive words drive → DriveGiven words drive
-given-drive words drive is = record { rest = is.rest; named = is.named; given = is.given; options = is.options; chooses = is.chosen }
-
-is-drive : (words : List Text) (drive : Drive) → DriveGiven words drive → IsDrive words drive
-is-drive words drive is = record { rest = is.rest; named = is.named; given = is.given; options = is.options; chosen = is.chooses }
 
 -- the words of a command are words
 pub command-words : (words : List Text) (command : Command) → IsCommand words command → All IsWord words
 command-words words (command.Session session) is =
-    given-words (codes "session") session_options Chooses session-form words (word-from (codes "session") refl (λ e. cc)) session (given-session words session is)
-command-words words (command.Drive drive) is =
-    given-words (codes "drive") drive_options ChoosesDrive drive-form words (word-from (codes "drive") refl (λ e. cc)) drive (given-drive words drive is)
+    given-words (codes "session") session_options Chooses session-form words (word-from (codes "session") refl (λ e. cc)) session is
+command-words words (command.Drive drive) is = given-words (codes "drive") drive_options ChoosesDrive drive-form words (word-from (codes "drive") refl (λ e. cc)) drive is
+
+pub race-words : (words : List Text) (race : Race) → IsRace words race → All IsWord words
+race-words words race is = given-words (codes "race") race_options ChoosesRace race-form words (word-from (codes "race") refl (λ e. cc)) race is
 
 two-names : (a b : Text) (words rest more : List Text) → words ≡ a ∷ rest → words ≡ b ∷ more → a ≡ b
 two-names a b words rest more x y = let both : a ∷ rest ≡ b ∷ more = sym x ∙ y in cc
 
--- what the words of a command give, where they begin with its name
-pub record Only {A : Type 0} (made : A → Command) (Given : A → Type 0) (other : Command) : Type 0 where
+-- what words give, where they begin with its name
+pub record Only {A T : Type 0} (made : A → T) (Given : A → Type 0) (other : T) : Type 0 where
   pub chosen : A
   pub is : other ≡ made chosen
   pub given : Given chosen
 
--- a command with this name and these options
-pub record IsKind {A : Type 0} (first : Text) (names : List Text) (Choose : (Text → Option Text) → A → Type 0) (made : A → Command) : Type 0 where
+-- one kind of what words give: the one with this name and these options
+pub record IsKind {A T : Type 0} (first : Text) (names : List Text) (Choose : (Text → Option Text) → A → Type 0) (made : A → T) (Is : List Text → T → Type 0) : Type 0 where
   pub form : IsForm names Choose
-  pub stands : (words : List Text) (chosen : A) → IsGiven first names Choose words chosen → IsCommand words (made chosen)
-  pub only : (words : List Text) → words ≡ first ∷ rest-of words → (other : Command) → IsCommand words other → Only made (IsGiven first names Choose words) other
+  pub stands : (words : List Text) (chosen : A) → IsGiven first names Choose words chosen → Is words (made chosen)
+  pub only : (words : List Text) → words ≡ first ∷ rest-of words → (other : T) → Is words other → Only made (IsGiven first names Choose words) other
 
-only-session : (words : List Text) → words ≡ codes "session" ∷ rest-of words → (other : Command) → IsCommand words other → Only command.Session (SessionGiven words) other
-only-session words named (command.Session session) is = record { chosen = session; is = refl; given = given-session words session is }
+only-session : (words : List Text) → words ≡ codes "session" ∷ rest-of words → (other : Command) → IsCommand words other → Only command.Session (IsSession words) other
+only-session words named (command.Session session) is = record { chosen = session; is = refl; given = is }
 only-session words named (command.Drive drive) is = let same : codes "session" ≡ codes "drive" = two-names _ _ words _ is.rest named is.named in absurd (cc)
 
-only-drive : (words : List Text) → words ≡ codes "drive" ∷ rest-of words → (other : Command) → IsCommand words other → Only command.Drive (DriveGiven words) other
-only-drive words named (command.Drive drive) is = record { chosen = drive; is = refl; given = given-drive words drive is }
+only-drive : (words : List Text) → words ≡ codes "drive" ∷ rest-of words → (other : Command) → IsCommand words other → Only command.Drive (IsDrive words) other
+only-drive words named (command.Drive drive) is = record { chosen = drive; is = refl; given = is }
 only-drive words named (command.Session session) is = let same : codes "drive" ≡ codes "session" = two-names _ _ words _ is.rest named is.named in absurd (cc)
 
-pub session-kind : IsKind (codes "session") session_options Chooses command.Session
-session-kind = record { form = session-form; stands = is-session; only = only-session }
+pub session-kind : IsKind (codes "session") session_options Chooses command.Session IsCommand
+session-kind = record { form = session-form; stands = λ words session is. is; only = only-session }
 
-pub drive-kind : IsKind (codes "drive") drive_options ChoosesDrive command.Drive
-drive-kind = record { form = drive-form; stands = is-drive; only = only-drive }
+pub drive-kind : IsKind (codes "drive") drive_options ChoosesDrive command.Drive IsCommand
+drive-kind = record { form = drive-form; stands = λ words drive is. is; only = only-drive }
 
--- ---- what is made of words that begin with the name of a command
+pub race-kind : IsKind (codes "race") race_options ChoosesRace (λ race. race) IsRace
+race-kind = record { form = race-form; stands = λ words race is. is; only = λ words named race is. record { chosen = race; is = refl; given = is } }
 
-module _ {A : Type 0} {first : Text} {names : List Text} {Choose : (Text → Option Text) → A → Type 0} {made : A → Command} (kind : IsKind first names Choose made)
-    (words : List Text) (read : List (Bor Text)) (are : texts read ≡ words) (named : words ≡ first ∷ rest-of words) where
-  -- no options: no command
-  pub none-read : ((given : List Given) → AreOptions names (rest-of (texts read)) given → ¬ (All IsPlain (map value_of given))) → (other : Command) → ¬ (IsCommand words other)
+-- ---- what is made of words that begin with the name
+
+module _ {A T : Type 0} {first : Text} {names : List Text} {Choose : (Text → Option Text) → A → Type 0} {made : A → T} {Is : List Text → T → Type 0}
+    (kind : IsKind first names Choose made Is) (words : List Text) (read : List (Bor Text)) (are : texts read ≡ words) (named : words ≡ first ∷ rest-of words) where
+  -- no options: nothing is given
+  pub none-read : ((given : List Given) → AreOptions names (rest-of (texts read)) given → ¬ (All IsPlain (map value_of given))) → (other : T) → ¬ (Is words other)
   none-read none other is =
       let only = kind.only words named other is in
       no-options first names Choose kind.form words (subst (λ ws. (given : List Given) → AreOptions names (rest-of ws) given → ¬ (All IsPlain (map value_of given))) are none) only.chosen only.given
@@ -167,15 +163,15 @@ module _ {A : Type 0} {first : Text} {names : List Text} {Choose : (Text → Opt
     abbrev same-reading : IsReading names (rest-of words) values
     same-reading = subst (λ ws. IsReading names (rest-of ws) values) are reading
 
-    pub command-read : (chosen : A) → Choose values chosen → IsCommand words (made chosen)
-    command-read chosen chooses = kind.stands words chosen (is-given first names Choose kind.form words values same-reading named chosen chooses)
+    pub chosen-read : (chosen : A) → Choose values chosen → IsRead (Is words) (Ok (made chosen))
+    chosen-read chosen chooses = (
+      kind.stands words chosen (is-given first names Choose kind.form words values same-reading named chosen chooses),
+      λ other is.
+          let only = kind.only words named other is in
+          only.is ∙ ap made (one-given first names Choose kind.form words values same-reading chosen chooses only.chosen only.given),
+    )
 
-    pub only-read : (chosen : A) → Choose values chosen → (other : Command) → IsCommand words other → other ≡ made chosen
-    only-read chosen chooses other is =
-        let only = kind.only words named other is in
-        only.is ∙ ap made (one-given first names Choose kind.form words values same-reading chosen chooses only.chosen only.given)
-
-    pub none-chosen : ((chosen : A) → ¬ (Choose values chosen)) → (other : Command) → ¬ (IsCommand words other)
+    pub none-chosen : ((chosen : A) → ¬ (Choose values chosen)) → IsRead (Is words) (Err refusal.Bad)
     none-chosen none other is =
         let only = kind.only words named other is in
         none only.chosen (chosen-by first names Choose kind.form words values same-reading only.chosen only.given)

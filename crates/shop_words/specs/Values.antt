@@ -34,7 +34,11 @@ within low high (Some number) = if nat_le low number && nat_le number high then 
 abbrev pub browsers_of : List ℕ → Option ℕ
 browsers_of text = within 1 64 (number_of text)
 
--- how many steps they make: 1 to 100,000
+-- how many workers there are: 1 to 16
+abbrev pub workers_of : List ℕ → Option ℕ
+workers_of text = within 1 16 (number_of text)
+
+-- how many steps each makes: 1 to 100,000
 abbrev pub steps_of : List ℕ → Option ℕ
 steps_of text = within 1 100_000 (number_of text)
 

@@ -1,14 +1,11 @@
-ghost use Rattle.std.specs.Prelude.{◌≡◌, IfOk, IfSome, IfNone, Err};
-ghost use Rattle.clap.specs.Words.{first_value, found_of};
-ghost use Rattle.shop_words.specs.Commands.{Chooses, ChoosesDrive, IfCommand, IsCommand};
-ghost use Rattle.shop_words.specs.declared.options.Refusal.TheVariants as refusal;
+ghost use Rattle.std.specs.Prelude.{◌≡◌};
+ghost use Rattle.shop_words.specs.Commands.{IfGood, IsCommand, IsRace, IsRead};
 
+use crate::choices;
 use crate::options::{Refusal, options_of, texts_of};
-use crate::values::{browsers_of, mix_of, scale_of, steps_of};
-use clap::ArgMatches;
 use shop_browsers::Mix;
 use shop_model::Scale;
-use shop_text::{Text, number_of};
+use shop_text::Text;
 use std::alloc::Global;
 
 /// What the words ask for.
@@ -39,11 +36,23 @@ pub struct Drive {
     pub mix: Mix,
 }
 
+/// Workers, and the shop that they share.
+#[derive(Clone, Copy, Debug, PartialEq, Eq)]
+pub struct Race {
+    pub shop: Session,
+    /// 1 to 16.
+    pub workers: u32,
+    /// 1 to 100,000.
+    pub steps: u32,
+    pub mix: Mix,
+}
+
 /// What words came to.
 #[derive(Clone, Copy, Debug, PartialEq, Eq)]
-pub enum Parsed {
-    Command(Command),
-    /// The words are not in the grammar of any command.
+pub enum Parsed<T> {
+    /// They are in the grammar, and ask for this.
+    Good(T),
+    /// They are not in the grammar.
     Bad,
     /// Memory ran out.
     Memory,
@@ -53,40 +62,54 @@ pub enum Parsed {
 static SESSION: [&str; 2] = ["scale", "seed"];
 
 /// The names of a drive's options.
-static DRIVE: [&str; 5] = ["scale", "seed", "browsers", "steps", "mix"];
+static DRIVE: [&str; 5] = ["browsers", "steps", "mix", "scale", "seed"];
+
+/// The names of a race's options.
+static RACE: [&str; 5] = ["workers", "steps", "mix", "scale", "seed"];
 
 /// The command that the words give. The first one names it, and the others are its options, each written
 /// `--name value` or `--name=value`, at most once, in any order.
-pub fn command_of(alloc: Global, words: &[Text]) -> Parsed
-    ensures command { IfCommand result (IsCommand words.now) }
-    ensures only { IfCommand result (λ command. (other : Command) → IsCommand words.now other → other ≡ command) }
+pub fn command_of(alloc: Global, words: &[Text]) -> Parsed<Command>
+    ensures command { IfGood result (IsCommand words.now) }
+    ensures only { IfGood result (λ command. (other : Command) → IsCommand words.now other → other ≡ command) }
     ensures bad { result ≡ Parsed.Bad → (command : Command) → ¬ (IsCommand words.now command) }
 {
-    match read(alloc, words) {
-        Ok(command) => Parsed::Command(command),
+    match read_command(alloc, words) {
+        Ok(command) => Parsed::Good(command),
         Err(Refusal::Bad) => Parsed::Bad,
         Err(Refusal::Memory) => Parsed::Memory,
     }
 }
 
-fn read(alloc: Global, words: &[Text]) -> Result<Command, Refusal>
-    ensures command { IfOk result (IsCommand words.now) }
-    ensures only { IfOk result (λ command. (other : Command) → IsCommand words.now other → other ≡ command) }
-    ensures bad { result ≡ Err refusal.Bad → (command : Command) → ¬ (IsCommand words.now command) }
+/// The race that the words give: `race`, and its options, written as those of a command.
+pub fn race_of(alloc: Global, words: &[Text]) -> Parsed<Race>
+    ensures race { IfGood result (IsRace words.now) }
+    ensures only { IfGood result (λ race. (other : Race) → IsRace words.now other → other ≡ race) }
+    ensures bad { result ≡ Parsed.Bad → (race : Race) → ¬ (IsRace words.now race) }
+{
+    match read_race(alloc, words) {
+        Ok(race) => Parsed::Good(race),
+        Err(Refusal::Bad) => Parsed::Bad,
+        Err(Refusal::Memory) => Parsed::Memory,
+    }
+}
+
+fn read_command(alloc: Global, words: &[Text]) -> Result<Command, Refusal>
+    ensures { IsRead (IsCommand words.now) result }
 {
     let texts = texts_of(alloc, words)?;
     let texts = texts.as_slice();
     match texts {
         ["session", ..] => {
             let found = options_of(alloc, &SESSION, texts)?;
-            match session_of(&found) {
+            match choices::session_of(&found) {
                 Some(session) => Ok(Command::Session(session)),
                 None => Err(Refusal::Bad),
             }
         }
         ["drive", ..] => {
             let found = options_of(alloc, &DRIVE, texts)?;
-            match drive_of(&found) {
+            match choices::drive_of(&found) {
                 Some(drive) => Ok(Command::Drive(drive)),
                 None => Err(Refusal::Bad),
             }
@@ -95,42 +118,17 @@ fn read(alloc: Global, words: &[Text]) -> Result<Command, Refusal>
     }
 }
 
-fn session_of(found: &ArgMatches) -> Option<Session>
-    ensures some { IfSome result (Chooses (first_value (found_of found.now))) }
-    ensures none { IfNone result ((session : Session) → ¬ (Chooses (first_value (found_of found.now)) session)) }
+fn read_race(alloc: Global, words: &[Text]) -> Result<Race, Refusal>
+    ensures { IsRead (IsRace words.now) result }
 {
-    let scale = match found.get_str("scale") {
-        Some(text) => scale_of(text)?,
-        None => Scale::desk(),
+    let texts = texts_of(alloc, words)?;
+    let texts = texts.as_slice();
+    let ["race", ..] = texts else {
+        return Err(Refusal::Bad);
     };
-    let seed = match found.get_str("seed") {
-        Some(text) => number_of(text.as_bytes())?,
-        None => 0,
-    };
-    Some(Session { scale, seed })
-}
-
-fn drive_of(found: &ArgMatches) -> Option<Drive>
-    ensures some { IfSome result (ChoosesDrive (first_value (found_of found.now))) }
-    ensures none { IfNone result ((drive : Drive) → ¬ (ChoosesDrive (first_value (found_of found.now)) drive)) }
-{
-    let shop = session_of(found)?;
-    let browsers = match found.get_str("browsers") {
-        Some(text) => browsers_of(text)?,
-        None => 1,
-    };
-    let steps = match found.get_str("steps") {
-        Some(text) => steps_of(text)?,
-        None => 100,
-    };
-    let mix = match found.get_str("mix") {
-        Some(text) => mix_of(text)?,
-        None => Mix::Shopping,
-    };
-    Some(Drive {
-        shop,
-        browsers,
-        steps,
-        mix,
-    })
+    let found = options_of(alloc, &RACE, texts)?;
+    match choices::race_of(&found) {
+        Some(race) => Ok(race),
+        None => Err(Refusal::Bad),
+    }
 }

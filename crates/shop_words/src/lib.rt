@@ -1,8 +1,9 @@
 //! The words of the program: which command they give, and with what options.
 #![tactic(auto)]
 
+mod choices;
 mod command;
 mod options;
 mod values;
 
-pub use command::{Command, Drive, Parsed, Session, command_of};
+pub use command::{Command, Drive, Parsed, Race, Session, command_of, race_of};

@@ -30,6 +30,12 @@ pub(crate) fn browsers_of(text: &str) -> Option<u32>
     within(1, 64, number_of(text.as_bytes()))
 }
 
+pub(crate) fn workers_of(text: &str) -> Option<u32>
+    ensures { result ≡ spec.workers_of text.now }
+{
+    within(1, 16, number_of(text.as_bytes()))
+}
+
 pub(crate) fn steps_of(text: &str) -> Option<u32>
     ensures { result ≡ spec.steps_of text.now }
 {

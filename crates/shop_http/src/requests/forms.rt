@@ -14,6 +14,7 @@ ghost use Rattle.shop_http.specs.Requests as requests;
 use super::decoding::decoded;
 use super::fault::Fault;
 use super::pairs::Pairs;
+use super::subjects::subject_in;
 use shop_model::{IdsAsked, PRICE_LIMIT, Parameter, SearchKind, Subject, TEXT_LIMIT};
 use shop_text::{Text, number_of};
 use std::alloc::Global;
@@ -68,7 +69,7 @@ pub(crate) fn required_subject(alloc: Global, pairs: &Pairs) -> Result<Subject, 
     let Some(value) = pairs.value_of(Parameter::Subject) else {
         return Err(Fault::Parameter(Parameter::Subject));
     };
-    match Subject::of(decoded(alloc, value)?.as_slice()) {
+    match subject_in(alloc, value)? {
         Some(subject) => Ok(subject),
         None => Err(Fault::Parameter(Parameter::Subject)),
     }

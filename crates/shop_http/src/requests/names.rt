@@ -16,6 +16,7 @@ pub(crate) fn place_of(parameter: Parameter) -> usize
 
 /// The parameter with this name.
 #[tactic(auto, unfolding(crate::specs::Names::parameter_named, crate::specs::Names::parameters))]
+#[inline(always)]
 pub(crate) fn parameter_named(name: &[u8]) -> Option<Parameter>
     ensures { result ≡ spec.parameter_named name.now }
 {

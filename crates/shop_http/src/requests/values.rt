@@ -1,6 +1,7 @@
-ghost use Rattle.std.specs.Prelude.{◌≡◌, OnOk, [], ◌∷◌, length};
+ghost use Rattle.std.specs.Prelude.{◌≡◌, IfOk, OnOk, [], ◌∷◌, length};
 ghost use Rattle.shop_http.specs.Forms as forms;
 ghost use Rattle.shop_http.specs.Firsts as spec;
+ghost use Rattle.shop_http.specs.Names as names;
 ghost use Rattle.shop_http.specs.declared.requests.names.TheConstants.{PARAMETERS};
 
 use super::decoding::decoded;
@@ -9,6 +10,17 @@ use form_urlencoded::raw_pairs;
 use shop_model::Parameter;
 use shop_text::Memory;
 use std::alloc::Global;
+
+/// The parameter that an encoded name stands for. Their own names need no decoding.
+#[inline(always)]
+fn parameter_in(alloc: Global, encoded: &[u8]) -> Result<Option<Parameter>, Memory>
+    ensures { IfOk result (λ parameter. parameter ≡ names.parameter_named (forms.decoded_text encoded.now)) }
+{
+    match parameter_named(encoded) {
+        Some(parameter) => Ok(Some(parameter)),
+        None => Ok(parameter_named(decoded(alloc, encoded)?.as_slice())),
+    }
+}
 
 /// The values of the parameters: of each that of the first pair with its name, still encoded.
 #[derive(Drop)]
@@ -34,21 +46,21 @@ impl<'a> Values<'a> {
         ensures { OnOk result (firsts_kept self.new ≡ spec.behind (firsts_kept self.old) (forms.pairs encoded.now)) }
     {
         for (name, value) in raw_pairs(encoded) {
-            let name = decoded(alloc, name)?;
-            self.add(name.as_slice(), value);
+            self.add(alloc, name, value)?;
         }
         Ok(())
     }
 
-    /// Reads a pair of a decoded name and an encoded value.
-    fn add(&mut self, name: &[u8], value: &'a [u8])
-        ensures { firsts_kept self.new ≡ spec.behind (firsts_kept self.old) ((name.now, forms.decoded_text value.now) ∷ []) }
+    /// Reads a pair of an encoded name and an encoded value.
+    fn add(&mut self, alloc: Global, name: &[u8], value: &'a [u8]) -> Result<(), Memory>
+        ensures { OnOk result (firsts_kept self.new ≡ spec.behind (firsts_kept self.old) ((forms.decoded_text name.now, forms.decoded_text value.now) ∷ [])) }
     {
-        if let Some(parameter) = parameter_named(name) {
+        if let Some(parameter) = parameter_in(alloc, name)? {
             if self.of(parameter).is_none() {
                 self.kept[place_of(parameter)] = Some(value);
             }
         }
+        Ok(())
     }
 
     /// The encoded value of a parameter.

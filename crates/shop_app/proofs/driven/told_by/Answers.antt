@@ -11,7 +11,7 @@ returns-clause-ok g c =
     let left : c.into_book-book.result ≡ c.drive_noted-driven.new.worker.store.book = c.into_book-book.ensures ∙ ap (λ (s : SoloValue). s.book) c.into_store.ensures in
     IfOk-weaker c.lines_for.result _ _
     (λ lines tells. drove_by c.args.asked.now _ _ _ _ driven.driven.0 (first_is c.args.asked.now c.args.worker c.deref_mut.result.now _ _ c.requires.worker (c.deref_mut.ensures.value ∙ c.requires.browsers)) refl refl driven.later
-    c.drive_noted-driven.result c.into_book-book.result lines driven.driven.2 tells refl driven.driven.1 driven.lawful
+    _ c.drive_noted-driven.result c.into_book-book.result lines driven.driven.2 tells refl driven.driven.1 driven.lawful
     (ap (λ (b : BookValue). b.opening.tables) left) (ap (λ (b : BookValue). b.log) left))
     c.lines_for.ensures
 
@@ -20,4 +20,4 @@ returns-clause-err g c =
     let driven = c.drive_noted-driven.ensures in
     on_err _ c.lines_for.result
     (unfinished c.args.asked.now _ _ _ _ driven.driven.0 (first_is c.args.asked.now c.args.worker c.deref_mut.result.now _ _ c.requires.worker (c.deref_mut.ensures.value ∙ c.requires.browsers)) refl refl driven.later
-    c.drive_noted-driven.result driven.driven.2)
+    _ c.drive_noted-driven.result driven.driven.2)

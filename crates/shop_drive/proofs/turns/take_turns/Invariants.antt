@@ -8,7 +8,7 @@ use Rattle.shop_drive.proofs.turns.take_turns.Given as goal
 
 abbrev pub invariant-loop-round : goal.invariant-loop-round
 invariant-loop-round g l = record {
-  so_far : SoFar (record { worker = standing g.St.Store.seat l.fn.worker (g.C.Clock.readings l.fn.clock) (g.G.Gateway.answers l.fn.gateway); browsers = l.fn.browsers; failures = g.G.Gateway.faults l.fn.gateway })
+  so_far : SoFar (g.St.Store.marked l.worker.store) (record { worker = standing g.St.Store.seat l.fn.worker (g.C.Clock.readings l.fn.clock) (g.G.Gateway.answers l.fn.gateway); browsers = l.fn.browsers; failures = g.G.Gateway.faults l.fn.gateway })
       (record { worker = standing g.St.Store.seat l.worker (g.C.Clock.readings l.clock) (g.G.Gateway.answers l.gateway); browsers = l.browsers; failures = g.G.Gateway.faults l.gateway })
       l.tally (in_turn (length l.fn.browsers) l.round);
   caller : l.worker.caller ≡ l.fn.worker.caller;
@@ -18,7 +18,7 @@ invariant-loop-round g l = record {
 
 abbrev pub invariant-loop-place : goal.invariant-loop-place
 invariant-loop-place g l = record {
-  so_far : SoFar (record { worker = standing g.St.Store.seat l.fn.worker (g.C.Clock.readings l.fn.clock) (g.G.Gateway.answers l.fn.gateway); browsers = l.fn.browsers; failures = g.G.Gateway.faults l.fn.gateway })
+  so_far : SoFar (g.St.Store.marked l.worker.store) (record { worker = standing g.St.Store.seat l.fn.worker (g.C.Clock.readings l.fn.clock) (g.G.Gateway.answers l.fn.gateway); browsers = l.fn.browsers; failures = g.G.Gateway.faults l.fn.gateway })
       (record { worker = standing g.St.Store.seat l.worker (g.C.Clock.readings l.clock) (g.G.Gateway.answers l.gateway); browsers = l.browsers; failures = g.G.Gateway.faults l.gateway })
       l.tally (in_turn (length l.fn.browsers) l.round ++ range_with_len 0 l.place);
   caller : l.worker.caller ≡ l.fn.worker.caller;

@@ -1,49 +1,17 @@
-use Rattle.std.proofs.Common.{refl, sym, ◌∙◌, ap, subst}
-use Rattle.std.specs.Option.{option_copied}
-use Rattle.shop_cache.proofs.cited.Caches.{all_looked}
-use Rattle.shop_browse.specs.Lists.{page_by}
-use Rattle.shop_pages.specs.Replies.{bytes_of}
-use Rattle.shop_engine.specs.Keeping.{IsFoundList}
-use Rattle.shop_engine.specs.Lists.{AreKept, IsKept}
-use Rattle.shop_engine.specs.Workers.{WorkerState}
-use Rattle.shop_engine.proofs.KeptLemmas.{found_list}
+use Rattle.std.proofs.Common.{◌≡◌, None, refl, sym, ◌∙◌, subst}
+use Rattle.shop_engine.specs.Keeping.{found_for}
+use Rattle.shop_engine.specs.Lists.{looked_for}
+use Rattle.shop_engine.proofs.KeptLemmas.{none_listed}
 use Rattle.shop_engine.proofs.worker.Worker.answer_kept.Goals as goal
 
-pub invariant_of-self : goal.invariant_of-self
-invariant_of-self g c =
-    let seat = g.St.Store.seat c.self.inside.store in
-    let marked = g.St.Store.marked c.self.inside.store in
-    let last = c.self.inside.last in (
-      c.self.invariant.0,
-      c.self.invariant.1,
-      subst (AreKept seat marked last) (sym c.look.follows.holds-at-none) (all_looked (λ e. IsKept seat marked last e.0 e.1) c.in-Some.key.now c.self.inside.cache c.self.invariant.2),
-    )
+-- no list is asked for
 
-pub invariant_of-self-in_err-list_reply : goal.invariant_of-self-in_err-list_reply
-invariant_of-self-in_err-list_reply g c =
-    let seat = g.St.Store.seat c.self.inside.store in
-    let marked = g.St.Store.marked c.self.inside.store in
-    let last = c.self.inside.last in (
-      c.self.invariant.0,
-      c.self.invariant.1,
-      subst (AreKept seat marked last) (sym c.look.follows.holds-at-none) (all_looked (λ e. IsKept seat marked last e.0 e.1) c.in-Some.key.now c.self.inside.cache c.self.invariant.2),
-    )
+pub returns-else-asks_list-clause-found : goal.returns-else-asks_list-clause-found
+returns-else-asks_list-clause-found g c =
+    let old = c.args.self.now in
+    subst (λ key. found_for key old.progress.last old.kept ≡ None) (sym (none_listed _ (sym c.asks_list.ensures ∙ c.if-asks_list.false))) refl
 
-pub invariant_of-self-2 : goal.invariant_of-self-2
-invariant_of-self-2 g c =
-    let seat = g.St.Store.seat c.self.inside.store in
-    let marked = g.St.Store.marked c.self.inside.store in
-    let last = c.self.inside.last in (
-      c.self.invariant.0,
-      c.self.invariant.1,
-      subst (AreKept seat marked last) (sym c.look.follows.holds-at-none) (all_looked (λ e. IsKept seat marked last e.0 e.1) c.in-Some.key.now c.self.inside.cache c.self.invariant.2),
-    )
-
-pub returns-clause-found : goal.returns-clause-found
-returns-clause-found g c =
-    let kept = c.in-Some-look.kept.now in
-    let bytes = bytes_of c.list_reply.new.reply in
-    subst (λ (w : WorkerState g.row.St.Denot). IsFoundList (g.St.Store.seat w.store) (g.St.Store.marked w.store) c.args.request.now c.args.form kept.front w.progress.last bytes w.kept) c.self.view_is
-    (found_list (g.St.Store.seat c.self.inside.store) (g.St.Store.marked c.self.inside.store) c.args.request.now c.args.form kept.front c.self.inside.last bytes c.self.inside.cache c.in-Some.key.now kept
-    (sym c.requires ∙ ap option_copied c.in-Some.is) c.self.invariant.2 (sym c.in-Some-look.ensures.value) refl
-    (λ page is. c.in_ok-list_reply.ensures page (ap (page_by c.args.request.now) c.as_slice.ensures ∙ is)))
+pub returns-else-asks_list-clause-looked : goal.returns-else-asks_list-clause-looked
+returns-else-asks_list-clause-looked g c =
+    let old = c.args.self.now in
+    subst (λ key. old.kept ≡ looked_for key old.kept) (sym (none_listed _ (sym c.asks_list.ensures ∙ c.if-asks_list.false))) refl

@@ -4,8 +4,25 @@ use Rattle.std.specs.HashMap.{get}
 use Rattle.shop_edges.specs.declared.gateway.Answer.{Answer}
 use Rattle.shop_gateway.specs.Verdicts.{key_of, same_key, entry_at, next_verdict}
 use Rattle.shop_gateway.specs.Emulators.{EmulatorValue, IsSaid}
-use Rattle.shop_gateway.proofs.Ledgers.{decided_next}
+use Rattle.shop_gateway.proofs.Ledgers.{decided_next, told}
 use Rattle.shop_gateway.proofs.emulator.Emulator.decide.Goals as goal
+
+pub invariant_of-self-2 : goal.invariant_of-self-2
+invariant_of-self-2 c =
+    let ledger = c.self.inside.ledger.items in
+    let answers = c.self.inside.answers.items in
+    let entry = c.in-Some.entry.now in
+    let answer = c.in_ok-answer.answer in
+    let charge = c.args.charge.now in
+    let got : get same_key c.self.inside.entries (key_of charge) ≡ Some entry =
+    ap (get same_key c.self.inside.entries) (sym c.key_of.ensures) ∙ sym c.in-Some.ensures.value in
+    let there : entry_at ledger (key_of answer.charge) ≡ Some entry =
+    ap (λ (a : Answer). entry_at ledger (key_of a.charge)) c.in_ok-answer.ensures ∙ sym (c.self.invariant.found (key_of charge)) ∙ got in
+    let verdict : answer.verdict ≡ next_verdict entry answer.charge =
+    ap (λ (a : Answer). a.verdict) c.in_ok-answer.ensures ∙ ap (λ (a : Answer). next_verdict entry a.charge) (sym c.in_ok-answer.ensures) in
+    let items : c.push_reserved.new.self.items ≡ answers ++ answer ∷ [] =
+    c.push_reserved.ensures.items ∙ ap (λ (xs : List Answer). xs ++ answer ∷ []) c.reserve.ensures.items in
+    rw items (told ledger answers entry answer (get same_key c.self.inside.entries) c.self.invariant there verdict)
 
 pub returns-clause-ok : goal.returns-clause-ok
 returns-clause-ok c =

@@ -1,4 +1,4 @@
-use Rattle.std.proofs.Common.{◌≡◌, [], map, ap, sym, ◌∙◌}
+use Rattle.std.proofs.Common.{◌≡◌, [], map, refl, ap, sym, ◌∙◌}
 use Rattle.form_urlencoded.specs.Parse.{raw_pairs_left}
 use Rattle.shop_http.specs.Firsts.{behind}
 use Rattle.shop_http.specs.Forms.{decoded}
@@ -11,15 +11,10 @@ pub loop-name-init : goal.loop-name-init
 loop-name-init c =
     rw (c.into_iter-name-iterator.ensures.into_iter_gives, c.raw_pairs-name-items.ensures.value) (ap (behind _) (pairs-decoded c.args.encoded.now))
 
-pub loop-name-preserved-in_ok-name : goal.loop-name-preserved-in_ok-name
-loop-name-preserved-in_ok-name c =
-    ap (λ firsts. behind firsts (map decoded (raw_pairs_left c.next.new.self))) c.add.ensures
-    ∙ behind-next (firsts_kept c.loop-name.self) _ _ _ _ _ c.in-Some.ensures.steps (c.as_slice.ensures.value ∙ c.in_ok-name.ensures) ∙ c.loop-name.invariant
-
 pub loop-name-preserved : goal.loop-name-preserved
 loop-name-preserved c =
-    ap (λ firsts. behind firsts (map decoded (raw_pairs_left c.next.new.self))) c.add.ensures
-    ∙ behind-next (firsts_kept c.loop-name.self) _ _ _ _ _ c.in-Some.ensures.steps (c.as_slice.ensures.value ∙ c.in_ok-name.ensures) ∙ c.loop-name.invariant
+    ap (λ firsts. behind firsts (map decoded (raw_pairs_left c.next.new.self))) c.in_ok-add.ensures
+    ∙ behind-next (firsts_kept c.loop-name.self) _ _ _ _ _ c.in-Some.ensures.steps refl ∙ c.loop-name.invariant
 
 pub returns : goal.returns
 returns c =

@@ -1,0 +1,5 @@
+use Rattle.shop_app.proofs.RaceLemmas.{opens_new}
+use Rattle.shop_app.proofs.raced.open_shop.Goals as goal
+
+pub returns-clause-desks : goal.returns-clause-desks
+returns-clause-desks g c = opens_new c.args.asked _ c.in_ok-tables.tables c.args.callers _ c.in_ok-book.ensures.value c.in_ok-tables.ensures.value c.in_ok-desks.ensures

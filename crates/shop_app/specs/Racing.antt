@@ -1,0 +1,150 @@
+-- What a race does, by its status.
+use Rattle.std.specs.Prelude.{◌≡◌, ◌⊎◌, ℕ, ◌+◌, ◌<◌, ◌≤◌, get_or, List, [], ◌∷◌, ◌++◌, length, flat_map, All, Option, Some, None}
+use Rattle.std.specs.List.{AllZip}
+use Rattle.std.specs.Io.KnownBytes.{Appends}
+use Rattle.atomic_table.specs.Seated.{TableId}
+use Rattle.shop_log.specs.Histories.{Extends}
+use Rattle.shop_edges.specs.Causes.{Rose}
+use Rattle.shop_edges.specs.Clocks.{IsTwin}
+use Rattle.shop_edges.specs.Starts.{Spawning}
+use Rattle.shop_edges.specs.Streams.{AppendsFront}
+use Rattle.shop_gateway.specs.Verdicts.{verdict}
+use Rattle.shop_model.specs.population.Population.{populated}
+use Rattle.shop_history.specs.declared.acts.Entry.{Entry}
+use Rattle.shop_history.specs.Lawful.{IsLawful}
+use Rattle.shop_history.specs.Logs.{entries_of}
+use Rattle.shop_attempt.specs.Seats.{Seat, IsSeat}
+use Rattle.shop_book.specs.Books.{BookValue}
+use Rattle.shop_turn.specs.Desks.{DeskValue, seat_of}
+use Rattle.shop_turn.specs.Shops.{Opens, new_desk}
+use Rattle.shop_browsers.specs.Browsers.{new_browser}
+use Rattle.shop_engine.specs.Failures.{RoseBy, failures}
+use Rattle.shop_engine.specs.Lists.{IsFreshIn}
+use Rattle.shop_engine.specs.Workers.{Caller, at_first}
+use Rattle.shop_drive.specs.declared.tally.Tally.{Tally}
+use Rattle.shop_drive.specs.Drives.{Drove, greatest_moment, points_of}
+use Rattle.shop_drive.specs.Turns.{Stage}
+use Rattle.shop_tasks.specs.TaskValues.{TaskValue}
+use Rattle.shop_words.specs.declared.command.Race.{Race}
+use Rattle.shop_words.specs.declared.command.Session.{Session}
+use Rattle.shop_words.specs.Commands.{IsRace}
+use Rattle.shop_app.specs.declared.status.Status.{Status}
+use Rattle.shop_app.specs.declared.status.Status.TheVariants as status
+use Rattle.shop_app.specs.Summaries.{race_lines}
+
+-- the book of a shop that nobody has used
+unfoldable pub new_book : Session → BookValue
+new_book session = record { opening = record { tables = populated session.seed session.scale; limit = 1_000_000 }; log = []; latest = 0 }
+
+-- as many workers and steps as words may ask for
+pub record IsWithin (race : Race) : Type 0 where
+  pub one : 1 ≤ race.workers
+  pub workers : race.workers ≤ 16
+  pub steps : race.steps ≤ 100_000
+
+-- a caller of the shop that the words choose
+abbrev pub caller_of : Session → ℕ → Caller
+caller_of session number = record { number = number; seed = session.seed; scale = session.scale }
+
+-- the seat of a caller, at a desk that it has not used: over the population, with a log that is empty and may have so
+-- many entries; others may come at any time, so that no latest stamp is known
+unfoldable pub first_seat_at : List ℕ → Session → ℕ → Seat
+first_seat_at shop session number = record {
+  shop = shop;
+  opening = populated session.seed session.scale;
+  limit = 1_000_000;
+  caller = number;
+  seen = [];
+  own = [];
+  calls = 0;
+  settles = 0;
+  greatest = 0;
+  latest = None;
+}
+
+-- where a caller's worker and its browser stand before the race
+abbrev pub first_stage_at : List ℕ → Race → ℕ → Option (List ℕ) → Stage
+first_stage_at shop race number clock = record {
+  worker = record { caller = caller_of race.shop number; progress = at_first; kept = []; seat = first_seat_at shop race.shop number; clock = clock; told = Some [] };
+  browsers = new_browser race.shop.seed number race.mix race.shop.scale ∷ [];
+  failures = 0;
+}
+
+-- the task of a desk's caller before it is run
+pub record IsFirstTask {C : Type 0} (readings : C → Option (List ℕ)) (race : Race) (clock : Option (List ℕ)) (desk : DeskValue) (task : TaskValue C) : Type 0 where
+  pub desk_is : task.desk ≡ desk
+  pub caller : task.caller ≡ caller_of race.shop desk.number
+  pub twin : IsTwin clock (readings task.clock)
+  pub mix_is : task.mix ≡ race.mix
+  pub steps_are : task.steps ≡ race.steps
+
+-- the first desks of a new shop for so many callers
+pub record AreNewDesks (session : Session) (callers : ℕ) (desks : List DeskValue) : Type 0 where
+  pub table : TableId
+  pub at : (place : ℕ) (other : DeskValue) → place < length desks → get_or desks place other ≡ new_desk table (new_book session) callers (place + 1)
+  pub valid : All (λ desk. IsSeat (seat_of desk)) desks
+
+-- the tasks of the callers at these desks
+abbrev pub AreFirstTasks : {C : Type 0} → (C → Option (List ℕ)) → Race → Option (List ℕ) → List DeskValue → List (TaskValue C) → Type 0
+AreFirstTasks readings race clock = AllZip (IsFirstTask readings race clock)
+
+-- a race is laid out: a desk for each worker, with its task, and one more that is nobody's
+pub record OpensRace {C : Type 0} (readings : C → Option (List ℕ)) (race : Race) (clock : Option (List ℕ)) (own : DeskValue) (tasks : List (TaskValue C)) : Type 0 where
+  pub desks : List DeskValue
+  pub opens : Opens (new_book race.shop) (race.workers + 1) (desks ++ own ∷ [])
+  pub tasks_are : AreFirstTasks readings race clock desks tasks
+
+-- a caller's browser took all its turns over a desk, with a clock of the same time and a gateway of its own. The log
+-- begins with what the desk has seen, and of the caller it has what these turns made, each once and in order; each list that was kept is
+-- fresh of it; the gateway never failed, and each of its verdicts is that of an empty ledger
+pub record RacedBy (race : Race) (clock : Option (List ℕ)) (log : List Entry) (number : ℕ) : Type 0 where
+  pub shop : List ℕ
+  pub readings : Option (List ℕ)
+  pub twin : IsTwin clock readings
+  pub after : Stage
+  pub tally : Tally
+  pub drove : Drove (first_stage_at shop race number readings) after race.steps tally
+  pub grows : Extends after.worker.seat.seen log
+  pub made : entries_of number log ≡ flat_map (λ t. t.step.made) drove.turns
+  pub fresh : All (IsFreshIn log) (points_of drove.turns)
+  pub unfailing : failures (points_of drove.turns) ≡ 0
+  pub verdicts : All (λ a. a.verdict ≡ verdict [] a.charge) (flat_map (λ t. t.step.answers) drove.turns)
+
+-- the browsers of all callers took their turns at one shop: its log is lawful, each entry is one caller's, and its stamp
+-- is no later than the moments of some caller's answers. The lines tell what the log came to
+pub record RacedTo (race : Race) (clock : Option (List ℕ)) (lines : List ℕ) : Type 0 where
+  pub book : BookValue
+  pub opened : book.opening.tables ≡ populated race.shop.seed race.shop.scale
+  pub lawful : IsLawful (populated race.shop.seed race.shop.scale) book.log
+  pub callers : All (λ e. (1 ≤ e.caller) × (e.caller ≤ race.workers)) book.log
+  pub each : (number : ℕ) → 1 ≤ number → number ≤ race.workers → RacedBy race clock book.log number
+  pub stamps : All (λ e. (number : ℕ) × (one : 1 ≤ number) × (most : number ≤ race.workers)
+      × (e.stamp ≤ greatest_moment (points_of (each number one most).drove.turns))) book.log
+  pub printed : lines ≡ race_lines race.workers book
+
+-- what a run over threads is run on: what the sink holds, how often it failed, and the spawner's counts
+pub record Shared : Type 0 where
+  pub held : Option (List ℕ)
+  pub writes : ℕ
+  pub spawning : Spawning
+
+-- why there are no lines
+abbrev pub IsUnraced : Spawning → Spawning → Status → Type 0
+IsUnraced old new status.WorkerFault = Rose old.faults new.faults
+IsUnraced old new status.Memory = Unit {0}
+IsUnraced old new _ = ⊥
+
+-- what the status of a race says; unless all browsers took their turns, nothing is written
+abbrev pub IsRaced : Race → Option (List ℕ) → Shared → Shared → Status → Type 0
+IsRaced race clock old new status.Done = (lines : List ℕ) × RacedTo race clock lines × Appends old.held new.held lines
+    × RoseBy old.spawning.starts race.workers new.spawning.starts
+IsRaced race clock old new status.WriteFault = (lines : List ℕ) × RacedTo race clock lines × AppendsFront old.held new.held lines
+    × RoseBy old.spawning.starts race.workers new.spawning.starts × Rose old.writes new.writes
+IsRaced race clock old new status.WorkerFault = Rose old.spawning.faults new.spawning.faults × (new.held ≡ old.held)
+IsRaced race clock old new status.Memory = new.held ≡ old.held
+IsRaced race clock old new _ = ⊥
+
+-- the words give a race, and this is what came of it, or memory ran out before they were read
+abbrev pub IsSharedRun : List (List ℕ) → Option (List ℕ) → Shared → Shared → Status → Type 0
+IsSharedRun words clock old new outcome =
+    ((outcome ≡ status.Memory) × (new ≡ old)) ⊎ ((race : Race) × IsRace words race × IsRaced race clock old new outcome)

@@ -1,0 +1,162 @@
+//! The command `race`.
+ghost use Rattle.std.specs.Prelude.{◌≡◌, ◌≢◌, ◌+◌, ◌≤◌, length, IfOk, OnOk, IfErr};
+ghost use Rattle.std.specs.Arc.{arc_value};
+ghost use Rattle.shop_engine.specs.Failures.{RoseBy};
+ghost use Rattle.shop_engine.specs.Workers.{IsPosted};
+ghost use Rattle.shop_model.specs.lists.Catalogues.{catalogue};
+ghost use Rattle.shop_model.specs.population.Population.{populated};
+ghost use Rattle.shop_turn.specs.Desks.{seat_of};
+ghost use Rattle.shop_turn.specs.Shops.{Opens, most_callers};
+ghost use Rattle.shop_app.specs.Racing as spec;
+
+use crate::Status;
+use crate::alone::LIMIT;
+use crate::summary::race_lines;
+use shop_book::Book;
+use shop_edges::{Clock, Sink, Spawner, write_all};
+use shop_populate::populate;
+use shop_search::Index;
+use shop_tasks::{Ran, Task, race};
+use shop_text::{Memory, Text};
+use shop_turn::{Desk, Shop};
+use shop_words::{Race, Session};
+use std::alloc::Global;
+use std::sync::{Arc, Wait};
+use std::thread::Threads;
+
+/// The desks of a new shop, and the index of its items.
+fn open_shop<R: Wait + Clone + Drop>(
+    rt: &R,
+    alloc: Global,
+    asked: Session,
+    callers: u32,
+) -> Result<(Vec<Desk<R>>, Arc<Index, Global>), Memory>
+    requires { (1 ≤ callers) × (callers ≤ most_callers) }
+    ensures desks { IfOk result (λ opened. Opens (spec.new_book asked) callers opened.0.items) }
+    ensures index { IfOk result (λ opened. arc_value opened.1 ≡ catalogue (populated asked.seed asked.scale)) }
+{
+    let tables = populate(alloc, asked.seed, &asked.scale)?;
+    let index = Index::build(alloc, &tables)?;
+    let index = Arc::new(alloc, index)?;
+    let book = Book::open(alloc, tables, LIMIT)?;
+    let desks = Shop::open(rt, alloc, book, callers)?;
+    Ok((desks, index))
+}
+
+/// The task of a caller at its desk.
+fn task_of<R: Wait + Drop, C: Clock + Drop>(
+    alloc: Global,
+    asked: &Race,
+    desk: Desk<R>,
+    number: u32,
+    index: Arc<Index, Global>,
+    clock: C,
+) -> Task<R, C>
+    requires { IsPosted (seat_of desk) (arc_value index) (spec.caller_of asked.now.shop number) }
+    ensures { result ≡ record { desk = desk; clock = clock; caller = spec.caller_of asked.now.shop number; mix = asked.now.mix; steps = asked.now.steps } }
+{
+    let Session { scale, seed } = asked.shop;
+    Task::new(
+        alloc,
+        desk,
+        index,
+        clock,
+        number,
+        seed,
+        scale,
+        asked.mix,
+        asked.steps,
+    )
+}
+
+/// The tasks of the callers at these desks, numbered from 1.
+fn tasks_of<R: Wait + Drop, C: Clock + Drop>(
+    alloc: Global,
+    asked: &Race,
+    desks: Vec<Desk<R>>,
+    index: &Arc<Index, Global>,
+    clock: &C,
+) -> Result<Vec<Task<R, C>>, Memory>
+    requires desks { spec.AreNewDesks asked.now.shop (asked.now.workers + 1) desks.items }
+    requires few { length desks.items ≤ 16 }
+    requires index { arc_value index.now ≡ catalogue (populated asked.now.shop.seed asked.now.shop.scale) }
+    ensures { IfOk result (λ tasks. spec.AreFirstTasks C.readings asked.now (C.readings clock.now) desks.items tasks.items) }
+{
+    let mut tasks = Vec::new(alloc);
+    let mut number = 0;
+    for desk in desks {
+        number += 1;
+        let index = Arc::try_clone(index)?;
+        tasks.push(task_of(alloc, asked, desk, number, index, clock.twin()))?;
+    }
+    Ok(tasks)
+}
+
+/// A desk that is nobody's, and the tasks of the callers at the others.
+fn open_race<R: Wait + Clone + Drop, C: Clock + Drop>(
+    rt: &R,
+    alloc: Global,
+    asked: &Race,
+    clock: &C,
+) -> Result<(Desk<R>, Vec<Task<R, C>>), Memory>
+    requires { spec.IsWithin asked.now }
+    ensures { IfOk result (λ opened. spec.OpensRace C.readings asked.now (C.readings clock.now) opened.0 opened.1.items) }
+{
+    let (mut desks, index) = open_shop(rt, alloc, asked.shop, asked.workers + 1)?;
+    let Some(own) = desks.pop() else {
+        unreachable!()
+    };
+    let tasks = tasks_of(alloc, asked, desks, &index, clock)?;
+    Ok((own, tasks))
+}
+
+/// Has the browsers take their turns; the lines that tell what came of it, or why there are none.
+fn told<R: Threads + Wait + Clone + Drop + Send + 'static, C: Clock + Drop + Send + 'static>(
+    rt: &R,
+    alloc: Global,
+    asked: &Race,
+    spawner: &mut Spawner,
+    clock: &C,
+) -> Result<Text, Status>
+    requires { spec.IsWithin asked.now }
+    ensures ok { IfOk result (spec.RacedTo asked.now (C.readings clock.now)) }
+    ensures starts { OnOk result (RoseBy spawner.old.starts asked.now.workers spawner.new.starts) }
+    ensures err { IfErr result (spec.IsUnraced spawner.old spawner.new) }
+{
+    let Ok((own, tasks)) = open_race(rt, alloc, asked, clock) else {
+        return Err(Status::Memory);
+    };
+    match race(rt, alloc, spawner, own, tasks) {
+        Ran::Done(book) => match race_lines(alloc, &book, asked.workers) {
+            Ok(lines) => Ok(lines),
+            Err(Memory) => Err(Status::Memory),
+        },
+        Ran::NotStarted => Err(Status::WorkerFault),
+        Ran::Memory => Err(Status::Memory),
+    }
+}
+
+/// Has the browsers take their turns, and prints what came of it.
+pub(crate) fn race_browsers<
+    R: Threads + Wait + Clone + Drop + Send + 'static,
+    K: Sink,
+    C: Clock + Drop + Send + 'static,
+>(rt: &R, alloc: Global, asked: &Race, spawner: &mut Spawner, sink: &mut K, clock: &C) -> Status
+    requires { spec.IsWithin asked.now }
+    ensures raced { spec.IsRaced asked.now (C.readings clock.now)
+        (record { held = K.held sink.old; writes = K.faults sink.old; spawning = spawner.old })
+        (record { held = K.held sink.new; writes = K.faults sink.new; spawning = spawner.new })
+        result }
+    ensures good_words { result ≢ Status.BadWords }
+{
+    match told(rt, alloc, asked, spawner, clock) {
+        Ok(lines) => {
+            if write_all(sink, lines.bytes()) {
+                Status::Done
+            } else {
+                Status::WriteFault
+            }
+        }
+        Err(status) => status,
+    }
+}

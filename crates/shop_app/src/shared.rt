@@ -1,0 +1,65 @@
+//! The calls of several callers.
+ghost use Rattle.std.specs.Prelude.{◌≡◌, ◌≢◌, ◌≤◌};
+ghost use Rattle.shop_words.specs.declared.command.Race.{Race};
+ghost use Rattle.shop_words.specs.Commands.{IsRace};
+ghost use Rattle.shop_app.specs.Racing.{IsSharedRun};
+ghost use Rattle.shop_app.specs.Runs.{IsTold};
+
+use crate::Status;
+use crate::raced::race_browsers;
+use shop_edges::{Clock, Sink, Spawner, write_all};
+use shop_text::Text;
+use shop_words::{Parsed, race_of};
+use std::alloc::Global;
+use std::sync::Wait;
+use std::thread::Threads;
+
+/// Does what the words say, for several callers over the one shop that the options choose: `race` has each worker
+/// serve a browser in a job of its own, and prints a summary to the sink. Where that doesn't end well, a line on
+/// the faults sink tells it; a fault of that sink changes no status.
+pub fn run_shared<
+    R: Threads + Wait + Clone + Drop + Send + 'static,
+    K: Sink,
+    C: Clock + Drop + Send + 'static,
+>(
+    rt: &R,
+    alloc: Global,
+    words: &[Text],
+    spawner: &mut Spawner,
+    sink: &mut K,
+    faults: &mut K,
+    clock: &C,
+) -> Status
+    ensures bad_words { result ≡ Status.BadWords → (race : Race) → ¬ (IsRace words.now race) }
+    ensures untouched { result ≡ Status.BadWords → (spawner.new ≡ spawner.old) × (sink.new ≡ sink.old) }
+    ensures run { result ≢ Status.BadWords → IsSharedRun words.now (C.readings clock.now)
+        (record { held = K.held sink.old; writes = K.faults sink.old; spawning = spawner.old })
+        (record { held = K.held sink.new; writes = K.faults sink.new; spawning = spawner.new })
+        result }
+    ensures told { IsTold (K.held faults.old) (K.held faults.new) (K.faults faults.old) (K.faults faults.new) result }
+    ensures later { K.faults faults.old ≤ K.faults faults.new }
+{
+    let status = run(rt, alloc, words, spawner, sink, clock);
+    let _ = write_all(faults, status.line());
+    status
+}
+
+/// Does what the words say.
+fn run<
+    R: Threads + Wait + Clone + Drop + Send + 'static,
+    K: Sink,
+    C: Clock + Drop + Send + 'static,
+>(rt: &R, alloc: Global, words: &[Text], spawner: &mut Spawner, sink: &mut K, clock: &C) -> Status
+    ensures bad_words { result ≡ Status.BadWords → (race : Race) → ¬ (IsRace words.now race) }
+    ensures untouched { result ≡ Status.BadWords → (spawner.new ≡ spawner.old) × (sink.new ≡ sink.old) }
+    ensures run { result ≢ Status.BadWords → IsSharedRun words.now (C.readings clock.now)
+        (record { held = K.held sink.old; writes = K.faults sink.old; spawning = spawner.old })
+        (record { held = K.held sink.new; writes = K.faults sink.new; spawning = spawner.new })
+        result }
+{
+    match race_of(alloc, words) {
+        Parsed::Good(asked) => race_browsers(rt, alloc, &asked, spawner, sink, clock),
+        Parsed::Bad => Status::BadWords,
+        Parsed::Memory => Status::Memory,
+    }
+}

@@ -1,0 +1,3 @@
+pub mod Charges
+pub mod Failures
+pub mod Moments

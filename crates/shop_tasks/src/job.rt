@@ -1,0 +1,103 @@
+ghost use Rattle.std.specs.Prelude.{◌≡◌, IfOk};
+ghost use Rattle.std.specs.Arc.{arc_value};
+ghost use Rattle.shop_engine.specs.Workers.{IsPosted};
+ghost use Rattle.shop_turn.specs.Desks.{seat_of};
+ghost use Rattle.shop_tasks.specs.Tasks as spec;
+
+use crate::{Raced, Task};
+use shop_browsers::{Browser, Mix};
+use shop_drive::drive;
+use shop_edges::{Clock, Job};
+use shop_engine::Worker;
+use shop_gateway::Emulator;
+use shop_model::Scale;
+use shop_search::Index;
+use shop_text::Memory;
+use shop_turn::Desk;
+use std::alloc::Global;
+use std::sync::{Arc, Wait};
+
+impl<R: Wait + Drop, C: Clock + Drop> Task<R, C> {
+    /// The caller's number, and the seed and the scale of the shop, are the desk's and the index's.
+    pub fn new(
+        alloc: Global,
+        desk: Desk<R>,
+        index: Arc<Index, Global>,
+        clock: C,
+        number: u32,
+        seed: u32,
+        scale: Scale,
+        mix: Mix,
+        steps: u32,
+    ) -> Task<R, C>
+        requires { IsPosted (seat_of desk) (arc_value index) (record { number = number; seed = seed; scale = scale }) }
+        ensures { result ≡ record { desk = desk; clock = clock; caller = record { number = number; seed = seed; scale = scale }; mix = mix; steps = steps } }
+    {
+        Task {
+            alloc,
+            desk,
+            index,
+            clock,
+            number,
+            seed,
+            scale,
+            mix,
+            steps,
+        }
+    }
+}
+
+impl<R: Wait + Drop + Send + 'static, C: Clock + Drop + Send + 'static> Job for Task<R, C> {
+    ghost use Rattle.shop_tasks.specs.Tasks.{Promises};
+
+    type Handle = R;
+
+    type Out = Result<Raced<R>, Memory>;
+
+    ghost promises = { Promises C.readings };
+
+    fn run(self) -> Result<Raced<R>, Memory> {
+        let Task {
+            alloc,
+            desk,
+            index,
+            mut clock,
+            number,
+            seed,
+            scale,
+            mix,
+            steps,
+        } = self;
+        let worker = Worker::new(alloc, desk, number, seed, scale, index)?;
+        let browser = Browser::new(seed, number, mix, &scale);
+        drive_one(alloc, worker, &mut clock, browser, steps)
+    }
+}
+
+/// Has the browser ask the worker, whose payments a gateway of its own takes.
+fn drive_one<R: Wait + Drop, C: Clock>(
+    alloc: Global,
+    mut worker: Worker<Desk<R>>,
+    clock: &mut C,
+    browser: Browser,
+    steps: u32,
+) -> Result<Raced<R>, Memory>
+    ensures { IfOk result (spec.Races (spec.stage_of worker (C.readings clock.old) browser) steps) }
+{
+    let mut gateway = Emulator::new(alloc);
+    let mut browsers = [browser];
+    let tally = drive(
+        alloc,
+        &mut worker,
+        clock,
+        &mut gateway,
+        &mut browsers,
+        steps,
+    )?;
+    // What the gateway has answered are verdicts of its own.
+    let _ = gateway.answers();
+    Ok(Raced {
+        desk: worker.into_store(),
+        tally,
+    })
+}

@@ -1,0 +1,52 @@
+use Rattle.std.proofs.Common.{◌∙◌, Err, ap, arith}
+use Rattle.clap.specs.Words.{first_value, found_of}
+use Rattle.shop_words.specs.declared.options.Refusal.{Refusal}
+use Rattle.shop_words.specs.Commands.{IsCommand}
+use Rattle.shop_words.proofs.Commands.{first-named, passed, texts}
+use Rattle.shop_words.proofs.Sessions.{chosen-read, command-words, drive-kind, none-chosen, none-read, session-kind}
+use Rattle.shop_words.proofs.command.read_command.Goals as goal
+
+pub returns-in_err-texts : goal.returns-in_err-texts
+returns-in_err-texts c =
+    passed (IsCommand c.args.words.now) c.from_residual.result c.in_err-texts.field-0.0 c.from_residual.ensures.1
+    (λ bad command is. c.in_err-texts.ensures.bad (ap (λ (r : Refusal). Err r) bad) (command-words c.args.words.now command is))
+
+-- ---- a session
+
+pub returns-in_err-found-in-session : goal.returns-in_err-found-in-session
+returns-in_err-found-in-session c =
+    let are = ap texts c.as_slice-texts.ensures.value ∙ c.in_ok-texts.ensures.texts in
+    passed (IsCommand c.args.words.now) c.from_residual-in_err-found-in-session.result c.in_err-found-in-session.field-0.0 c.from_residual-in_err-found-in-session.ensures.1
+    (λ bad. none-read session-kind _ _ are (first-named _ _ _ _ are (omega arith) c.in-session.is-session) (c.in_err-found-in-session.ensures.bad (ap (λ (r : Refusal). Err r) bad)))
+
+pub returns-in-Some : goal.returns-in-Some
+returns-in-Some c =
+    let are = ap texts c.as_slice-texts.ensures.value ∙ c.in_ok-texts.ensures.texts in
+    chosen-read session-kind _ _ are (first-named _ _ _ _ are (omega arith) c.in-session.is-session)
+    (first_value (found_of c.in_ok-found-in-session.found)) c.in_ok-found-in-session.ensures.values c.in-Some.session c.in-Some.ensures.some
+
+pub returns-in-session : goal.returns-in-session
+returns-in-session c =
+    let are = ap texts c.as_slice-texts.ensures.value ∙ c.in_ok-texts.ensures.texts in
+    none-chosen session-kind _ _ are (first-named _ _ _ _ are (omega arith) c.in-session.is-session)
+    (first_value (found_of c.in_ok-found-in-session.found)) c.in_ok-found-in-session.ensures.values c.in-None.ensures.none
+
+-- ---- a drive
+
+pub returns-in_err-found-in-drive : goal.returns-in_err-found-in-drive
+returns-in_err-found-in-drive c =
+    let are = ap texts c.as_slice-texts.ensures.value ∙ c.in_ok-texts.ensures.texts in
+    passed (IsCommand c.args.words.now) c.from_residual-in_err-found-in-drive.result c.in_err-found-in-drive.field-0.0 c.from_residual-in_err-found-in-drive.ensures.1
+    (λ bad. none-read drive-kind _ _ are (first-named _ _ _ _ are (omega arith) c.in-drive.is-drive) (c.in_err-found-in-drive.ensures.bad (ap (λ (r : Refusal). Err r) bad)))
+
+pub returns-in-Some-drive_of : goal.returns-in-Some-drive_of
+returns-in-Some-drive_of c =
+    let are = ap texts c.as_slice-texts.ensures.value ∙ c.in_ok-texts.ensures.texts in
+    chosen-read drive-kind _ _ are (first-named _ _ _ _ are (omega arith) c.in-drive.is-drive)
+    (first_value (found_of c.in_ok-found-in-drive.found)) c.in_ok-found-in-drive.ensures.values c.in-Some-drive_of.drive c.in-Some-drive_of.ensures.some
+
+pub returns-in-drive : goal.returns-in-drive
+returns-in-drive c =
+    let are = ap texts c.as_slice-texts.ensures.value ∙ c.in_ok-texts.ensures.texts in
+    none-chosen drive-kind _ _ are (first-named _ _ _ _ are (omega arith) c.in-drive.is-drive)
+    (first_value (found_of c.in_ok-found-in-drive.found)) c.in_ok-found-in-drive.ensures.values c.in-None-drive_of.ensures.none

@@ -1,0 +1,84 @@
+//! What the values of options choose.
+ghost use Rattle.std.specs.Prelude.{IfSome, IfNone};
+ghost use Rattle.clap.specs.Words.{first_value, found_of};
+ghost use Rattle.shop_words.specs.Commands.{Chooses, ChoosesDrive, ChoosesRace, ChoosesWorkload};
+
+use crate::command::{Drive, Race, Session};
+use crate::values::{browsers_of, mix_of, scale_of, steps_of, workers_of};
+use clap::ArgMatches;
+use shop_browsers::Mix;
+use shop_model::Scale;
+use shop_text::number_of;
+
+/// A shop, and what each browser or worker does there.
+#[derive(Clone, Copy, Debug)]
+pub(crate) struct Workload {
+    shop: Session,
+    steps: u32,
+    mix: Mix,
+}
+
+pub(crate) fn session_of(found: &ArgMatches) -> Option<Session>
+    ensures some { IfSome result (Chooses (first_value (found_of found.now))) }
+    ensures none { IfNone result ((session : Session) → ¬ (Chooses (first_value (found_of found.now)) session)) }
+{
+    let scale = match found.get_str("scale") {
+        Some(text) => scale_of(text)?,
+        None => Scale::desk(),
+    };
+    let seed = match found.get_str("seed") {
+        Some(text) => number_of(text.as_bytes())?,
+        None => 0,
+    };
+    Some(Session { scale, seed })
+}
+
+fn workload_of(found: &ArgMatches) -> Option<Workload>
+    ensures some { IfSome result (ChoosesWorkload (first_value (found_of found.now))) }
+    ensures none { IfNone result ((workload : Workload) → ¬ (ChoosesWorkload (first_value (found_of found.now)) workload)) }
+{
+    let shop = session_of(found)?;
+    let steps = match found.get_str("steps") {
+        Some(text) => steps_of(text)?,
+        None => 100,
+    };
+    let mix = match found.get_str("mix") {
+        Some(text) => mix_of(text)?,
+        None => Mix::Shopping,
+    };
+    Some(Workload { shop, steps, mix })
+}
+
+pub(crate) fn drive_of(found: &ArgMatches) -> Option<Drive>
+    ensures some { IfSome result (ChoosesDrive (first_value (found_of found.now))) }
+    ensures none { IfNone result ((drive : Drive) → ¬ (ChoosesDrive (first_value (found_of found.now)) drive)) }
+{
+    let Workload { shop, steps, mix } = workload_of(found)?;
+    let browsers = match found.get_str("browsers") {
+        Some(text) => browsers_of(text)?,
+        None => 1,
+    };
+    Some(Drive {
+        shop,
+        browsers,
+        steps,
+        mix,
+    })
+}
+
+pub(crate) fn race_of(found: &ArgMatches) -> Option<Race>
+    ensures some { IfSome result (ChoosesRace (first_value (found_of found.now))) }
+    ensures none { IfNone result ((race : Race) → ¬ (ChoosesRace (first_value (found_of found.now)) race)) }
+{
+    let Workload { shop, steps, mix } = workload_of(found)?;
+    let workers = match found.get_str("workers") {
+        Some(text) => workers_of(text)?,
+        None => 2,
+    };
+    Some(Race {
+        shop,
+        workers,
+        steps,
+        mix,
+    })
+}
