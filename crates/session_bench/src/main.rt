@@ -1,9 +1,9 @@
-//! Serves the requests of standard input over one worker, a thousand a connection, writes the replies
-//! to standard output, and tells how many there were. Its words are those of the shop's program.
+//! Serves the connections of standard input over one worker, writes the replies to standard output, and
+//! tells how many there were. Before the bytes of each connection stands their number, in eight digits
+//! and a line feed, so that nothing is searched. Its words are those of the shop's program.
 #![tactic(auto)]
 
 use anyhow::{Context, Result, anyhow};
-use memchr::memmem::find_iter;
 use shop_app::first_worker;
 use shop_book::Solo;
 use shop_edges::{
@@ -11,46 +11,47 @@ use shop_edges::{
 };
 use shop_engine::{Worker, serve_connection};
 use shop_gateway::Emulator;
-use shop_text::{Listed, Memory, Text};
+use shop_text::{Listed, Text, number_of};
 use shop_words::{Command, Parsed, Session, command_of};
 use std::alloc::Global;
 use std::env::{self, Env};
 use std::io::Read;
 
-/// The most requests of a connection, and the most bytes of a read.
-const REQUESTS: usize = 1_000;
-
+/// The most bytes of a read.
 const PIECE: usize = 32_768;
 
-/// Where each connection's bytes end.
-fn ends(alloc: Global, input: &[u8]) -> Result<Vec<usize>, Memory> {
-    let mut ends = Vec::new(alloc);
-    for (count, at) in find_iter(input, b"\r\n\r\n").enumerate() {
-        if count % REQUESTS == REQUESTS - 1 {
-            ends.push(at.saturating_add(4))?;
-        }
-    }
-    ends.push(input.len())?;
-    Ok(ends)
+/// The digits of a number of bytes.
+const DIGITS: usize = 8;
+
+/// The bytes of the next connection, where there is one.
+fn next_connection(alloc: Global, input: &mut impl Read) -> Result<Option<Text>> {
+    let mut line = [0; DIGITS + 1];
+    let Ok(()) = input.read_exact(&mut line) else {
+        return Ok(None);
+    };
+    let size = number_of(&line[..DIGITS]).context("no number of bytes")?;
+    let mut bytes = vec![in alloc; 0; size as usize]?;
+    input.read_exact(&mut bytes)?;
+    Ok(Some(Text::from_vec(bytes)))
 }
 
 /// Serves one connection after another, and counts the answers.
 fn serve<K: Sink, C: Clock, G: Gateway>(
     alloc: Global,
     worker: &mut Worker<Solo>,
-    input: &[u8],
+    input: &mut impl Read,
     sink: &mut K,
     clock: &mut C,
     gateway: &mut G,
-) -> Result<usize, Memory> {
+) -> Result<usize> {
     let mut answers = 0_usize;
-    let mut start = 0;
-    for end in ends(alloc, input)? {
-        let bytes = Text::copy(alloc, input.get(start..end).unwrap_or(&[]))?;
+    for _ in 0..u64::MAX {
+        let Some(bytes) = next_connection(alloc, input)? else {
+            break;
+        };
         let mut source = BytesIn::new(bytes, PIECE, Listed::new(alloc));
         let report = serve_connection(alloc, worker, &mut source, sink, clock, gateway);
         answers = answers.saturating_add(report.points.as_slice().len());
-        start = end;
     }
     Ok(answers)
 }
@@ -59,11 +60,11 @@ fn serve<K: Sink, C: Clock, G: Gateway>(
 fn answers_to<K: Sink, C: Clock>(
     alloc: Global,
     asked: Session,
-    input: &[u8],
+    input: &mut impl Read,
     sink: &mut K,
     clock: &mut C,
-) -> Result<usize, Memory> {
-    let mut worker = first_worker(alloc, asked)?;
+) -> Result<usize> {
+    let mut worker = first_worker(alloc, asked).ok().context("no memory")?;
     let mut gateway = Emulator::new(alloc);
     serve(alloc, &mut worker, input, sink, clock, &mut gateway)
 }
@@ -84,12 +85,10 @@ fn session_of(rt: &(impl Env + AllocGlobal)) -> Result<Session> {
 fn main(rt: HostRuntime) -> Result<()> {
     let alloc = rt.alloc();
     let asked = session_of(&rt)?;
-    let mut input = Vec::new(alloc);
-    rt.stdin().read_to_end(&mut input)?;
+    let mut input = rt.stdin();
     let mut sink = WriterSink::new(StandardOutput::Output(rt.stdout()));
     let mut clock = SystemClock::new(rt);
-    let answers = answers_to(alloc, asked, &input, &mut sink, &mut clock);
-    let answers = answers.ok().context("no memory")?;
+    let answers = answers_to(alloc, asked, &mut input, &mut sink, &mut clock)?;
     eprintln!(rt; "{answers} answers")?;
     Ok(())
 }

@@ -1,11 +1,11 @@
 -- A text that stands escaped is read back, a byte at a time, up to the next pair.
-use Rattle.std.proofs.Common.{◌≡◌, ℕ, ◌-◌, ◌==◌, true, false, List, [], ◌∷◌, ◌++◌, length, take, Option, Some, None, arith, refl, sym, ap, ◌∙◌, append_assoc, append-nil, length-append}
+use Rattle.std.proofs.Common.{◌≡◌, ℕ, zero, suc, ◌-◌, ◌==◌, ◌<◌, ◌≤◌, drop, get_or, subst, length-drop, true, false, List, [], ◌∷◌, ◌++◌, length, take, Option, Some, None, arith, refl, sym, ap, ◌∙◌, append_assoc, append-nil, length-append}
 use Rattle.std.proofs.lemmas.Grind.{flat_map-append}
 use Rattle.std.proofs.lemmas.List.{take-append-le, take_all}
 use Rattle.std.proofs.lemmas.List.Splits.{slice_split_none, slice_split_at}
 use Rattle.shop_text.specs.Escape.{escape, escape_byte, first_read}
 use Rattle.shop_text.proofs.cited.Escaped.{escaped_read}
-use Rattle.shop_browsers.specs.Scanned.{split, IsNextPair}
+use Rattle.shop_browsers.specs.Scanned.{Passes, split, IsNextPair}
 use Rattle.shop_browsers.proofs.Escaped.{none_of, none_all, none_append, none_one}
 
 nothing_read : first_read [] ≡ None
@@ -66,6 +66,26 @@ one_more text bytes rest after before byte (x ∷ others) text_is bytes_is rest_
 pub seen_more : (text bytes rest after : List ℕ) (byte : ℕ) → Seen text bytes rest → first_read rest ≡ Some (byte, after) → (byte == 38) ≡ false → Seen text bytes after
 seen_more text bytes rest after byte seen read other =
     one_more text bytes rest after seen.before byte seen.others seen.text_is seen.bytes_is seen.rest_is seen.none read other
+
+plain_read : (byte : ℕ) (rest : List ℕ) → (byte == 38) ≡ false → first_read (byte ∷ rest) ≡ Some (byte, rest)
+unfolding first_read
+plain_read byte rest other = rw other refl
+
+passed_at : (text bytes rest : List ℕ) (at : ℕ) → at ≤ length rest → ((k : ℕ) → k < at → (get_or rest k 0 == 38) ≡ false) → Seen text bytes rest
+    → Seen text bytes (drop at rest)
+passed_at text bytes rest zero within plain seen = seen
+passed_at text bytes [] (suc at) within plain seen = absurd (omega (arith, within))
+passed_at text bytes (x ∷ rest) (suc at) within plain seen =
+    let other = plain 0 (omega arith) in
+    passed_at text bytes rest at (omega (arith, within)) (λ k below. plain (suc k) (omega (arith, below)))
+    (seen_more text bytes (x ∷ rest) rest x seen (plain_read x rest other) other)
+
+-- bytes that are no `&` are passed at once
+pub seen_passed : (text bytes rest after : List ℕ) → Passes rest after → Seen text bytes rest → Seen text bytes after
+seen_passed text bytes rest after passes seen = subst (Seen text bytes) (sym passes.is) (passed_at text bytes rest passes.passed passes.within passes.plain seen)
+
+pub passed_length : (rest after : List ℕ) → Passes rest after → length after ≤ length rest
+passed_length rest after passes = omega (arith, ap length passes.is, length-drop passes.passed rest)
 
 front_of : (bytes front rest : List ℕ) → bytes ≡ front ++ rest → take (length bytes - length rest) bytes ≡ front
 front_of bytes front rest is =

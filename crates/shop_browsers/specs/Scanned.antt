@@ -1,5 +1,5 @@
 -- The links of a page as they stand in the bytes of its text.
-use Rattle.std.specs.Prelude.{◌≡◌, ℕ, ◌==◌, nat_eq, List, [], ◌∷◌, drop, codes, Option, Some, None, if◌then◌else◌}
+use Rattle.std.specs.Prelude.{◌≡◌, ℕ, ◌==◌, ◌<◌, ◌≤◌, nat_eq, List, [], ◌∷◌, length, drop, get_or, false, codes, Option, Some, None, if◌then◌else◌}
 use Rattle.std.specs.List.{starts_with, slice_split, before_first}
 use Rattle.std.specs.Option.{option_or}
 use Rattle.shop_text.specs.Escape.{escape}
@@ -22,6 +22,13 @@ abbrev pub IsNextPair : List ℕ → List ℕ → Option (List ℕ) → Type 0
 IsNextPair text pair None = (pair ≡ escape text) × (split text ≡ text ∷ [])
 IsNextPair text pair (Some after) =
     (first others : List ℕ) × (pair ≡ escape first) × (after ≡ escape others) × (split text ≡ first ∷ split others)
+
+-- what is left behind some bytes, none of which is `&`
+pub record Passes (bytes rest : List ℕ) : Type 0 where
+  pub passed : ℕ
+  pub within : passed ≤ length bytes
+  pub plain : (k : ℕ) → k < passed → (get_or bytes k 0 == 38) ≡ false
+  pub is : rest ≡ drop passed bytes
 
 -- these ids, and where one lacks that of the first pair that has it
 abbrev pub with_pairs : IdsAsked → List (List ℕ) → IdsAsked

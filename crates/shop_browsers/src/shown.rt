@@ -103,17 +103,27 @@ fn number_behind(front: &[u8], pair: &[u8]) -> Option<u32>
     }
 }
 
+/// What is left from the next `&` on.
+fn from_sign(bytes: &[u8]) -> &[u8]
+    ensures { scanned.Passes bytes.now result.now }
+{
+    match memchr(b'&', bytes) {
+        Some(sign) => &bytes[sign..],
+        None => &[],
+    }
+}
+
 /// The pair before the next `&`, and what follows that sign, where there is one.
 fn next_pair(bytes: &[u8]) -> (&[u8], Option<&[u8]>)
     ensures pair { (text : List ℕ) → bytes.now ≡ escape text → scanned.IsNextPair text result.0.now (option_map (λ after. after.now) result.1) }
     ensures shorter { IfSome result.1 (λ after. length after.now < length bytes.now) }
 {
-    let mut rest = bytes;
+    let mut rest = from_sign(bytes);
     while let Some((byte, after)) = unescaped(rest) {
         if byte == b'&' {
             return (&bytes[..bytes.len() - rest.len()], Some(after));
         }
-        rest = after;
+        rest = from_sign(after);
     }
     (bytes, None)
 }

@@ -40,14 +40,17 @@ impl Template {
         Ok(())
     }
 
-    /// Adds the digits of a number; one alone needs no buffer.
-    #[tactic(auto, using(shop_text::proofs::cited::Plain::plain_decimal, std::proofs::lemmas::Fmt::decimal_digit))]
+    /// Adds the digits of a number; one or two need no buffer.
+    #[tactic(auto, using(shop_text::proofs::cited::Plain::plain_decimal, std::proofs::lemmas::Fmt::decimal_digit, crate::proofs::cited::TwoDigits::decimal_two))]
     #[inline(never)]
     fn put_number(&mut self, number: u64) -> Result<(), Memory>
         ensures { OnOk result (Says self.old self.new (escape (decimal number))) }
     {
         if number < 10 {
             self.put(&[b'0' + number as u8])?;
+        } else if number < 100 {
+            let number = number as u8;
+            self.put(&[b'0' + number / 10, b'0' + number % 10])?;
         } else {
             let mut buffer = Buffer::new();
             self.put(buffer.format(number).as_bytes())?;
@@ -55,16 +58,20 @@ impl Template {
         Ok(())
     }
 
-    /// Adds an amount in cents.
-    #[tactic(auto, using(shop_text::proofs::cited::Plain::plain_cents))]
+    /// Adds an amount in cents. Most prices are of two digits and two.
     #[inline(never)]
     fn put_cents(&mut self, cents: u64) -> Result<(), Memory>
         ensures { OnOk result (Says self.old self.new (escape (cents_text cents))) }
     {
-        let mut buffer = Buffer::new();
         let rest = (cents % 100) as u8;
-        self.put(buffer.format(cents / 100).as_bytes())?;
-        self.put(&[b'.', b'0' + rest / 10, b'0' + rest % 10])?;
+        let (tens, ones) = (b'0' + rest / 10, b'0' + rest % 10);
+        if cents < 10_000 && cents >= 1_000 {
+            let units = (cents / 100) as u8;
+            self.put(&[b'0' + units / 10, b'0' + units % 10, b'.', tens, ones])?;
+        } else {
+            self.put_number(cents / 100)?;
+            self.put(&[b'.', tens, ones])?;
+        }
         Ok(())
     }
 

@@ -154,6 +154,7 @@ fn serve_all<St: Store, S: Source, K: Sink, C: Clock, G: Gateway>(
         if let Some(end) = ended {
             return end;
         }
+        buffer.reuse(message);
     }
     Ended::Spent
 }

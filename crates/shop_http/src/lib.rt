@@ -1,6 +1,7 @@
 //! What the messages of a connection ask for.
 #![tactic(auto)]
 
+mod constants;
 mod requests;
 mod router;
 

@@ -5,6 +5,7 @@ ghost use Rattle.shop_http.specs.Answers.{Reads, Answers};
 ghost use Rattle.shop_http.specs.Forms.{pairs};
 ghost use Rattle.shop_http.specs.Requests as spec;
 
+use crate::constants::is_same;
 use crate::router::Routes;
 use administration::{admin_confirm, admin_request};
 use browsing::{best_sellers, home, new_products, product_detail, search_request, search_results};
@@ -88,9 +89,9 @@ fn asked_of(alloc: Global, routes: &Routes, method: &[u8], target: &[u8], body: 
     let Some(interaction) = routes.interaction(path) else {
         return Asked::Refuse(Refusal::NoPage);
     };
-    if method == b"GET".as_slice() {
+    if is_same(method, b"GET") {
         answer(read(alloc, interaction, query, &[]))
-    } else if method == b"POST".as_slice() {
+    } else if is_same(method, b"POST") {
         answer(read(alloc, interaction, query, body))
     } else {
         Asked::Refuse(Refusal::Method)

@@ -5,6 +5,7 @@ ghost use Rattle.matchit.specs.Router.{nearest};
 ghost use Rattle.shop_model.specs.asked.Interactions.{interaction_of, path_of, paths};
 ghost use Rattle.shop_http.specs.Routes.{FindsAll, row_of, rows_of, plain_scan};
 
+use crate::constants::is_same;
 use matchit::{InsertError, Router};
 use shop_model::Interaction;
 use shop_text::Memory;
@@ -50,33 +51,33 @@ impl Routes {
 fn linked(path: &[u8]) -> Option<Interaction>
     ensures { IfSome result (λ interaction. Some interaction ≡ interaction_of path.now) }
 {
-    if path == b"/home".as_slice() {
+    if is_same(path, b"/home") {
         Some(Interaction::Home)
-    } else if path == b"/new_products".as_slice() {
+    } else if is_same(path, b"/new_products") {
         Some(Interaction::NewProducts)
-    } else if path == b"/best_sellers".as_slice() {
+    } else if is_same(path, b"/best_sellers") {
         Some(Interaction::BestSellers)
-    } else if path == b"/product_detail".as_slice() {
+    } else if is_same(path, b"/product_detail") {
         Some(Interaction::ProductDetail)
-    } else if path == b"/search_request".as_slice() {
+    } else if is_same(path, b"/search_request") {
         Some(Interaction::SearchRequest)
-    } else if path == b"/search_results".as_slice() {
+    } else if is_same(path, b"/search_results") {
         Some(Interaction::SearchResults)
-    } else if path == b"/shopping_cart".as_slice() {
+    } else if is_same(path, b"/shopping_cart") {
         Some(Interaction::ShoppingCart)
-    } else if path == b"/customer_registration".as_slice() {
+    } else if is_same(path, b"/customer_registration") {
         Some(Interaction::CustomerRegistration)
-    } else if path == b"/buy_request".as_slice() {
+    } else if is_same(path, b"/buy_request") {
         Some(Interaction::BuyRequest)
-    } else if path == b"/buy_confirm".as_slice() {
+    } else if is_same(path, b"/buy_confirm") {
         Some(Interaction::BuyConfirm)
-    } else if path == b"/order_inquiry".as_slice() {
+    } else if is_same(path, b"/order_inquiry") {
         Some(Interaction::OrderInquiry)
-    } else if path == b"/order_display".as_slice() {
+    } else if is_same(path, b"/order_display") {
         Some(Interaction::OrderDisplay)
-    } else if path == b"/admin_request".as_slice() {
+    } else if is_same(path, b"/admin_request") {
         Some(Interaction::AdminRequest)
-    } else if path == b"/admin_confirm".as_slice() {
+    } else if is_same(path, b"/admin_confirm") {
         Some(Interaction::AdminConfirm)
     } else {
         None

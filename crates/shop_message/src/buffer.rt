@@ -6,10 +6,11 @@ ghost use Rattle.shop_message.specs.Pieces.{IsFilled};
 ghost use Rattle.shop_edges.specs.Streams.{GotFits, Reads, Lowers, ReadCause};
 
 use crate::found::{Found, found_at};
+use crate::messages::Message;
 use httparse::spans::{EMPTY_HEADER_SPAN, HeaderSpan};
 use memchr::memchr;
 use shop_edges::{Got, Source};
-use shop_text::Memory;
+use shop_text::{Memory, Text};
 use std::alloc::Global;
 use std::marker::Model;
 
@@ -47,6 +48,8 @@ pub struct Buffer {
     searched: Prefix,
     /// Room for where the fields of a head are, which serves one head after another.
     fields: Vec<HeaderSpan>,
+    /// Room for the target of the next message, which a message before it gave back.
+    spare: Text,
 }
 
 impl Model for Buffer {
@@ -70,6 +73,7 @@ impl Buffer {
             end: 0,
             searched: NOTHING,
             fields: vec![in alloc; EMPTY_HEADER_SPAN; FIELDS_LIMIT]?,
+            spare: Text::new(alloc),
         })
     }
 
@@ -132,7 +136,14 @@ impl Buffer {
         ensures same { self.new ≡ self.old }
     {
         let bytes = &self.bytes[self.start..self.end];
-        found_at(alloc, bytes, head, &mut self.fields)
+        found_at(alloc, bytes, head, &mut self.fields, &mut self.spare)
+    }
+
+    /// Takes back a message that is answered: the room of its target serves the next one.
+    pub fn reuse(&mut self, message: Message)
+        ensures { self.new ≡ self.old }
+    {
+        self.spare = message.target;
     }
 
     /// Reads once, behind the bytes that are there.

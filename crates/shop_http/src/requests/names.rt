@@ -1,6 +1,7 @@
 ghost use Rattle.std.specs.Prelude.{◌≡◌};
 ghost use Rattle.shop_http.specs.Names as spec;
 
+use crate::constants::is_same;
 use shop_model::Parameter;
 
 /// How many parameters there are.
@@ -20,59 +21,59 @@ pub(crate) fn place_of(parameter: Parameter) -> usize
 pub(crate) fn parameter_named(name: &[u8]) -> Option<Parameter>
     ensures { result ≡ spec.parameter_named name.now }
 {
-    if name == b"c".as_slice() {
+    if is_same(name, b"c") {
         Some(Parameter::C)
-    } else if name == b"cart".as_slice() {
+    } else if is_same(name, b"cart") {
         Some(Parameter::Cart)
-    } else if name == b"item".as_slice() {
+    } else if is_same(name, b"item") {
         Some(Parameter::Item)
-    } else if name == b"qty".as_slice() {
+    } else if is_same(name, b"qty") {
         Some(Parameter::Qty)
-    } else if name == b"subject".as_slice() {
+    } else if is_same(name, b"subject") {
         Some(Parameter::Subject)
-    } else if name == b"kind".as_slice() {
+    } else if is_same(name, b"kind") {
         Some(Parameter::Kind)
-    } else if name == b"text".as_slice() {
+    } else if is_same(name, b"text") {
         Some(Parameter::Text)
-    } else if name == b"user".as_slice() {
+    } else if is_same(name, b"user") {
         Some(Parameter::User)
-    } else if name == b"pass".as_slice() {
+    } else if is_same(name, b"pass") {
         Some(Parameter::Pass)
-    } else if name == b"fn".as_slice() {
+    } else if is_same(name, b"fn") {
         Some(Parameter::FirstName)
-    } else if name == b"ln".as_slice() {
+    } else if is_same(name, b"ln") {
         Some(Parameter::LastName)
-    } else if name == b"street1".as_slice() {
+    } else if is_same(name, b"street1") {
         Some(Parameter::Street1)
-    } else if name == b"street2".as_slice() {
+    } else if is_same(name, b"street2") {
         Some(Parameter::Street2)
-    } else if name == b"city".as_slice() {
+    } else if is_same(name, b"city") {
         Some(Parameter::City)
-    } else if name == b"state".as_slice() {
+    } else if is_same(name, b"state") {
         Some(Parameter::State)
-    } else if name == b"zip".as_slice() {
+    } else if is_same(name, b"zip") {
         Some(Parameter::Zip)
-    } else if name == b"country".as_slice() {
+    } else if is_same(name, b"country") {
         Some(Parameter::Country)
-    } else if name == b"phone".as_slice() {
+    } else if is_same(name, b"phone") {
         Some(Parameter::Phone)
-    } else if name == b"email".as_slice() {
+    } else if is_same(name, b"email") {
         Some(Parameter::Email)
-    } else if name == b"card".as_slice() {
+    } else if is_same(name, b"card") {
         Some(Parameter::Card)
-    } else if name == b"number".as_slice() {
+    } else if is_same(name, b"number") {
         Some(Parameter::Number)
-    } else if name == b"name".as_slice() {
+    } else if is_same(name, b"name") {
         Some(Parameter::Name)
-    } else if name == b"expiry".as_slice() {
+    } else if is_same(name, b"expiry") {
         Some(Parameter::Expiry)
-    } else if name == b"ship".as_slice() {
+    } else if is_same(name, b"ship") {
         Some(Parameter::Ship)
-    } else if name == b"cost".as_slice() {
+    } else if is_same(name, b"cost") {
         Some(Parameter::Cost)
-    } else if name == b"image".as_slice() {
+    } else if is_same(name, b"image") {
         Some(Parameter::Image)
-    } else if name == b"thumb".as_slice() {
+    } else if is_same(name, b"thumb") {
         Some(Parameter::Thumb)
     } else {
         None

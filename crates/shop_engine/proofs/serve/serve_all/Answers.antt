@@ -53,7 +53,7 @@ loop-alloc-preserved g c =
     let answered = c.in_default-ended.ensures.message in
     let count : c.len-in-loop-alloc.result ≡ length c.loop-alloc.points.items = omega (arith, c.len-in-loop-alloc.ensures) in
     record {
-      so_far = SoFar-message _ _ _ _ _ _ _ _ _ _ _ _ _ c.loop-alloc.invariant.so_far (ap (λ n. (n + 1) == ANSWERS) count) c.in-Message.ensures.next answered;
+      so_far = rw c.reuse.ensures (SoFar-message _ _ _ _ _ _ _ _ _ _ _ _ _ c.loop-alloc.invariant.so_far (ap (λ n. (n + 1) == ANSWERS) count) c.in-Message.ensures.next answered);
       few = omega (arith, c.len.ensures, c.loop-alloc-test.true, one_point _ _ _ _ _ answered);
       caller = c.serve_one-ended.ensures.caller ∙ c.loop-alloc.invariant.caller;
       reads = omega (arith, c.loop-alloc.invariant.reads, c.in-Message.ensures.later);

@@ -1,9 +1,9 @@
-use Rattle.std.proofs.Common.{◌≡◌, ◌/◌, decimal, rules, arith, append_assoc}
+use Rattle.std.proofs.Common.{◌/◌, arith}
 use Rattle.shop_text.proofs.cited.Plain.{plain_cents}
+use Rattle.shop_draft.proofs.cited.TwoDigits.{decimal_two}
 use Rattle.shop_draft.proofs.template.Template.put_cents.Goals as goal
 
-pub returns : goal.returns
-returns c drawn =
-    let units : c.as_bytes.result.now ≡ decimal (c.args.cents / 100) = search rules in
-    rw (plain_cents c.args.cents (omega arith), c.in_ok-put-2.ensures drawn, c.in_ok-put.ensures drawn, units)
-    (append_assoc _ (decimal (c.args.cents / 100)) _)
+pub returns-in_ok-put : goal.returns-in_ok-put
+returns-in_ok-put c drawn =
+    rw (plain_cents c.args.cents (omega arith), decimal_two (c.args.cents / 100) (omega (arith, c.if-cents-ge1000.true)) (omega (arith, c.if-cents-lt10000.true)))
+    (c.in_ok-put.ensures drawn)

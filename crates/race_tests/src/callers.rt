@@ -1,0 +1,280 @@
+//! Two callers who take turns at their desks, in one thread.
+ghost use Rattle.std.specs.Prelude.{◌≡◌};
+ghost use Rattle.shop_turn.specs.Desks.{seat_of};
+
+use crate::opened::{Workers, open_interrupted, open_workers};
+use crate::serving::serve;
+use crate::{Clash, Interrupted, Parted, Place};
+use shop_attempt::Store;
+use shop_book::Book;
+use shop_edges::{Answer, Verdict};
+use shop_engine::{PointKind, Report, Worker};
+use shop_gateway::Emulator;
+use shop_history::{Key, Row};
+use shop_text::{Memory, Shared};
+use shop_turn::{Desk, Shop};
+use std::alloc::Global;
+use std::sync::Wait;
+use std::test::Fail;
+
+/// Makes cart 1 with a unit of item 1.
+const CART: &[u8] = b"GET /shopping_cart?item=1 HTTP/1.1\r\nHost: shop\r\n\r\n";
+
+/// Makes cart 1 with a unit of item 1, and adds one.
+const CARTS: &[u8] = b"GET /shopping_cart?item=1 HTTP/1.1\r\nHost: shop\r\n\r\n\
+GET /shopping_cart?cart=1&item=1 HTTP/1.1\r\nHost: shop\r\n\r\n";
+
+/// Makes cart 1 with a unit of item 1, and buys it for customer 10.
+const PURCHASE: &[u8] = b"GET /shopping_cart?item=1 HTTP/1.1\r\nHost: shop\r\n\r\n\
+GET /buy_confirm?c=10&cart=1&card=VISA&number=4111222233334444&name=F&expiry=2027-05 HTTP/1.1\r\n\
+Host: shop\r\n\r\n";
+
+/// Adds a unit of item 2 to cart 1.
+const UNIT: &[u8] = b"GET /shopping_cart?cart=1&item=2 HTTP/1.1\r\nHost: shop\r\n\r\n";
+
+/// Lets item 1 cost 20.00.
+const COST: &[u8] = b"GET /admin_confirm?item=1&cost=2000&image=/i.gif&thumb=/t.gif HTTP/1.1\r\n\
+Host: shop\r\n\r\n";
+
+/// The front and the tries of a change.
+type Change = (u64, u32);
+
+/// The caller, the call and the cents of a charge that was authorised, and whether an order has it.
+type Charge = (u32, u64, u64, bool);
+
+/// The customer of an order, what was paid, and which change made it.
+type Sale = (u32, u64, u64);
+
+/// The version of a cart, and its first lines.
+type Seen = (u64, [Option<(u32, u32)>; 3]);
+
+/// What a desk shows of cart 1.
+fn cart_at<R: Wait + Drop>(desk: &mut Desk<R>) -> Option<Seen>
+    ensures { (seat_of desk.new).shop ≡ (seat_of desk.old).shop }
+{
+    let (row, version) = desk.read(&Key::Cart(1)).ok()?;
+    let Row::Cart(cart) = &row else {
+        return None;
+    };
+    let lines = cart.lines.get().as_slice();
+    let first = lines.first().copied();
+    let second = lines.get(1).copied();
+    let third = lines.get(2).copied();
+    Some((version, [first, second, third]))
+}
+
+/// What is told of an order.
+fn order_of(book: &mut Book, order: u32) -> Option<Sale> {
+    let (row, version) = book.read(&Key::Order(order)).ok()?;
+    let Row::Order(order) = &row else {
+        return None;
+    };
+    let order = order.get();
+    Some((order.customer, order.card.total, version))
+}
+
+/// What is told of a charge that was authorised.
+fn charge_at(answers: &[Shared<Answer>], at: usize, book: &Book) -> Option<Charge> {
+    let answer = answers.get(at)?.get();
+    let Verdict::Approved(auth) = &answer.verdict else {
+        return None;
+    };
+    let charge = &answer.charge;
+    Some((
+        charge.caller,
+        charge.call,
+        charge.cents,
+        book.has_auth(auth),
+    ))
+}
+
+/// The change of a point.
+fn change_at(report: &Report, at: usize) -> Option<Change> {
+    let point = report.points.as_slice().get(at)?;
+    match &point.kind {
+        PointKind::Change => Some((point.front, point.tries)),
+        _ => None,
+    }
+}
+
+/// What both callers see of cart 1 once they have met, and the book then.
+#[derive(Drop)]
+struct Met {
+    first: Option<Seen>,
+    second: Option<Seen>,
+    book: Book,
+}
+
+/// Has both callers meet, and closes their shop.
+fn meet<R: Wait + Drop>(alloc: Global, parted: Parted<R>) -> Result<Met, Memory> {
+    let mut others = Vec::with_capacity(alloc, 1)?;
+    let Parted {
+        mut desk,
+        mut other,
+        clash: _,
+    } = parted;
+    other.meet(&mut desk);
+    desk.meet(&mut other);
+    let first = cart_at(&mut desk);
+    let second = cart_at(&mut other);
+    others.push_reserved(other);
+    Ok(Met {
+        first,
+        second,
+        book: Shop::close(desk, others),
+    })
+}
+
+/// How many changes there are, of caller 1 and of caller 2.
+fn counts(book: &Book) -> (u64, u64, u64) {
+    (book.size(), book.count_of(1), book.count_of(2))
+}
+
+/// What came of the requests of the first caller, which the other one came between.
+#[derive(Drop)]
+struct Outcome<R: Wait + Drop> {
+    report: Result<Report, Memory>,
+    gateway: Emulator,
+    parted: Parted<R>,
+}
+
+fn outcome_of<R: Wait + Drop>(
+    alloc: Global,
+    worker: Worker<Interrupted<R>>,
+    input: &[u8],
+) -> Outcome<R> {
+    let mut worker = worker;
+    let mut gateway = Emulator::new(alloc);
+    let report = serve(alloc, &mut worker, input, &mut gateway);
+    Outcome {
+        report,
+        gateway,
+        parted: worker.into_store().into_parts(),
+    }
+}
+
+/// What is told of an outcome.
+#[derive(Clone, Copy, Debug, PartialEq, Eq)]
+struct Told {
+    /// Of the first two requests.
+    changes: [Option<Change>; 2],
+    clash: Option<Clash>,
+    /// What both callers see in the end.
+    carts: (Option<Seen>, Option<Seen>),
+    charges: [Option<Charge>; 3],
+    /// The first two that were made.
+    orders: [Option<Sale>; 2],
+    counts: (u64, u64, u64),
+}
+
+fn told_by(report: &Report, clash: Option<Clash>, answers: &[Shared<Answer>], met: Met) -> Told {
+    let Met {
+        first,
+        second,
+        mut book,
+    } = met;
+    Told {
+        changes: [change_at(report, 0), change_at(report, 1)],
+        clash,
+        carts: (first, second),
+        charges: [
+            charge_at(answers, 0, &book),
+            charge_at(answers, 1, &book),
+            charge_at(answers, 2, &book),
+        ],
+        orders: [order_of(&mut book, 37), order_of(&mut book, 38)],
+        counts: counts(&book),
+    }
+}
+
+fn told_of<R: Wait + Drop>(alloc: Global, outcome: Outcome<R>) -> Result<Told, Memory> {
+    let Outcome {
+        report,
+        gateway,
+        parted,
+    } = outcome;
+    let clash = parted.clash;
+    match (report, meet(alloc, parted)) {
+        (Ok(report), Ok(met)) => Ok(told_by(&report, clash, gateway.answers(), met)),
+        _ => Err(Memory),
+    }
+}
+
+/// What is told where the first caller asks for this, and before its second settle the other one for that.
+fn ask_both<R: Wait + Clone + Drop>(
+    rt: &R,
+    alloc: Global,
+    input: &[u8],
+    other: &'static [u8],
+) -> Result<Told, Fail> {
+    let worker = open_interrupted(rt, alloc, other)?;
+    Ok(told_of(alloc, outcome_of(alloc, worker, input))?)
+}
+
+/// What both callers see where the first one alone has asked.
+fn met_after<R: Wait + Drop>(
+    alloc: Global,
+    workers: Workers<R>,
+    input: &[u8],
+) -> Result<Met, Memory> {
+    let Workers { mut first, second } = workers;
+    let mut gateway = Emulator::new(alloc);
+    let report = serve(alloc, &mut first, input, &mut gateway);
+    let parted = Parted {
+        desk: first.into_store(),
+        other: second.into_store(),
+        clash: None,
+    };
+    let met = meet(alloc, parted);
+    match report {
+        Ok(_) => met,
+        Err(Memory) => Err(Memory),
+    }
+}
+
+#[test]
+fn a_caller_who_meets_another_has_seen_its_entry(rt: HostRuntime) -> Result<(), Fail> {
+    let alloc = rt.alloc();
+    let met = met_after(alloc, open_workers(&rt, alloc)?, CART)?;
+    let cart = Some((1, [Some((1, 1)), None, None]));
+    let counts = counts(&met.book);
+    assert_eq!(rt; (met.first, met.second, counts), (cart, cart, (1, 1, 0)));
+    Ok(())
+}
+
+#[test]
+fn a_cart_that_another_caller_changed_meanwhile_is_tried_again(
+    rt: HostRuntime,
+) -> Result<(), Fail> {
+    let told = ask_both(&rt, rt.alloc(), CARTS, UNIT)?;
+    assert_eq!(rt; told.changes, [Some((1, 1)), Some((3, 2))]);
+    let clash = Clash {
+        place: Place::Cart(1),
+        read: 1,
+        found: 2,
+    };
+    assert_eq!(rt; told.clash, Some(clash));
+    let cart = Some((3, [Some((1, 2)), Some((2, 1)), None]));
+    assert_eq!(rt; told.carts, (cart, cart));
+    assert_eq!(rt; told.counts, (3, 2, 1));
+    Ok(())
+}
+
+#[test]
+fn a_charge_for_a_cost_that_another_caller_changed_is_authorised_only(
+    rt: HostRuntime,
+) -> Result<(), Fail> {
+    let told = ask_both(&rt, rt.alloc(), PURCHASE, COST)?;
+    assert_eq!(rt; told.changes, [Some((1, 1)), Some((3, 2))]);
+    let clash = Clash {
+        place: Place::Item(1),
+        read: 0,
+        found: 2,
+    };
+    assert_eq!(rt; told.clash, Some(clash));
+    let (unsold, sold) = ((1, 2, 2_776, false), (1, 2, 1_547, true));
+    assert_eq!(rt; told.charges, [Some(unsold), Some(sold), None]);
+    assert_eq!(rt; told.orders, [Some((10, 1_547, 3)), None]);
+    assert_eq!(rt; told.counts, (3, 2, 1));
+    Ok(())
+}
