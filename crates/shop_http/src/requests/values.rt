@@ -41,8 +41,19 @@ impl<'a> Values<'a> {
         }
     }
 
-    /// Reads the pairs of an encoded text behind those that were read.
+    /// Reads the pairs of an encoded text behind those that were read. Most messages have no form.
+    #[inline(always)]
     pub(crate) fn read(&mut self, alloc: Global, encoded: &'a [u8]) -> Result<(), Memory>
+        ensures { OnOk result (firsts_kept self.new ≡ spec.behind (firsts_kept self.old) (forms.pairs encoded.now)) }
+    {
+        if encoded.is_empty() {
+            return Ok(());
+        }
+        self.read_pairs(alloc, encoded)
+    }
+
+    /// Reads the pairs of an encoded text, one after another.
+    fn read_pairs(&mut self, alloc: Global, encoded: &'a [u8]) -> Result<(), Memory>
         ensures { OnOk result (firsts_kept self.new ≡ spec.behind (firsts_kept self.old) (forms.pairs encoded.now)) }
     {
         for (name, value) in raw_pairs(encoded) {

@@ -3,7 +3,7 @@ use Rattle.form_urlencoded.specs.Parse.{raw_pairs_left}
 use Rattle.shop_http.specs.Firsts.{behind}
 use Rattle.shop_http.specs.Forms.{decoded, pairs}
 use Rattle.shop_http.specs.ValuesView.{firsts_kept}
-use Rattle.shop_http.proofs.requests.values.Values.read.Given as goal
+use Rattle.shop_http.proofs.requests.values.Values.read_pairs.Given as goal
 
 abbrev pub invariant-loop-name : goal.invariant-loop-name
 invariant-loop-name l = behind (firsts_kept l.self) (map decoded (raw_pairs_left l.name-iterator)) ≡ behind (firsts_kept l.fn.self) (pairs l.encoded)
