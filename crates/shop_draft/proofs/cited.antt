@@ -1,2 +1,2 @@
 pub mod PageTexts
-pub mod TwoDigits
+pub mod FewDigits

@@ -1,5 +1,5 @@
 //! Markup, and behind it a value.
-ghost use Rattle.std.specs.Prelude.{◌≡◌, ◌≤◌, ◌++◌, OnOk, decimal};
+ghost use Rattle.std.specs.Prelude.{◌≡◌, ◌≤◌, ◌+◌, ◌%◌, ◌++◌, OnOk, decimal};
 ghost use Rattle.shop_text.specs.Texts.{escape, cents_text, day_text, digsyl};
 ghost use Rattle.shop_text.specs.Syllables.{spelled};
 ghost use Rattle.shop_draft.specs.Drawing.{id_at, user_at, hole_text};
@@ -8,6 +8,14 @@ ghost use Rattle.shop_draft.specs.Templates.{Adds, Says};
 use crate::{Hole, Id, Template};
 use itoa::Buffer;
 use shop_text::{Caption, Memory, day_bytes, entity, syllable};
+
+/// The last digit of a number.
+#[inline(always)]
+fn digit(number: u64) -> u8
+    ensures { result ≡ 48 + number % 10 }
+{
+    b'0' + (number % 10) as u8
+}
 
 impl Template {
     /// Adds bytes as they stand in a page: whole runs of plain bytes, and an entity for each other byte.
@@ -40,17 +48,25 @@ impl Template {
         Ok(())
     }
 
-    /// Adds the digits of a number; one or two need no buffer.
-    #[tactic(auto, using(shop_text::proofs::cited::Plain::plain_decimal, std::proofs::lemmas::Fmt::decimal_digit, crate::proofs::cited::TwoDigits::decimal_two))]
+    /// Adds the digits of a number; up to four need no buffer.
+    #[tactic(auto, using(shop_text::proofs::cited::Plain::plain_decimal, crate::proofs::cited::FewDigits::decimal_one, crate::proofs::cited::FewDigits::decimal_two, crate::proofs::cited::FewDigits::decimal_three, crate::proofs::cited::FewDigits::decimal_four))]
     #[inline(never)]
     fn put_number(&mut self, number: u64) -> Result<(), Memory>
         ensures { OnOk result (Says self.old self.new (escape (decimal number))) }
     {
         if number < 10 {
-            self.put(&[b'0' + number as u8])?;
+            self.put(&[digit(number)])?;
         } else if number < 100 {
-            let number = number as u8;
-            self.put(&[b'0' + number / 10, b'0' + number % 10])?;
+            self.put(&[digit(number / 10), digit(number)])?;
+        } else if number < 1_000 {
+            self.put(&[digit(number / 100), digit(number / 10), digit(number)])?;
+        } else if number < 10_000 {
+            self.put(&[
+                digit(number / 1_000),
+                digit(number / 100),
+                digit(number / 10),
+                digit(number),
+            ])?;
         } else {
             let mut buffer = Buffer::new();
             self.put(buffer.format(number).as_bytes())?;
@@ -66,8 +82,8 @@ impl Template {
         let rest = (cents % 100) as u8;
         let (tens, ones) = (b'0' + rest / 10, b'0' + rest % 10);
         if cents < 10_000 && cents >= 1_000 {
-            let units = (cents / 100) as u8;
-            self.put(&[b'0' + units / 10, b'0' + units % 10, b'.', tens, ones])?;
+            let units = cents / 100;
+            self.put(&[digit(units / 10), digit(units), b'.', tens, ones])?;
         } else {
             self.put_number(cents / 100)?;
             self.put(&[b'.', tens, ones])?;
