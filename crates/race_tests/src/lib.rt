@@ -12,5 +12,7 @@ mod opened;
 #[cfg(test)]
 mod races;
 mod serving;
+#[cfg(test)]
+mod threads;
 
 pub use interrupted::{Clash, Interrupted, Parted, Place};

@@ -10,8 +10,10 @@ use shop_engine::Worker;
 use shop_model::Scale;
 use shop_populate::populate;
 use shop_search::Index;
+use shop_text::Memory;
 use shop_turn::{Desk, Shop};
 use std::alloc::Global;
+use std::marker::Model;
 use std::sync::{Arc, Wait};
 use std::test::Fail;
 
@@ -22,6 +24,35 @@ pub(crate) struct Opened<R: Wait + Drop> {
     second: Desk<R>,
     index: Arc<Index, Global>,
     scale: Scale,
+    ghost one_shop: { IsOneShop first second },
+}
+
+/// A caller at its desk, who has no worker yet: a worker can't be sent to a thread.
+#[derive(Drop)]
+pub(crate) struct Caller<R: Wait + Drop> {
+    desk: Desk<R>,
+    index: Arc<Index, Global>,
+    scale: Scale,
+    number: u32,
+}
+
+impl<R: Wait + Drop> Model for Caller<R> {
+    ghost use Rattle.std.specs.Arc.{arc_value};
+    ghost use Rattle.shop_engine.specs.Workers.{IsPosted};
+    ghost use Rattle.shop_turn.specs.Desks.{DeskValue, seat_of};
+
+    ghost Value = { DeskValue };
+
+    ghost view = { λ c. c.desk };
+
+    ghost invariant = { λ c. IsPosted (seat_of c.desk) (arc_value c.index) (record { number = c.number; seed = 0; scale = c.scale }) };
+}
+
+/// Both callers.
+#[derive(Drop)]
+pub(crate) struct Callers<R: Wait + Drop> {
+    pub(crate) first: Caller<R>,
+    pub(crate) second: Caller<R>,
     ghost one_shop: { IsOneShop first second },
 }
 
@@ -56,10 +87,27 @@ fn open<R: Wait + Clone + Drop>(rt: &R, alloc: Global) -> Result<Opened<R>, Fail
     })
 }
 
-pub(crate) fn open_workers<R: Wait + Clone + Drop>(
+impl<R: Wait + Drop> Caller<R> {
+    ghost use Rattle.std.specs.Prelude.{◌≡◌, IfOk};
+
+    /// The caller's worker.
+    pub(crate) fn worker(self, alloc: Global) -> Result<Worker<Desk<R>>, Memory>
+        ensures { IfOk result (λ worker. worker.store ≡ self) }
+    {
+        let Caller {
+            desk,
+            index,
+            scale,
+            number,
+        } = self;
+        Worker::new(alloc, desk, number, 0, scale, index)
+    }
+}
+
+pub(crate) fn open_callers<R: Wait + Clone + Drop>(
     rt: &R,
     alloc: Global,
-) -> Result<Workers<R>, Fail> {
+) -> Result<Callers<R>, Fail> {
     let Opened {
         first,
         second,
@@ -67,9 +115,30 @@ pub(crate) fn open_workers<R: Wait + Clone + Drop>(
         scale,
     } = open(rt, alloc)?;
     let shared = Arc::try_clone(&index)?;
+    Ok(Callers {
+        first: Caller {
+            desk: first,
+            index: shared,
+            scale,
+            number: 1,
+        },
+        second: Caller {
+            desk: second,
+            index,
+            scale,
+            number: 2,
+        },
+    })
+}
+
+pub(crate) fn open_workers<R: Wait + Clone + Drop>(
+    rt: &R,
+    alloc: Global,
+) -> Result<Workers<R>, Fail> {
+    let Callers { first, second } = open_callers(rt, alloc)?;
     Ok(Workers {
-        first: Worker::new(alloc, first, 1, 0, scale, shared)?,
-        second: Worker::new(alloc, second, 2, 0, scale, index)?,
+        first: first.worker(alloc)?,
+        second: second.worker(alloc)?,
     })
 }
 

@@ -4,3 +4,4 @@ mod Escaped
 mod PartLemmas
 mod Listing
 mod Letters
+mod UsualHead

@@ -1,5 +1,5 @@
 -- How the parts of a page's text are read back. What is no part of a page may be read as anything.
-use Rattle.std.specs.Prelude.{◌≡◌, ℕ, ◌==◌, ◌||◌, nat_eq, true, List, [], ◌∷◌, ◌++◌, drop, Option, Some, None, Result, Ok, Err, codes, if◌then◌else◌}
+use Rattle.std.specs.Prelude.{◌≡◌, ℕ, ◌==◌, ◌||◌, nat_eq, true, List, [], ◌∷◌, ◌++◌, Option, None, Result, Ok, Err, if◌then◌else◌}
 use Rattle.std.specs.Borrow.{Bor}
 use Rattle.std.specs.List.{starts_with, flat_map}
 use Rattle.shop_text.specs.Escape.{first_read}
