@@ -6,6 +6,7 @@ mod answers;
 mod books;
 mod connections;
 mod customers;
+mod drives;
 mod faults;
 mod faulty;
 mod kept_lists;
@@ -30,6 +31,7 @@ fn main(rt: HostRuntime) -> Result<()> {
     customers::print(&rt)?;
     sales::print(&rt)?;
     windows::print(&rt)?;
+    drives::print(&rt)?;
     kept_lists::print(&rt)?;
     sessions::print(&rt)?;
     faults::print(&rt)
