@@ -63,7 +63,8 @@ fn print_browsing(rt: &(impl Print + AllocGlobal)) -> Result<(), Stop> {
 
 /// Prints what the browser asks for.
 fn ask(rt: &(impl Print + AllocGlobal), browser: &mut Browser) -> Result<(), Stop> {
-    let message = browser.next_message(rt.alloc())?;
+    let mut message = Browser::empty_message(rt.alloc())?;
+    browser.next_message(&mut message)?;
     answer(rt, &"asks", &text_of(message.target.bytes()))
 }
 

@@ -59,9 +59,13 @@ fn set_at(numbers: &mut Vec<u64>, id: u32, number: u64)
 }
 
 /// The version of a text, or 0.
+#[inline(never)]
 fn version_at<K: Eq + Hash>(versions: &HashMap<K, u64>, key: &K) -> u64
     ensures { result ≡ unwrap_or (get K.eq versions.now key.now) 0 }
 {
+    if versions.is_empty() {
+        return 0;
+    }
     match versions.get(key) {
         Some(version) => *version,
         None => 0,
@@ -135,6 +139,7 @@ impl Versions {
     }
 
     /// The version of a key.
+    #[inline(always)]
     pub(crate) fn of(&self, key: &Key) -> u64
         ensures { result ≡ spec.stored self.now key.now }
     {

@@ -1,10 +1,10 @@
 -- Ids that are taken pair by pair.
-use Rattle.std.proofs.Common.{◌≡◌, ℕ, true, false, List, [], ◌∷◌, ◌++◌, Option, Some, None, codes, refl, sym, ap, ◌∙◌}
-use Rattle.std.specs.Prelude.{is_some}
+use Rattle.std.proofs.Common.{◌≡◌, ℕ, List, [], ◌∷◌, ◌++◌, Option, Some, None, codes, refl, sym, ap, ◌∙◌}
+use Rattle.std.specs.List.{flat_map}
 use Rattle.std.specs.Option.{option_or}
 use Rattle.shop_model.specs.declared.requests.IdsAsked.{IdsAsked}
-use Rattle.shop_browsers.specs.Scanned.{with_pairs}
-use Rattle.shop_browsers.specs.Shown.{first_number, number_behind}
+use Rattle.shop_browsers.specs.Scanned.{with_pairs, NamesNoCart, NamesNoMore}
+use Rattle.shop_browsers.specs.Shown.{first_number, number_behind, pairs_in}
 
 or_assoc : (a b c : Option ℕ) → option_or a (option_or b c) ≡ option_or (option_or a b) c
 or_assoc None b c = refl
@@ -14,7 +14,7 @@ pub or_none : (a : Option ℕ) → option_or a None ≡ a
 or_none None = refl
 or_none (Some x) = refl
 
-first_append : (front : List ℕ) (xs ys : List (List ℕ)) → first_number front (xs ++ ys) ≡ option_or (first_number front xs) (first_number front ys)
+pub first_append : (front : List ℕ) (xs ys : List (List ℕ)) → first_number front (xs ++ ys) ≡ option_or (first_number front xs) (first_number front ys)
 first_append front [] ys = refl
 first_append front (x ∷ xs) ys =
     ap (option_or (number_behind front x)) (first_append front xs ys)
@@ -35,14 +35,17 @@ with_more ids xs ys = same_ids _ _ _ _ (more_of (codes "c=") ids.c xs ys) (more_
 pub with_none : (ids : IdsAsked) → with_pairs ids [] ≡ ids
 with_none ids = same_ids _ _ _ _ (or_none ids.c) (or_none ids.cart)
 
-or_full : (a b : Option ℕ) → is_some a ≡ true → option_or a b ≡ a
-or_full None b e = absurd (differ e)
-  where
-    differ : false ≡ true → ⊥
-    differ e = cc
-or_full (Some x) b e = refl
+or_full : (a b : Option ℕ) (n : ℕ) → a ≡ Some n → option_or a b ≡ a
+or_full a b n is = rw is refl
 
 -- nothing lacks
-pub with_full : (ids : IdsAsked) (xs : List (List ℕ)) → is_some ids.c ≡ true → is_some ids.cart ≡ true → with_pairs ids xs ≡ ids
-with_full ids xs customer cart =
-    same_ids _ _ _ _ (or_full ids.c (first_number (codes "c=") xs) customer) (or_full ids.cart (first_number (codes "cart=") xs) cart)
+pub none_lacks : (ids : IdsAsked) (bytes : List ℕ) (c cart : ℕ) → ids.c ≡ Some c → ids.cart ≡ Some cart → NamesNoMore ids bytes
+none_lacks ids bytes c cart has_customer has_cart targets is =
+    let pairs = flat_map pairs_in targets in
+    same_ids _ _ _ _ (or_full ids.c (first_number (codes "c=") pairs) c has_customer) (or_full ids.cart (first_number (codes "cart=") pairs) cart has_cart)
+
+-- a cart lacks, and none is named
+pub cart_lacks : (ids : IdsAsked) (bytes : List ℕ) (c : ℕ) → ids.c ≡ Some c → NamesNoCart bytes → NamesNoMore ids bytes
+cart_lacks ids bytes c has_customer none targets is =
+    same_ids _ _ _ _ (or_full ids.c (first_number (codes "c=") (flat_map pairs_in targets)) c has_customer)
+    (ap (option_or ids.cart) (none targets is) ∙ or_none ids.cart)

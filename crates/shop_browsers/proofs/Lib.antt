@@ -3,9 +3,11 @@ mod Added
 mod Escaped
 mod PageLinks
 mod Reading
+mod Needles
 mod Scans
 mod Numbers
 mod Ids
+mod Carts
 mod Taking
 mod Decimals
 mod ReplyLinks

@@ -13,7 +13,7 @@ use Rattle.shop_model.specs.pages.Targets.{link_target, targets_of}
 use Rattle.shop_browsers.proofs.Escaped.{none_of, none_tail, none_less, before_quote}
 
 -- a byte that is no `<` opens no link
-pub links_behind : (byte : ℕ) (bytes : List ℕ) → (60 == byte) ≡ false → links_in (byte ∷ bytes) ≡ links_in bytes
+links_behind : (byte : ℕ) (bytes : List ℕ) → (60 == byte) ≡ false → links_in (byte ∷ bytes) ≡ links_in bytes
 unfolding links_in
 links_behind byte bytes other = rw other refl
 
@@ -21,7 +21,7 @@ links_behind byte bytes other = rw other refl
 abbrev pub Has : List ℕ → List (List ℕ) → Type 0
 Has piece links = (rest : List ℕ) → links_in (piece ++ rest) ≡ links ++ links_in rest
 
-pub turned : (a b : ℕ) → (a == b) ≡ false → (b == a) ≡ false
+turned : (a b : ℕ) → (a == b) ≡ false → (b == a) ≡ false
 turned a b apart = ne_eqb b a (λ e. differ (sym (same e) ∙ apart))
   where
     same : b ≡ a → (a == b) ≡ true

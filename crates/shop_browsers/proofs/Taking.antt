@@ -1,14 +1,13 @@
 -- Ids are taken target by target, and pair by pair.
-use Rattle.std.proofs.Common.{◌≡◌, ℕ, true, List, [], ◌∷◌, map, Option, Some, None, codes, sym, ap, ◌∙◌}
-use Rattle.std.specs.Prelude.{is_some}
+use Rattle.std.proofs.Common.{◌≡◌, ℕ, List, [], ◌∷◌, map, Option, Some, None, codes, sym, ap, ◌∙◌}
 use Rattle.std.specs.List.{flat_map}
 use Rattle.std.specs.Option.{option_or}
 use Rattle.shop_text.specs.Escape.{escape}
 use Rattle.shop_model.specs.declared.page.Page.{Page}
 use Rattle.shop_model.specs.declared.requests.IdsAsked.{IdsAsked}
-use Rattle.shop_browsers.specs.Scanned.{links_in, split, with_pairs, IsNextPair}
+use Rattle.shop_browsers.specs.Scanned.{links_in, split, with_pairs, IsNextPair, NamesNoMore}
 use Rattle.shop_browsers.specs.Shown.{first_number, number_behind, pairs_in, ids_in}
-use Rattle.shop_browsers.proofs.Ids.{or_none, same_ids, with_full, with_more, with_none}
+use Rattle.shop_browsers.proofs.Ids.{or_none, same_ids, with_more, with_none}
 use Rattle.shop_browsers.proofs.Numbers.{customer_same, cart_same}
 
 -- what one pair gives
@@ -77,8 +76,8 @@ pub link_taken : (ids now : IdsAsked) (p : Page) (rest after target : List ℕ) 
 link_taken ids now p rest after target left link takes = by_left ids now p rest after target left.0 left.1 left.2 link takes
 
 -- nothing is left to be taken
-pub nothing_lacks : (ids : IdsAsked) (p : Page) (rest : List ℕ) → AreLeft p rest ids → is_some ids.c ≡ true → is_some ids.cart ≡ true → ids ≡ ids_in p
-nothing_lacks ids p rest left customer cart = sym (with_full ids (flat_map pairs_in left.0) customer cart) ∙ left.2
+pub nothing_more : (ids : IdsAsked) (p : Page) (rest : List ℕ) → AreLeft p rest ids → NamesNoMore ids rest → ids ≡ ids_in p
+nothing_more ids p rest left none = sym (none left.0 left.1) ∙ left.2
 
 no_link : (ids : IdsAsked) (p : Page) (rest : List ℕ) (left : List (List ℕ)) → links_in rest ≡ map escape left
     → with_pairs ids (flat_map pairs_in left) ≡ ids_in p → links_in rest ≡ [] → ids ≡ ids_in p

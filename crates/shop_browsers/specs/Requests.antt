@@ -123,3 +123,7 @@ message_bytes b = codes "GET " ++ target_of b ++ codes " HTTP/1.1\r\nHost: shop\
 -- the message that these bytes are
 abbrev pub request_message : BrowserState → Message
 request_message b = record { method = codes "GET"; target = target_of b; body = []; close = false }
+
+-- a message that asks for nothing yet
+abbrev pub no_message : Message
+no_message = record { method = codes "GET"; target = []; body = []; close = false }

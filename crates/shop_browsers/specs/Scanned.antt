@@ -1,10 +1,10 @@
 -- The links of a page as they stand in the bytes of its text.
-use Rattle.std.specs.Prelude.{◌≡◌, ℕ, ◌==◌, ◌<◌, ◌≤◌, nat_eq, List, [], ◌∷◌, length, drop, get_or, false, codes, Option, Some, None, if◌then◌else◌}
-use Rattle.std.specs.List.{starts_with, slice_split, before_first}
+use Rattle.std.specs.Prelude.{◌≡◌, ℕ, ◌==◌, ◌<◌, ◌≤◌, nat_eq, List, [], ◌∷◌, length, map, drop, get_or, false, codes, Option, Some, None, if◌then◌else◌}
+use Rattle.std.specs.List.{flat_map, starts_with, slice_split, before_first}
 use Rattle.std.specs.Option.{option_or}
 use Rattle.shop_text.specs.Escape.{escape}
 use Rattle.shop_model.specs.declared.requests.IdsAsked.{IdsAsked}
-use Rattle.shop_browsers.specs.Shown.{first_number}
+use Rattle.shop_browsers.specs.Shown.{first_number, pairs_in}
 
 -- what stands behind each opening of a link, up to the next quote
 unfoldable pub links_in : List ℕ → List (List ℕ)
@@ -36,3 +36,13 @@ with_pairs ids pairs = record {
   c = option_or ids.c (first_number (codes "c=") pairs);
   cart = option_or ids.cart (first_number (codes "cart=") pairs);
 }
+
+-- no link in these bytes names a cart
+abbrev pub NamesNoCart : List ℕ → Type 0
+NamesNoCart bytes =
+    (targets : List (List ℕ)) → links_in bytes ≡ map escape targets → first_number (codes "cart=") (flat_map pairs_in targets) ≡ None
+
+-- no link in these bytes names what these ids lack
+abbrev pub NamesNoMore : IdsAsked → List ℕ → Type 0
+NamesNoMore ids bytes =
+    (targets : List (List ℕ)) → links_in bytes ≡ map escape targets → with_pairs ids (flat_map pairs_in targets) ≡ ids

@@ -3,7 +3,7 @@ ghost use Rattle.shop_message.specs.Messages.{AreMessages, Between};
 ghost use Rattle.shop_model.specs.declared.page.Page.{Page};
 ghost use Rattle.shop_model.specs.population.Words.{to_come};
 ghost use Rattle.shop_browsers.specs.Browsers as spec;
-ghost use Rattle.shop_browsers.specs.Requests.{message_bytes, request_message};
+ghost use Rattle.shop_browsers.specs.Requests.{message_bytes, request_message, no_message};
 ghost use Rattle.shop_browsers.specs.Shown as shown;
 ghost use Rattle.shop_browsers.specs.Shown.{Shows, TakesPage, after_page, with_ids};
 
@@ -113,30 +113,40 @@ impl Browser {
         Ok(bytes)
     }
 
-    /// The message of its next request, which it then has made: the one that reading the bytes of that request gives.
-    /// Where memory runs out it made none.
-    pub fn next_message(&mut self, alloc: Global) -> Result<Message, Memory>
-        ensures message { IfOk result (λ message. AreMessages (message_bytes self.old) (message ∷ []) Between) }
-        ensures get { IfOk result (λ message. message.method ≡ codes "GET") }
-        ensures ok { OnOk result (self.new ≡ spec.after_request self.old) }
-        ensures err { OnErr result (self.new ≡ self.old) }
+    /// A message for browsers to write, with room for the target of nearly every request.
+    pub fn empty_message(alloc: Global) -> Result<Message, Memory>
+        ensures { IfOk result (λ message. message ≡ no_message) }
     {
-        let message = self.message(alloc)?;
-        self.go_on();
-        Ok(message)
-    }
-
-    fn message(&self, alloc: Global) -> Result<Message, Memory>
-        ensures { IfOk result (λ message. message ≡ request_message self.now) }
-    {
-        let mut target = Text::with_capacity(alloc, ROOM)?;
-        self.push_target(&mut target)?;
         Ok(Message {
             method: Method::GET,
-            target,
+            target: Text::with_capacity(alloc, ROOM)?,
             body: Text::new(alloc),
             close: false,
         })
+    }
+
+    /// Writes the message of its next request, which it then has made: the one that reading the bytes of that request
+    /// gives. The room of what the message was is used again. Where memory runs out it made no request, and nothing is
+    /// said of the message.
+    pub fn next_message(&mut self, message: &mut Message) -> Result<(), Memory>
+        ensures message { OnOk result (AreMessages (message_bytes self.old) (message.new ∷ []) Between) }
+        ensures get { OnOk result (message.new.method ≡ codes "GET") }
+        ensures ok { OnOk result (self.new ≡ spec.after_request self.old) }
+        ensures err { OnErr result (self.new ≡ self.old) }
+    {
+        self.write_message(message)?;
+        self.go_on();
+        Ok(())
+    }
+
+    fn write_message(&self, message: &mut Message) -> Result<(), Memory>
+        ensures { OnOk result (message.new ≡ request_message self.now) }
+    {
+        message.method = Method::GET;
+        message.target.clear();
+        message.body.clear();
+        message.close = false;
+        self.push_target(&mut message.target)
     }
 
     /// Goes on to the next step.

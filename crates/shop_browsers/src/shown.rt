@@ -1,5 +1,5 @@
 //! What a browser takes from a page.
-ghost use Rattle.std.specs.Prelude.{◌≡◌, ◌==◌, ◌∷◌, ◌<◌, [], ℕ, List, length, IfSome, MatchOption, Some};
+ghost use Rattle.std.specs.Prelude.{◌≡◌, ◌==◌, ◌∷◌, ◌<◌, [], ℕ, List, length, IfSome, MatchOption, Some, IsTrue, codes};
 ghost use Rattle.std.specs.List.{before_first, after_first};
 ghost use Rattle.std.specs.Option.{option_map};
 ghost use Rattle.shop_text.specs.Escape.{escape};
@@ -8,21 +8,27 @@ ghost use Rattle.shop_browsers.specs.Scanned as scanned;
 ghost use Rattle.shop_browsers.specs.Shown as spec;
 
 use memchr::memchr;
+use memchr::memmem::{Finder, find};
 use shop_model::IdsAsked;
 use shop_text::{number_of, unescaped};
+
+/// The opening of a link.
+const LINK: &[u8] = b"<a href=\"";
 
 /// The first customer and the first cart that the links of the page that is shown name.
 pub(crate) fn ids_shown(shown: &[u8]) -> IdsAsked
     ensures { (p : Page) → spec.Shows shown.now p → result ≡ spec.ids_in p }
 {
+    let links = Finder::new(LINK);
     let mut ids = IdsAsked {
         c: None,
         cart: None,
     };
     let mut rest = shown;
-    while let Some(after) = behind_link(rest) {
+    while let Some(after) = behind_link(&links, rest) {
+        let looked = ids.c.is_some();
         ids = with_target(ids, before_quote(after));
-        if ids.c.is_some() && ids.cart.is_some() {
+        if names_no_more(ids, after, looked) {
             return ids;
         }
         rest = after;
@@ -30,20 +36,35 @@ pub(crate) fn ids_shown(shown: &[u8]) -> IdsAsked
     ids
 }
 
+/// Whether the links that are left are known to name nothing that these ids lack. A cart is looked for once, where the
+/// customer has come.
+fn names_no_more(ids: IdsAsked, left: &[u8], looked: bool) -> bool
+    ensures { IsTrue result → scanned.NamesNoMore ids left.now }
+{
+    match (ids.c, ids.cart) {
+        (Some(_), Some(_)) => true,
+        (Some(_), None) => !looked && names_no_cart(left),
+        (None, _) => false,
+    }
+}
+
+/// Whether no link can name a cart, since what begins such a pair stands nowhere.
+fn names_no_cart(bytes: &[u8]) -> bool
+    ensures { IsTrue result → scanned.NamesNoCart bytes.now }
+{
+    find(bytes, b"cart=").is_none()
+}
+
 /// What stands behind the next opening of a link.
-fn behind_link(bytes: &[u8]) -> Option<&[u8]>
+fn behind_link<'a>(links: &Finder, bytes: &'a [u8]) -> Option<&'a [u8]>
+    requires { links.now ≡ codes "<a href=\"" }
     ensures links { MatchOption result (scanned.links_in bytes.now ≡ []) (λ after. scanned.links_in bytes.now ≡ before_first (λ b. b == 34) after.now ∷ scanned.links_in after.now) }
     ensures shorter { IfSome result (λ after. length after.now < length bytes.now) }
 {
-    let mut rest = bytes;
-    while let Some(at) = memchr(b'<', rest) {
-        let tag = &rest[at + 1..];
-        if tag.starts_with(b"a href=\"") {
-            return Some(&tag[8..]);
-        }
-        rest = tag;
+    match links.find(bytes) {
+        Some(at) => Some(&bytes[at + LINK.len()..]),
+        None => None,
     }
-    None
 }
 
 /// What stands before the next quote.

@@ -1,4 +1,6 @@
 pub mod cited
 mod Heads
+mod Pairs
 mod Splices
+mod Tails
 mod UserTexts

@@ -1,3 +1,4 @@
+use crate::short::Short;
 use shop_text::{Memory, Text};
 use std::alloc::Global;
 use std::marker::Model;
@@ -108,6 +109,19 @@ impl Flat {
         let end = self.at + bytes.len();
         self.bytes[self.at..end].copy_from_slice(bytes);
         self.at = end;
+        Ok(())
+    }
+
+    /// Adds a short text at the end. The room behind it is copied with it, to be written over by what comes next.
+    #[inline(always)]
+    pub(crate) fn put_short(&mut self, text: &Short) -> Result<(), Memory>
+        ensures ok { OnOk result (self.new ≡ self.old ++ text.now) }
+        ensures err { OnErr result (self.new ≡ self.old) }
+    {
+        let (bytes, len) = text.parts();
+        let end = self.at + len;
+        self.put(bytes)?;
+        self.truncate(end);
         Ok(())
     }
 

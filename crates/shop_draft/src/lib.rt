@@ -7,6 +7,7 @@
 mod administration;
 mod blocks;
 mod customers;
+mod digits;
 mod draft;
 mod flat;
 mod forms;
@@ -15,7 +16,9 @@ mod ids;
 mod links;
 mod orders;
 mod out;
+mod short;
 mod tables;
+mod tail;
 mod template;
 mod words;
 

@@ -6,9 +6,10 @@ ghost use Rattle.shop_model.specs.pages.Lists.{line_label};
 ghost use Rattle.shop_model.specs.pages.PageText.{block_line};
 ghost use Rattle.shop_model.specs.pages.Targets as spec;
 ghost use Rattle.shop_draft.specs.Drawing.{ids_at, maybe_at};
-ghost use Rattle.shop_draft.specs.Links.{marked, link_front};
+ghost use Rattle.shop_draft.specs.Links.{AddsIds, marked, link_front, ids_behind};
 ghost use Rattle.shop_draft.specs.Templates.{Adds};
 
+use crate::tail::Tail;
 use crate::{Id, PageIds, Template};
 use shop_model::Subject;
 use shop_text::{Caption, Memory};
@@ -26,31 +27,64 @@ impl Template {
         Ok(())
     }
 
-    /// Adds the ids as the first parameters of a target.
+    /// Adds ids behind a sign, one after another.
     #[tactic(auto, using(shop_text::proofs::cited::Plain::escape_append), unfolding(shop_model::specs::pages::Targets::pairs, shop_model::specs::pages::Targets::id_fields))]
-    #[inline(always)]
-    fn first_ids(&mut self, ids: PageIds) -> Result<(), Memory>
-        ensures { OnOk result (Adds self.old self.new (λ drawn. escape (spec.pairs (codes "?") (spec.id_fields (ids_at drawn ids))))) }
+    fn put_each_id(&mut self, sign: &[u8], ids: PageIds) -> Result<(), Memory>
+        ensures { OnOk result (AddsIds self.old self.new sign.now ids) }
     {
         match ids.c {
-            None => self.marked(b"?cart=", ids.cart)?,
+            None => match ids.cart {
+                None => {}
+                Some(cart) => {
+                    self.put(sign)?;
+                    self.id(b"cart=", cart)?;
+                }
+            },
             Some(c) => {
-                self.id(b"?c=", c)?;
+                self.put(sign)?;
+                self.id(b"c=", c)?;
                 self.marked(b"&amp;cart=", ids.cart)?;
             }
         }
         Ok(())
     }
 
+    /// Adds ids behind a sign, and keeps them where they are known.
+    #[inline(never)]
+    fn put_new_ids(&mut self, sign: &[u8], ids: PageIds) -> Result<(), Memory>
+        ensures { OnOk result (AddsIds self.old self.new sign.now ids) }
+    {
+        if let Some(tail) = Tail::of(ids) {
+            self.keep_ids(tail);
+        }
+        self.put_each_id(sign, ids)
+    }
+
+    /// Adds ids behind a sign.
+    #[inline(always)]
+    fn put_ids(&mut self, sign: &[u8], ids: PageIds) -> Result<(), Memory>
+        ensures { OnOk result (AddsIds self.old self.new sign.now ids) }
+    {
+        if self.put_kept_ids(sign, ids)? {
+            return Ok(());
+        }
+        self.put_new_ids(sign, ids)
+    }
+
+    /// Adds the ids as the first parameters of a target.
+    #[inline(always)]
+    fn first_ids(&mut self, ids: PageIds) -> Result<(), Memory>
+        ensures { OnOk result (Adds self.old self.new (λ drawn. ids_behind (codes "?") (ids_at drawn ids))) }
+    {
+        self.put_ids(b"?", ids)
+    }
+
     /// Adds the ids behind other parameters of a target.
-    #[tactic(auto, using(shop_text::proofs::cited::Plain::escape_append), unfolding(shop_model::specs::pages::Targets::pairs, shop_model::specs::pages::Targets::id_fields))]
     #[inline(always)]
     fn more_ids(&mut self, ids: PageIds) -> Result<(), Memory>
-        ensures { OnOk result (Adds self.old self.new (λ drawn. escape (spec.pairs (codes "&") (spec.id_fields (ids_at drawn ids))))) }
+        ensures { OnOk result (Adds self.old self.new (λ drawn. ids_behind (codes "&") (ids_at drawn ids))) }
     {
-        self.marked(b"&amp;c=", ids.c)?;
-        self.marked(b"&amp;cart=", ids.cart)?;
-        Ok(())
+        self.put_ids(b"&amp;", ids)
     }
 
     /// A link with no parameters but the ids; path and label are plain.

@@ -1,3 +1,4 @@
+use crate::digits::{digit, digits};
 use itoa::Buffer;
 use shop_text::{Memory, Text};
 use std::alloc::Global;
@@ -74,8 +75,29 @@ impl Out {
         }
     }
 
-    /// Adds the number's decimal digits, with no leading zeros; takes no memory.
+    /// Adds the number's decimal digits, with no leading zeros; takes no memory. Most are of three or four.
+    #[tactic(auto, using(crate::proofs::cited::FewDigits::decimal_three, crate::proofs::cited::FewDigits::decimal_four))]
     pub fn put_decimal(&mut self, number: u64)
+        requires { 20 ≤ self.old.room }
+        ensures bytes { self.new.bytes ≡ self.old.bytes ++ decimal number }
+        ensures room { self.old.room ≤ self.new.room + 20 }
+    {
+        if number >= 100 && number < 1_000 {
+            let (tens, ones) = digits(number % 100);
+            self.put(&[digit(number / 100), tens, ones]);
+        } else if number >= 1_000 && number < 10_000 {
+            let (thousands, hundreds) = digits(number / 100);
+            let (tens, ones) = digits(number % 100);
+            self.put(&[thousands, hundreds, tens, ones]);
+        } else {
+            self.put_long(number);
+        }
+    }
+
+    /// Adds the digits through a buffer.
+    #[cold]
+    #[inline(never)]
+    fn put_long(&mut self, number: u64)
         requires { 20 ≤ self.old.room }
         ensures bytes { self.new.bytes ≡ self.old.bytes ++ decimal number }
         ensures room { self.old.room ≤ self.new.room + 20 }

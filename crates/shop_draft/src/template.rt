@@ -1,12 +1,15 @@
-ghost use Rattle.std.specs.Prelude.{◌≡◌, ℕ, ◌≤◌, ◌<◌, ◌^◌, ◌+◌, ◌++◌, [], length, IsTrue, IfOk, OnOk, IfSome};
+ghost use Rattle.std.specs.Prelude.{◌≡◌, ℕ, ◌≤◌, ◌<◌, ◌^◌, ◌+◌, ◌++◌, [], length, false, IsTrue, IfOk, OnOk, IfSome};
 ghost use Rattle.shop_history.specs.declared.acts.Drawn.{Drawn};
 ghost use Rattle.shop_draft.specs.Drawing.{hole_text};
+ghost use Rattle.shop_draft.specs.Links.{AddsIds};
 ghost use Rattle.shop_draft.specs.Templates as spec;
 ghost use Rattle.shop_draft.specs.Templates.{Adds, Says, IsText, filled};
 
+use crate::PageIds;
 use crate::flat::Flat;
 use crate::holes::{HOLE_ROOM, Hole, hole_len, put_hole};
 use crate::out::Out;
+use crate::tail::Tail;
 use shop_history::Drawn;
 use shop_text::{Memory, Text};
 use std::alloc::Global;
@@ -33,6 +36,8 @@ pub struct Template {
     gaps: Vec<Gap>,
     /// The bytes of the text before the last hole.
     front: usize,
+    /// The ids that its links hand on, once they were written.
+    tail: Option<Tail>,
 }
 
 impl Model for Template {
@@ -57,6 +62,7 @@ impl Template {
             start: HEAD_ROOM,
             gaps: Vec::new(alloc),
             front: 0,
+            tail: None,
         };
         template.clear();
         Ok(template)
@@ -70,6 +76,7 @@ impl Template {
         self.start = HEAD_ROOM;
         self.gaps.clear();
         self.front = 0;
+        self.tail = None;
     }
 
     /// Adds markup as it stands.
@@ -79,6 +86,29 @@ impl Template {
     {
         self.bytes.put(markup)?;
         Ok(())
+    }
+
+    /// Adds ids behind a sign, where they are those that are kept; answers whether they are.
+    #[inline(always)]
+    pub(crate) fn put_kept_ids(&mut self, sign: &[u8], ids: PageIds) -> Result<bool, Memory>
+        ensures added { IfOk result (λ kept. IsTrue kept → AddsIds self.old self.new sign.now ids) }
+        ensures same { IfOk result (λ kept. kept ≡ false → self.new ≡ self.old) }
+    {
+        match &self.tail {
+            Some(tail) if tail.is_of(ids) => {
+                self.bytes.put(sign)?;
+                self.bytes.put_short(tail.text())?;
+                Ok(true)
+            }
+            _ => Ok(false),
+        }
+    }
+
+    /// Keeps ids, to be added behind further signs.
+    pub(crate) fn keep_ids(&mut self, tail: Tail)
+        ensures { self.new ≡ self.old }
+    {
+        self.tail = Some(tail);
     }
 
     /// Adds a hole.
@@ -170,6 +200,7 @@ impl Template {
             start,
             gaps: _,
             front: _,
+            tail: _,
         } = self;
         bytes.into_text(start)
     }

@@ -1,21 +1,14 @@
 //! Markup, and behind it a value.
-ghost use Rattle.std.specs.Prelude.{◌≡◌, ◌≤◌, ◌+◌, ◌%◌, ◌++◌, OnOk, decimal};
+ghost use Rattle.std.specs.Prelude.{◌≡◌, ◌≤◌, ◌++◌, OnOk, decimal};
 ghost use Rattle.shop_text.specs.Texts.{escape, cents_text, day_text, digsyl};
 ghost use Rattle.shop_text.specs.Syllables.{spelled};
 ghost use Rattle.shop_draft.specs.Drawing.{id_at, user_at, hole_text};
 ghost use Rattle.shop_draft.specs.Templates.{Adds, Says};
 
+use crate::digits::{digit, digits};
 use crate::{Hole, Id, Template};
 use itoa::Buffer;
 use shop_text::{Caption, Memory, day_bytes, entity, syllable};
-
-/// The last digit of a number.
-#[inline(always)]
-fn digit(number: u64) -> u8
-    ensures { result ≡ 48 + number % 10 }
-{
-    b'0' + (number % 10) as u8
-}
 
 impl Template {
     /// Adds bytes as they stand in a page: whole runs of plain bytes, and an entity for each other byte.
@@ -57,36 +50,51 @@ impl Template {
         if number < 10 {
             self.put(&[digit(number)])?;
         } else if number < 100 {
-            self.put(&[digit(number / 10), digit(number)])?;
+            let (tens, ones) = digits(number);
+            self.put(&[tens, ones])?;
         } else if number < 1_000 {
-            self.put(&[digit(number / 100), digit(number / 10), digit(number)])?;
+            let (tens, ones) = digits(number % 100);
+            self.put(&[digit(number / 100), tens, ones])?;
         } else if number < 10_000 {
-            self.put(&[
-                digit(number / 1_000),
-                digit(number / 100),
-                digit(number / 10),
-                digit(number),
-            ])?;
+            let (thousands, hundreds) = digits(number / 100);
+            let (tens, ones) = digits(number % 100);
+            self.put(&[thousands, hundreds, tens, ones])?;
         } else {
-            let mut buffer = Buffer::new();
-            self.put(buffer.format(number).as_bytes())?;
+            self.put_long_number(number)?;
         }
         Ok(())
     }
 
-    /// Adds an amount in cents. Most prices are of two digits and two.
+    /// Adds the digits of a number through a buffer.
+    #[tactic(auto, using(shop_text::proofs::cited::Plain::plain_decimal))]
+    #[cold]
+    #[inline(never)]
+    fn put_long_number(&mut self, number: u64) -> Result<(), Memory>
+        ensures { OnOk result (Says self.old self.new (escape (decimal number))) }
+    {
+        let mut buffer = Buffer::new();
+        self.put(buffer.format(number).as_bytes())?;
+        Ok(())
+    }
+
+    /// Adds an amount in cents. Most are below a hundred units.
     #[inline(never)]
     fn put_cents(&mut self, cents: u64) -> Result<(), Memory>
         ensures { OnOk result (Says self.old self.new (escape (cents_text cents))) }
     {
-        let rest = (cents % 100) as u8;
-        let (tens, ones) = (b'0' + rest / 10, b'0' + rest % 10);
-        if cents < 10_000 && cents >= 1_000 {
-            let units = cents / 100;
-            self.put(&[digit(units / 10), digit(units), b'.', tens, ones])?;
+        let units = cents / 100;
+        let (dimes, rest) = digits(cents % 100);
+        if units < 10 {
+            self.put(&[digit(units), b'.', dimes, rest])?;
+        } else if units < 100 {
+            let (tens, ones) = digits(units);
+            self.put(&[tens, ones, b'.', dimes, rest])?;
+        } else if units < 1_000 {
+            let (tens, ones) = digits(units % 100);
+            self.put(&[digit(units / 100), tens, ones, b'.', dimes, rest])?;
         } else {
-            self.put_number(cents / 100)?;
-            self.put(&[b'.', tens, ones])?;
+            self.put_number(units)?;
+            self.put(&[b'.', dimes, rest])?;
         }
         Ok(())
     }

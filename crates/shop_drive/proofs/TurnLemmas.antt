@@ -31,6 +31,7 @@ use Rattle.shop_engine.specs.Lists.{IsFreshPoint}
 use Rattle.shop_engine.specs.Steps.{Answers, Step, IsStep, IsStepFor, GivesUp, form_of}
 use Rattle.shop_engine.specs.declared.report.Point.{Point}
 use Rattle.shop_engine.specs.Workers.{Standing}
+use Rattle.shop_engine.proofs.ConnectionLemmas.{nothing_begun}
 use Rattle.shop_engine.proofs.KeptLemmas.{points_more}
 use Rattle.shop_engine.proofs.Seats.{stays_same}
 use Rattle.shop_engine.proofs.cited.Stepping.{step_last, stays_then, told_then}
@@ -219,6 +220,17 @@ all_taken marked from to steps round tally so_far all = (
   },
   so_far.fresh,
 )
+
+-- memory ran out before the first turn
+pub not_begun : (from : Stage) (steps : ℕ) → StoppedAmid from from steps
+not_begun from steps = record {
+  turns = [];
+  mid = from;
+  run = refl;
+  left = in_turn (length from.browsers) steps;
+  order = refl;
+  gave = nothing_begun from.worker;
+}
 
 -- memory ran out in a turn
 pub stopped : (marked : ℕ → ℕ → Type 0) (from now to : Stage) (steps round place : ℕ) (tally : Tally) → SoFar marked from now tally (in_turn (length from.browsers) round ++ range_with_len 0 place)

@@ -12,6 +12,7 @@ use shop_attempt::Store;
 use shop_browsers::Browser;
 use shop_edges::{Clock, Gateway};
 use shop_engine::Worker;
+use shop_message::Message;
 use shop_text::Memory;
 use std::alloc::Global;
 
@@ -56,24 +57,27 @@ fn take_turns<St: Store, C: Clock, G: Gateway>(
     ensures marks { KeepsMarks (St.marked worker.old.store) (St.marked worker.new.store) (St.seat worker.old.store) (St.seat worker.new.store) }
     ensures later { G.faults gateway.old ≤ G.faults gateway.new }
 {
+    let mut message = Browser::empty_message(alloc)?;
     let mut tally = Tally::new();
     for round in 0..steps {
         for place in 0..browsers.len() {
             let browser = &mut browsers[place];
-            let is_page = take_turn(alloc, worker, clock, gateway, browser)?;
+            let is_page = take_turn(alloc, worker, clock, gateway, browser, &mut message)?;
             tally.count(is_page);
         }
     }
     Ok(tally)
 }
 
-/// Has a browser ask, and lets it take what the reply shows; tells whether that has status 200.
+/// Has a browser ask by the message that is kept for it, and lets it take what the reply shows; tells whether that has
+/// status 200.
 fn take_turn<St: Store, C: Clock, G: Gateway>(
     alloc: Global,
     worker: &mut Worker<St>,
     clock: &mut C,
     gateway: &mut G,
     browser: &mut Browser,
+    message: &mut Message,
 ) -> Result<bool, Memory>
     ensures turn { TurnAs (St.marked worker.new.store) (record { worker = standing St.seat worker.old (C.readings clock.old) (G.answers gateway.old); browser = browser.old; failures = G.faults gateway.old })
         (record { worker = standing St.seat worker.new (C.readings clock.new) (G.answers gateway.new); browser = browser.new; failures = G.faults gateway.new })
@@ -82,8 +86,8 @@ fn take_turn<St: Store, C: Clock, G: Gateway>(
     ensures marks { KeepsMarks (St.marked worker.old.store) (St.marked worker.new.store) (St.seat worker.old.store) (St.seat worker.new.store) }
     ensures later { G.faults gateway.old ≤ G.faults gateway.new }
 {
-    let message = browser.next_message(alloc)?;
-    let Some(_) = worker.answer(alloc, &message, false, clock, gateway) else {
+    browser.next_message(message)?;
+    let Some(_) = worker.answer(alloc, message, false, clock, gateway) else {
         return Err(Memory);
     };
     let reply = worker.reply();

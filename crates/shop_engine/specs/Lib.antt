@@ -1,5 +1,6 @@
 pub mod Workers
 pub mod WorkerView
+pub mod CallsView
 pub mod Seats
 pub mod Lists
 pub mod Keeping

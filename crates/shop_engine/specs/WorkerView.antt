@@ -5,8 +5,8 @@ use Rattle.shop_engine.specs.Workers.{WorkerState}
 abbrev pub state_of : {St : Type 0} → Inside St → WorkerState St
 state_of i = record {
   store = i.store;
-  caller = record { number = i.caller; seed = i.seed; scale = i.scale };
-  progress = record { accepted = i.accepted; last = i.last };
+  caller = i.calls.caller;
+  progress = record { accepted = i.calls.made; last = i.last };
   kept = i.cache;
   reply = bytes_of i.reply;
 }

@@ -12,6 +12,11 @@ pub record Caller : Type 0 where
   pub seed : ℕ
   pub scale : ScaleRow
 
+-- a caller, and how many calls it has made
+pub record CallsState : Type 0 where
+  pub caller : Caller
+  pub made : ℕ
+
 -- how many requests were accepted, and the last moment, 0 at first
 pub record Progress : Type 0 where
   pub accepted : ℕ

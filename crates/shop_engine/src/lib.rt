@@ -1,6 +1,7 @@
 //! Serves a connection: messages in, pages out.
 #![tactic(auto)]
 
+mod calls;
 mod laws;
 mod replies;
 mod report;

@@ -4,6 +4,7 @@ ghost use Rattle.std.specs.Arc.{arc_value};
 ghost use Rattle.shop_engine.specs.Steps as spec;
 ghost use Rattle.shop_engine.specs.Workers.{IsPosted, at_first};
 
+use crate::calls::Calls;
 use crate::replies::{list_reply, refusal_reply};
 use crate::report::{Point, PointKind, plain_point};
 use crate::tries::{Job, try_all};
@@ -12,7 +13,7 @@ use shop_browse::Ask;
 use shop_cache::{Kept, ListCache, ListKey, ListLine};
 use shop_edges::{Clock, Gateway};
 use shop_http::{Asked, Message, Routes, request};
-use shop_model::{Refusal, Request, STAMP_LIMIT, Scale, word};
+use shop_model::{Refusal, Request, STAMP_LIMIT, Scale};
 use shop_pages::{Form, Reply};
 use shop_search::Index;
 use shop_text::{Listed, Memory};
@@ -20,19 +21,13 @@ use std::alloc::Global;
 use std::marker::Model;
 use std::sync::Arc;
 
-/// The table of drawn words whose rows are the callers'.
-const WORKERS: u64 = 16;
-
 /// Serves the requests of one caller from its seat at a shop, over one connection after another.
 #[derive(Drop)]
 pub struct Worker<St: Store> {
     pub(crate) store: St,
     pub(crate) index: Arc<Index, Global>,
     pub(crate) routes: Routes,
-    pub(crate) caller: u32,
-    pub(crate) seed: u32,
-    pub(crate) scale: Scale,
-    pub(crate) accepted: u64,
+    pub(crate) calls: Calls,
     pub(crate) last: u64,
     /// The lists that were read lately.
     pub(crate) cache: ListCache,
@@ -53,7 +48,7 @@ impl<St: Store> Model for Worker<St> {
 
     ghost view = { state_of };
 
-    ghost invariant = { λ i. IsPosted (St.seat i.store) (arc_value i.index) (record { number = i.caller; seed = i.seed; scale = i.scale }) × (i.last ≤ stamp_limit) × AreKept (St.seat i.store) (St.marked i.store) i.last i.cache };
+    ghost invariant = { λ i. IsPosted (St.seat i.store) (arc_value i.index) i.calls.caller × (i.last ≤ stamp_limit) × AreKept (St.seat i.store) (St.marked i.store) i.last i.cache };
 }
 
 /// The form of the reply to a message, behind which there is no other or there may be.
@@ -141,10 +136,7 @@ impl<St: Store> Worker<St> {
             reply: Reply::new(alloc)?,
             store,
             index,
-            caller,
-            seed,
-            scale,
-            accepted: 0,
+            calls: Calls::new(caller, seed, scale),
             last: 0,
         })
     }
@@ -157,10 +149,7 @@ impl<St: Store> Worker<St> {
             store,
             index: _,
             routes: _,
-            caller: _,
-            seed: _,
-            scale: _,
-            accepted: _,
+            calls: _,
             last: _,
             cache: _,
             reply: _,
@@ -238,12 +227,12 @@ impl<St: Store> Worker<St> {
             Err(Memory) => return None,
         }
         let ask = Ask {
-            scale: &self.scale,
+            scale: self.calls.scale(),
             index: &self.index,
             moment: accepted.moment,
             draw: accepted.draw,
         };
-        let (caller, call) = (self.caller, accepted.call);
+        let (caller, call) = (self.calls.caller(), accepted.call);
         let job = Job {
             ask,
             request,
@@ -343,14 +332,9 @@ impl<St: Store> Worker<St> {
         ensures worker { self.new ≡ record { store = self.old.store; caller = self.old.caller; progress = record { accepted = result.call; last = result.moment }; kept = self.old.kept; reply = self.old.reply } }
     {
         let moment = self.last.max(reading.min(STAMP_LIMIT));
-        let call = self.accepted.saturating_add(1);
+        let (call, draw) = self.calls.next();
         self.last = moment;
-        self.accepted = call;
-        Accepted {
-            moment,
-            call,
-            draw: word(self.seed, &self.scale, WORKERS, self.caller, call - 1),
-        }
+        Accepted { moment, call, draw }
     }
 
     /// Makes the reply around the page of a refusal.

@@ -1,5 +1,5 @@
 //! The heads of replies (RFC 9112).
-ghost use Rattle.std.specs.Prelude.{◌≡◌, ◌≤◌, ◌+◌, ◌%◌, ◌++◌, decimal, length};
+ghost use Rattle.std.specs.Prelude.{◌≡◌, ◌≤◌, ◌+◌, ◌++◌, length};
 ghost use Rattle.shop_pages.specs.Replies as spec;
 
 use crate::reply::Form;
@@ -75,36 +75,6 @@ fn put_lines(out: &mut Out, status: u16, len: u64, form: Form)
     out.put(b"\r\n");
 }
 
-/// The last digit of a number.
-#[inline(always)]
-fn digit(number: u64) -> u8
-    ensures { result ≡ 48 + number % 10 }
-{
-    b'0' + (number % 10) as u8
-}
-
-/// Adds the digits of a number of bytes. Most pages have some hundred or thousand.
-#[tactic(auto, using(shop_draft::proofs::cited::FewDigits::decimal_three, shop_draft::proofs::cited::FewDigits::decimal_four))]
-#[inline(always)]
-fn put_len(out: &mut Out, len: u64)
-    requires { 20 ≤ out.old.room }
-    ensures bytes { out.new.bytes ≡ out.old.bytes ++ decimal len }
-    ensures room { out.old.room ≤ out.new.room + 20 }
-{
-    if len >= 100 && len < 1_000 {
-        out.put(&[digit(len / 100), digit(len / 10), digit(len)]);
-    } else if len >= 1_000 && len < 10_000 {
-        out.put(&[
-            digit(len / 1_000),
-            digit(len / 100),
-            digit(len / 10),
-            digit(len),
-        ]);
-    } else {
-        out.put_decimal(len);
-    }
-}
-
 /// Adds the head of a reply with this status, around a page of so many bytes; takes no memory. Around the number of
 /// bytes most heads are the same.
 pub(crate) fn put_head(out: &mut Out, status: u16, len: u64, form: Form)
@@ -114,7 +84,7 @@ pub(crate) fn put_head(out: &mut Out, status: u16, len: u64, form: Form)
 {
     if status == 200 && !form.close {
         out.put(b"HTTP/1.1 200 OK\r\nContent-Type: text/html; charset=utf-8\r\nContent-Length: ");
-        put_len(out, len);
+        out.put_decimal(len);
         out.put(b"\r\n\r\n");
     } else {
         put_lines(out, status, len, form);

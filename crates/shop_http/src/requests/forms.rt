@@ -52,10 +52,13 @@ pub(crate) fn optional_number(
     }
 }
 
-/// The number of an encoded value.
+/// The number of an encoded value. Digits need no decoding.
 fn number_in(alloc: Global, encoded: &[u8], parameter: Parameter) -> Result<u32, Fault>
     ensures { Reads (ok_or (numbers.number_of (spec.decoded_text encoded.now)) parameter) result }
 {
+    if let Some(number) = number_of(encoded) {
+        return Ok(number);
+    }
     match number_of(decoded(alloc, encoded)?.as_slice()) {
         Some(number) => Ok(number),
         None => Err(Fault::Parameter(parameter)),

@@ -1,29 +1,16 @@
-use Rattle.std.proofs.Common.{◌+◌, length, ap, sym, ◌∙◌, arith, length-drop}
-use Rattle.std.proofs.lemmas.Bool.{false_from_ne_true}
+use Rattle.std.proofs.Common.{◌+◌, ◌∷◌, ◌==◌, ap, sym, ◌∙◌, arith}
+use Rattle.std.specs.List.{before_first}
 use Rattle.std.proofs.lemmas.List.{take_rest}
-use Rattle.shop_browsers.proofs.Scans.{links_none, link_found, link_passed}
+use Rattle.shop_browsers.specs.Scanned.{links_in}
+use Rattle.shop_browsers.proofs.Scans.{links_none, link_found}
 use Rattle.shop_browsers.proofs.shown.behind_link.Goals as goal
 
-pub returns-then-starts_with-clause-links : goal.returns-then-starts_with-clause-links
-returns-then-starts_with-clause-links c =
-    let rest = c.loop-at.rest.now in
-    let first = c.in-Some.ensures in
-    c.loop-at.invariant.links
-    ∙ link_found rest _ c.in-Some.at (take_rest rest (c.in-Some.at + 1)) first.0.high
-    (λ k below. false_from_ne_true _ (first.0.before k (omega arith) below)) first.1 (sym c.starts_with.ensures.value ∙ c.if-starts_with.true)
+pub returns-in-Some-clause-links : goal.returns-in-Some-clause-links
+returns-in-Some-clause-links c =
+    let bytes = c.args.bytes.now in
+    let first = rw c.requires at c.in-Some.ensures in
+    link_found bytes c.in-Some.at first.1 (λ k below. first.0.before k (omega arith) below)
+    ∙ ap (λ after. before_first (λ b. b == 34) after ∷ links_in after) (sym (take_rest bytes (c.in-Some.at + 9)))
 
-pub loop-at-preserved : goal.loop-at-preserved
-loop-at-preserved c =
-    let rest = c.loop-at.rest.now in
-    let first = c.in-Some.ensures in
-    let tag_is = take_rest rest (c.in-Some.at + 1) in
-    record {
-      links = c.loop-at.invariant.links
-          ∙ link_passed rest _ c.in-Some.at tag_is first.0.high
-          (λ k below. false_from_ne_true _ (first.0.before k (omega arith) below)) first.1 (sym c.starts_with.ensures.value ∙ c.if-starts_with.false);
-      size = omega (arith, c.loop-at.invariant.size, ap length tag_is, length-drop (c.in-Some.at + 1) rest);
-    }
-
-pub returns-clause-links : goal.returns-clause-links
-returns-clause-links c =
-    c.loop-at.invariant.links ∙ links_none c.loop-at.rest.now (λ k below. false_from_ne_true _ (c.in_default.ensures k (omega arith) below))
+pub returns-in-None-clause-links : goal.returns-in-None-clause-links
+returns-in-None-clause-links c = links_none c.args.bytes.now (rw c.requires at c.in-None.ensures)

@@ -2,13 +2,16 @@ use Rattle.std.proofs.Common.{◌≡◌, ◌∙◌, ◌++◌, length, refl, sym,
 use Rattle.std.specs.List.{range_with_len}
 use Rattle.shop_attempt.proofs.cited.Marks.{keeps_then}
 use Rattle.shop_drive.specs.Drives.{in_turn}
-use Rattle.shop_drive.proofs.TurnLemmas.{SoFar, all_taken, drive_failed, found_at, one_more, place_more, round_more, same_count, stopped}
+use Rattle.shop_drive.proofs.TurnLemmas.{SoFar, all_taken, drive_failed, found_at, not_begun, one_more, place_more, round_more, same_count, stopped}
 use Rattle.shop_drive.proofs.turns.take_turns.Goals as goal
+
+pub returns-in_err-message-clause-drives : goal.returns-in_err-message-clause-drives
+returns-in_err-message-clause-drives g c = drive_failed _ _ _ c.args.steps c.from_residual.result c.from_residual.ensures.0 (not_begun _ c.args.steps)
 
 pub returns-in_err-is_page-clause-drives : goal.returns-in_err-is_page-clause-drives
 returns-in_err-is_page-clause-drives g c =
     let so_far = c.loop-place.invariant.so_far in
-    drive_failed _ _ _ c.args.steps c.from_residual.result c.from_residual.ensures.0
+    drive_failed _ _ _ c.args.steps c.from_residual-in_err-is_page.result c.from_residual-in_err-is_page.ensures.0
     (stopped _ _ _ _ c.args.steps c.loop-round.round c.loop-place.place _ so_far (omega (arith, c.loop-round-test.true))
     (omega (arith, c.loop-place-test.true, same_count _ _ so_far.turns so_far.run)) c.in_err-is_page.ensures.turn)
 
