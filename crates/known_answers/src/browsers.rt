@@ -3,6 +3,7 @@ use crate::answers::{answer, heading, text_of};
 use crate::links::page;
 use crate::stop::Stop;
 use shop_browsers::{Browser, Mix};
+use shop_message::Message;
 use shop_model::Scale;
 use shop_text::Memory;
 use std::alloc::Global;
@@ -64,7 +65,16 @@ fn print_browsing(rt: &(impl Print + AllocGlobal)) -> Result<(), Stop> {
 /// Prints what the browser asks for.
 fn ask(rt: &(impl Print + AllocGlobal), browser: &mut Browser) -> Result<(), Stop> {
     let mut message = Browser::empty_message(rt.alloc())?;
-    browser.next_message(&mut message)?;
+    ask_by(rt, browser, &mut message)
+}
+
+/// The same, by a message that is lent.
+fn ask_by(
+    rt: &(impl Print + AllocGlobal),
+    browser: &mut Browser,
+    message: &mut Message,
+) -> Result<(), Stop> {
+    browser.next_message(message)?;
     answer(rt, &"asks", &text_of(message.target.bytes()))
 }
 

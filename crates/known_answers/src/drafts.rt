@@ -1,9 +1,9 @@
 //! Pages as they are written in place, and as a settle fills their gaps.
 use crate::answers::{answer, heading, text_of};
 use crate::stop::Stop;
-use shop_draft::{Draft, Hole, Id, Out, PageIds, Template, refusal};
+use shop_draft::{Draft, Hole, Id, ItemLinks, Out, PageIds, Template, refusal};
 use shop_history::{Drawn, Ids};
-use shop_model::{Item, Order, Refusal, Scale, Subject};
+use shop_model::{IdsAsked, Item, Order, Refusal, Scale, Subject};
 use shop_populate::populate;
 use shop_text::{Caption, Memory};
 use std::alloc::Global;
@@ -84,12 +84,18 @@ fn print_item(rt: &(impl Print + AllocGlobal), page: &mut Template) -> Result<()
     print_page(rt, "the next page", page)
 }
 
-fn put_links(page: &mut Template, caption: &Caption, ids: PageIds) -> Result<(), Memory> {
+fn put_links(
+    page: &mut Template,
+    caption: &Caption,
+    links: &ItemLinks,
+    asked: IdsAsked,
+) -> Result<(), Memory> {
+    let ids = PageIds::of(asked);
     page.clear();
     page.plain_link(b"/home", ids, b"Home")?;
     page.item_link(b"/item", 7, ids, b"Item")?;
     page.title_link(8, ids, caption)?;
-    page.author_link(9, ids, caption, caption, caption)?;
+    page.put_links(links, asked)?;
     page.subject_link(b"/new", Subject::Arts, ids, b"New ")?;
     page.search_form(ids)?;
     Ok(())
@@ -97,13 +103,17 @@ fn put_links(page: &mut Template, caption: &Caption, ids: PageIds) -> Result<(),
 
 fn print_links(rt: &(impl Print + AllocGlobal), page: &mut Template) -> Result<(), Stop> {
     let caption = Caption::copy(rt.alloc(), b"a<b")?;
-    put_links(page, &caption, NO_IDS)?;
-    print_page(rt, "links", page)?;
-    let ids = PageIds {
-        c: Some(Id::Known(5)),
-        cart: Some(Id::Known(6)),
+    let mut links = ItemLinks::new(rt.alloc());
+    links.push(9, &caption, &caption, &caption)?;
+    let mut asked = IdsAsked {
+        c: None,
+        cart: None,
     };
-    put_links(page, &caption, ids)?;
+    put_links(page, &caption, &links, asked)?;
+    print_page(rt, "links", page)?;
+    asked.c = Some(5);
+    asked.cart = Some(6);
+    put_links(page, &caption, &links, asked)?;
     print_page(rt, "links that hand on ids", page)
 }
 

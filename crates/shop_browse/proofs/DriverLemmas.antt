@@ -1,6 +1,6 @@
 -- What the driver has read, round by round, and the attempt that it makes of a decision.
-use Rattle.std.proofs.Common.{◌≡◌, ℕ, suc, List, [], ◌∷◌, ◌++◌, ◌+◌, ◌≤◌, get_or, All, Some, None, refl, sym, ◌∙◌, ap, subst, arith}
-use Rattle.std.proofs.lemmas.List.{append_assoc, append-nil, map-append}
+use Rattle.std.proofs.Common.{◌≡◌, ℕ, suc, List, [], ◌∷◌, ◌++◌, ◌+◌, ◌≤◌, ◌<◌, length, map, drop, get_or, All, Some, None, refl, sym, ◌∙◌, ap, subst, arith}
+use Rattle.std.proofs.lemmas.List.{append_assoc, append-nil, drop_more, map-append}
 use Rattle.std.proofs.lemmas.List.Elements.{All-nil, All-append, All-head, All-tail}
 use Rattle.shop_model.specs.declared.page.Page.{Page}
 use Rattle.shop_model.specs.declared.requests.IdsAsked.{IdsAsked}
@@ -10,10 +10,11 @@ use Rattle.shop_model.specs.lists.Catalogues.{Catalogue, catalogue}
 use Rattle.shop_history.specs.declared.acts.Drawn.{Drawn}
 use Rattle.shop_history.specs.declared.acts.Entry.{Entry}
 use Rattle.shop_history.specs.declared.keys.Key.{Key}
+use Rattle.shop_history.specs.declared.keys.Key.TheVariants.{Label}
 use Rattle.shop_history.specs.Keys.{row_of}
 use Rattle.shop_history.specs.Logs.{tables}
 use Rattle.shop_history.proofs.cited.KeptTables.{kept}
-use Rattle.shop_cache.specs.declared.cache.ListLine.{ListLine}
+use Rattle.shop_cache.specs.declared.lines.ListLine.{ListLine}
 use Rattle.shop_draft.specs.declared.draft.Draft.{Draft}
 use Rattle.shop_draft.specs.declared.ids.PageIds.{PageIds}
 use Rattle.shop_draft.specs.Drawing.{ids_at}
@@ -101,6 +102,10 @@ all_read start now keys left old new some none = record {
   since = some.since;
   seen = some.seen;
 }
+
+-- the labels of the ids that are left
+pub labels_left : (ids : List ℕ) (at : ℕ) → at < length ids → map Label (drop at ids) ≡ Label (get_or ids at 0) ∷ map Label (drop (at + 1) ids)
+labels_left ids at within = ap (map Label) (drop_more ids at 0 within)
 
 -- a draft with the ids that a request hands on
 pub with_ids : (draft : Draft) (page : IdsAsked → Page) (given : PageIds) (ids : IdsAsked) → ((drawn : Drawn) → ids_at drawn given ≡ ids)

@@ -26,8 +26,8 @@ use Rattle.shop_draft.specs.declared.draft.Draft.{Draft}
 use Rattle.shop_attempt.specs.declared.attempts.ReadOf.{ReadOf}
 use Rattle.shop_browse.specs.declared.attempted.Ask.{Ask}
 use Rattle.shop_browse.specs.declared.driver.Next.{Next}
-use Rattle.shop_browse.specs.declared.driver.Next.TheVariants.{ReadOne, Read, Show, ShowList, Change, Pay, Never}
-use Rattle.shop_browse.specs.Driver.{keys_of, IsWhole, Fits, AsksFor, IsNext}
+use Rattle.shop_browse.specs.declared.driver.Next.TheVariants.{ReadOne, Read, ReadLabels, Show, ShowList, Change, Pay, Never}
+use Rattle.shop_browse.specs.Driver.{keys_of, ids_of, IsWhole, Fits, AsksFor, IsNext}
 use Rattle.shop_browse.specs.Footprints.{drawn_item, InFootprint}
 use Rattle.shop_browse.specs.Home.{drawn_key, FollowsHome, home_in, IsWelcome}
 use Rattle.shop_browse.specs.Labels.{HaveLabels, FollowsLabels, AsksLabels, promoted_in}
@@ -66,7 +66,8 @@ home_shown ask ids customer reads whole have t fits =
 pub is_welcome : (ids : IdsAsked) (customer : Option CustomerRow) (ask : Ask) (round : ℕ) (reads : List ReadOf) (draft : Draft) (next : Next) → AsksLabels (drawn_key ask) ask round reads (Some next)
     → IsWelcome ids customer ask round reads draft next
 is_welcome ids customer ask round reads draft (ReadOne k) asks = asks
-is_welcome ids customer ask round reads draft (Read keys) asks = asks
+is_welcome ids customer ask round reads draft (Read keys) asks = absurd asks
+is_welcome ids customer ask round reads draft (ReadLabels items) asks = asks
 is_welcome ids customer ask round reads draft Show asks = absurd asks
 is_welcome ids customer ask round reads draft (ShowList lines) asks = absurd asks
 is_welcome ids customer ask round reads draft (Change act writes) asks = absurd asks
@@ -91,7 +92,8 @@ anyone_next asked ask round reads draft next none whole is = subst (λ c. IsNext
   where
     by : (n : Next) → IsWelcome asked.ids None ask round reads draft n → IsNext (FollowsHome None ask) (Home asked) ask round reads draft n
     by (ReadOne k) is = is (Home asked) (λ opening log named. inr (drawn_after ask opening log whole named))
-    by (Read keys) is = is (Home asked) (λ opening log named. inr (drawn_after ask opening log whole named))
+    by (Read keys) is = absurd is
+    by (ReadLabels items) is = is (Home asked) (λ opening log named. inr (drawn_after ask opening log whole named))
     by Show is = (refl, λ t fits. shows_page t (Home asked) ask.draw draft (home_page t asked.ids ask.draw None) (home_shows t asked ask.draw None none) (is t fits))
     by (ShowList lines) is = absurd is
     by (Change act writes) is = absurd is
@@ -152,8 +154,9 @@ module _ (asked : home_asked.Home) (number : ℕ) (ask : Ask) (is_c : asked.ids.
     known_next customer zero reads draft next is whole some welcome = absurd (some refl)
     known_next customer (suc round) reads draft (ReadOne k) is whole some welcome =
         asks_behind round reads (k ∷ []) (welcome (Home asked) (λ opening log named. inr (drawn_after ask opening log whole named)))
-    known_next customer (suc round) reads draft (Read keys) is whole some welcome =
-        asks_behind round reads keys (welcome (Home asked) (λ opening log named. inr (drawn_after ask opening log whole named)))
+    known_next customer (suc round) reads draft (Read keys) is whole some welcome = absurd welcome
+    known_next customer (suc round) reads draft (ReadLabels items) is whole some welcome =
+        asks_behind round reads (map key.Label (ids_of items)) (welcome (Home asked) (λ opening log named. inr (drawn_after ask opening log whole named)))
     known_next customer (suc round) reads draft Show is whole some welcome = (
       refl,
       λ t fits.

@@ -1,11 +1,8 @@
 -- Reads of labels: which ids they are of, what is asked for next, and the links of a promotion.
-use Rattle.std.proofs.Common.{◌≡◌, ℕ, zero, suc, ◌+◌, ◌<◌, cond, true, false, List, [], ◌∷◌, ◌++◌, length, map, filter, take, drop, get_or, All, Option, Some, None, option_map, unwrap_or, refl, sym, ◌∙◌, ap, subst, arith}
+use Rattle.std.proofs.Common.{◌≡◌, ℕ, zero, suc, ◌+◌, cond, true, false, List, [], ◌∷◌, length, map, filter, take, drop, get_or, All, Option, Some, None, option_map, unwrap_or, refl, sym, ◌∙◌, ap, subst, arith}
 use Rattle.std.specs.declared.cmp.Ordering.{Ordering}
 use Rattle.std.specs.Ordering.{is_gt}
-use Rattle.std.specs.List.{flat_map}
-use Rattle.std.proofs.lemmas.List.{append-nil, map_more}
 use Rattle.std.proofs.lemmas.List.Elements.{All-nil, All-cons, All-map, All-filter, All-take}
-use Rattle.shop_model.specs.declared.page.Block.{Block}
 use Rattle.shop_model.specs.declared.requests.IdsAsked.{IdsAsked}
 use Rattle.shop_model.specs.declared.requests.Request.{Request}
 use Rattle.shop_model.specs.declared.requests.SearchKind.{SearchKind}
@@ -15,7 +12,6 @@ use Rattle.shop_model.specs.lists.Catalogues.{Catalogue, Naming, naming, catalog
 use Rattle.shop_model.specs.rows.Limits.{list_limit}
 use Rattle.shop_model.specs.trade.Buyers.{customer_named, address_saying}
 use Rattle.shop_model.specs.rows.Lookups.{joined, row_numbered}
-use Rattle.shop_model.specs.pages.PageText.{block_line}
 use Rattle.shop_model.specs.lists.Rankings.{Sale, put_among, in_order, in_subject, newer, newest, sold_lately, sales, better, best}
 use Rattle.shop_model.specs.rows.Rows.{ItemRow}
 use Rattle.shop_model.specs.pages.Promotion.{promoted, promo}
@@ -28,14 +24,14 @@ use Rattle.shop_history.specs.declared.keys.Row.{Row}
 use Rattle.shop_history.specs.declared.keys.Row.TheVariants as row
 use Rattle.shop_history.specs.Keys.{shown, label_of, row_of}
 use Rattle.shop_history.proofs.cited.Places.{all_numbered}
-use Rattle.shop_draft.proofs.cited.PageTexts.{both}
 use Rattle.shop_draft.specs.declared.draft.Draft.{Draft}
 use Rattle.shop_attempt.specs.declared.attempts.ReadOf.{ReadOf}
 use Rattle.shop_attempt.specs.Reads.{Shows}
 use Rattle.shop_browse.specs.declared.attempted.Ask.{Ask}
+use Rattle.shop_browse.specs.declared.driver.ItemIds.{ItemIds}
 use Rattle.shop_browse.specs.declared.driver.Next.{Next}
-use Rattle.shop_browse.specs.declared.driver.Next.TheVariants.{ReadOne, Read, Show, ShowList, Change, Pay, Never}
-use Rattle.shop_browse.specs.Driver.{keys_of, Fits, AreSeen, IsNext}
+use Rattle.shop_browse.specs.declared.driver.Next.TheVariants.{ReadOne, Read, ReadLabels, Show, ShowList, Change, Pay, Never}
+use Rattle.shop_browse.specs.Driver.{keys_of, ids_of, Fits, AreSeen, IsNext}
 use Rattle.shop_browse.specs.Footprints.{drawn_item, InFootprint, IsAbout}
 use Rattle.shop_browse.specs.Labels.{ids_in, HaveLabels, FollowsLabels, AsksLabels, promoted_in}
 use Rattle.shop_browse.proofs.cited.Labels.{labels_may, links_shown}
@@ -125,14 +121,15 @@ module _ (t : Tables) (sound : Sound t) where
 
 -- what is asked for next
 
-pub asks_labels : (k : Key) (ask : Ask) (round : ℕ) (reads : List ReadOf) (first : ReadOf) (keys : List Key) → round ≡ 1 → FollowsLabels k round reads → AreSeen ask.index.now reads → first ≡ get_or reads 0 first
-    → keys ≡ map key.Label (ids_in first.row) → AsksLabels k ask round reads (Some (Read keys))
-asks_labels k ask zero reads first keys is follows seen at are request about = absurd (omega (arith, is))
-asks_labels k ask (suc zero) [] first keys is follows seen at are request about = absurd cc
-asks_labels k ask (suc zero) (read ∷ []) first keys is follows seen at are request about =
+pub asks_labels : (k : Key) (ask : Ask) (round : ℕ) (reads : List ReadOf) (first : ReadOf) (items : ItemIds) → round ≡ 1 → FollowsLabels k round reads → AreSeen ask.index.now reads → first ≡ get_or reads 0 first
+    → ids_of items ≡ ids_in first.row → AsksLabels k ask round reads (Some (ReadLabels items))
+asks_labels k ask zero reads first items is follows seen at are request about = absurd (omega (arith, is))
+asks_labels k ask (suc zero) [] first items is follows seen at are request about = absurd cc
+asks_labels k ask (suc zero) (read ∷ []) first items is follows seen at are request about =
     let c : Catalogue = ask.index.now in
     let t : Tables = seen.0.0 in
-    let same : keys ≡ map key.Label (ids_in read.row) = are ∙ ap (λ (r : ReadOf). map key.Label (ids_in r.row)) at in
+    let same : map key.Label (ids_of items) ≡ map key.Label (ids_in read.row)
+    = ap (map key.Label) are ∙ ap (λ (r : ReadOf). map key.Label (ids_in r.row)) at in
     let within : All (Has (length c.items)) (ids_in read.row)
     = subst (λ n. All (Has n) (ids_in read.row)) (size_of c t seen.0.1.named)
     (subst (λ (r : Row). All (Has (length t.items)) (ids_in r)) seen.0.1.shows.0 (named_within t seen.0.1.sound read.key)) in
@@ -141,14 +138,15 @@ asks_labels k ask (suc zero) (read ∷ []) first keys is follows seen at are req
       goes_on = λ more of. record { first = read; labels = more; reads_are = refl; key_is = cc; labels_are = of ∙ same };
       may = λ opening log were. subst (All (InFootprint opening log request ask.draw)) (sym same) (labels_may c opening log request ask.draw (ids_in read.row) were.named within);
     }
-asks_labels k ask (suc zero) (read ∷ other ∷ reads) first keys is follows seen at are request about = absurd cc
-asks_labels k ask (suc (suc round)) reads first keys is follows seen at are request about = absurd (omega (arith, is))
+asks_labels k ask (suc zero) (read ∷ other ∷ reads) first items is follows seen at are request about = absurd cc
+asks_labels k ask (suc (suc round)) reads first items is follows seen at are request about = absurd (omega (arith, is))
 
 -- so it is right next, for a request that is about the key
 pub asks_next : (k : Key) (ask : Ask) (round : ℕ) (reads : List ReadOf) (request : Request) (draft : Draft) (next : Next) → ((opening : Tables) (log : List Entry) → ask.index.now ≡ catalogue opening → IsAbout opening log request ask.draw k)
     → AsksLabels k ask round reads (Some next) → IsNext (FollowsLabels k) request ask round reads draft next
 asks_next k ask round reads request draft (ReadOne one) about asks = asks request about
-asks_next k ask round reads request draft (Read keys) about asks = asks request about
+asks_next k ask round reads request draft (Read keys) about asks = absurd asks
+asks_next k ask round reads request draft (ReadLabels items) about asks = asks request about
 asks_next k ask round reads request draft Show about asks = absurd asks
 asks_next k ask round reads request draft (ShowList lines) about asks = absurd asks
 asks_next k ask round reads request draft (Change act writes) about asks = absurd asks
@@ -168,16 +166,6 @@ labels_fit c t k (first ∷ labels) have fits =
     let row_is : have.first.row ≡ row_of t k = cc in
     let same : have.labels ≡ labels = cc in
     record { keys_are = subst (λ l. keys_of l ≡ map key.Label (ids_in (row_of t k))) same (have.labels_are ∙ ap (λ (r : Row). map key.Label (ids_in r)) row_is); shows = fits.shows.1 }
-
--- one more, behind those of the first
-pub blocks_more : {A : Type 0} (make : A → Block) (xs : List A) (i : ℕ) (x : A) (old before after : List ℕ) → i < length xs → x ≡ get_or xs i x
-    → before ≡ old ++ flat_map block_line (map make (take i xs)) → after ≡ before ++ block_line (make x) → after ≡ old ++ flat_map block_line (map make (take (i + 1) xs))
-blocks_more {A} make xs i x old before after within at so_far added =
-    let first : List Block = map make (take i xs) in
-    let more : map make (take (i + 1) xs) ≡ first ++ make x ∷ []
-    = map_more make xs i x within ∙ ap (λ (y : A). first ++ make y ∷ []) (sym at) in
-    both block_line first (make x ∷ []) old before after so_far (added ∙ ap (λ (l : List ℕ). before ++ l) (sym (append-nil (block_line (make x)))))
-    ∙ ap (λ (blocks : List Block). old ++ flat_map block_line blocks) (sym more)
 
 -- the links of a promotion
 

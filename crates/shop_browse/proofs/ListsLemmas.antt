@@ -7,7 +7,7 @@ use Rattle.shop_model.specs.declared.page.Block.TheVariants.{Para}
 use Rattle.shop_model.specs.declared.requests.IdsAsked.{IdsAsked}
 use Rattle.shop_model.specs.pages.PageText.{block_line, page_text}
 use Rattle.shop_model.specs.pages.Targets.{nav}
-use Rattle.shop_cache.specs.declared.cache.ListLine.{ListLine}
+use Rattle.shop_cache.specs.declared.lines.ListLine.{ListLine}
 use Rattle.shop_draft.specs.Pages.{page_front}
 use Rattle.shop_draft.proofs.cited.PageTexts.{both, written}
 use Rattle.shop_browse.specs.Lists.{lines_in, list_end, page_in}

@@ -5,7 +5,7 @@ use Rattle.shop_model.specs.declared.tables.Tables.{Tables}
 use Rattle.shop_model.specs.lists.Catalogues.{Catalogue, catalogue, found}
 use Rattle.shop_model.specs.asked.SearchAsked.{SearchAsked}
 use Rattle.shop_model.specs.rows.Sound.{Has}
-use Rattle.shop_cache.specs.declared.cache.ListLine.{ListLine}
+use Rattle.shop_cache.specs.declared.lines.ListLine.{ListLine}
 use Rattle.shop_cache.specs.declared.keys.ListKey.TheVariants.{Found}
 use Rattle.shop_history.specs.declared.keys.Key.{Key}
 use Rattle.shop_history.specs.declared.keys.Key.TheVariants.{Label}

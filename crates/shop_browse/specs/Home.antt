@@ -17,7 +17,7 @@ use Rattle.shop_draft.specs.Pages.{Shows}
 use Rattle.shop_attempt.specs.declared.attempts.ReadOf.{ReadOf}
 use Rattle.shop_browse.specs.declared.attempted.Ask.{Ask}
 use Rattle.shop_browse.specs.declared.driver.Next.{Next}
-use Rattle.shop_browse.specs.declared.driver.Next.TheVariants.{ReadOne, Read, Show, ShowList, Change, Pay, Never}
+use Rattle.shop_browse.specs.declared.driver.Next.TheVariants.{ReadOne, Read, ReadLabels, Show, ShowList, Change, Pay, Never}
 use Rattle.shop_browse.specs.Driver.{Fits}
 use Rattle.shop_browse.specs.Labels.{FollowsLabels, AsksLabels, promoted_in}
 
@@ -49,7 +49,8 @@ home_in ids draw customer labels = record {
 -- what is done next by the reads of the promotion, for a customer or for anyone, with the draft as it is then
 abbrev pub IsWelcome : IdsAsked → Option CustomerRow → Ask → ℕ → List ReadOf → Draft → Next → Type 0
 IsWelcome ids customer ask round reads draft (ReadOne key) = AsksLabels (drawn_key ask) ask round reads (Some (ReadOne key))
-IsWelcome ids customer ask round reads draft (Read keys) = AsksLabels (drawn_key ask) ask round reads (Some (Read keys))
+IsWelcome ids customer ask round reads draft (Read keys) = ⊥
+IsWelcome ids customer ask round reads draft (ReadLabels items) = AsksLabels (drawn_key ask) ask round reads (Some (ReadLabels items))
 IsWelcome ids customer ask round reads draft Show =
     (t : Tables) → Fits ask.index.now t reads → Shows draft (λ drawn. home_page t ids ask.draw customer)
 IsWelcome ids customer ask round reads draft (ShowList lines) = ⊥

@@ -14,8 +14,8 @@ use Rattle.shop_history.specs.declared.keys.Row.TheVariants as row
 use Rattle.shop_attempt.specs.declared.attempts.ReadOf.{ReadOf}
 use Rattle.shop_browse.specs.declared.attempted.Ask.{Ask}
 use Rattle.shop_browse.specs.declared.driver.Next.{Next}
-use Rattle.shop_browse.specs.declared.driver.Next.TheVariants.{ReadOne, Read}
-use Rattle.shop_browse.specs.Driver.{keys_of, AsksFor}
+use Rattle.shop_browse.specs.declared.driver.Next.TheVariants.{ReadOne, ReadLabels}
+use Rattle.shop_browse.specs.Driver.{keys_of, ids_of, AsksFor}
 use Rattle.shop_browse.specs.Footprints.{IsAbout}
 
 -- the items that a row names: those on a list, or those that are related to an item
@@ -48,7 +48,7 @@ AsksAbout k ask round reads keys =
 -- what it asks for next; there is none where all was read
 abbrev pub AsksLabels : Key → Ask → ℕ → List ReadOf → Option Next → Type 0
 AsksLabels k ask round reads (Some (ReadOne key)) = AsksAbout k ask round reads (key ∷ [])
-AsksLabels k ask round reads (Some (Read keys)) = AsksAbout k ask round reads keys
+AsksLabels k ask round reads (Some (ReadLabels items)) = AsksAbout k ask round reads (map key.Label (ids_of items))
 AsksLabels k ask round reads (Some _) = ⊥
 AsksLabels k ask round reads None = HaveLabels k reads
 

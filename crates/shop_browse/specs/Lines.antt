@@ -1,6 +1,6 @@
 -- The lines of a list, by reads of the labels on it.
 use Rattle.std.specs.Prelude.{◌≡◌, ℕ, List, map, All, Option, Some, None}
-use Rattle.shop_cache.specs.declared.cache.ListLine.{ListLine}
+use Rattle.shop_cache.specs.declared.lines.ListLine.{ListLine}
 use Rattle.shop_history.specs.declared.keys.Row.{Row}
 use Rattle.shop_history.specs.declared.keys.Row.TheVariants as row
 use Rattle.shop_history.specs.Labels.{LabelRow}

@@ -14,24 +14,20 @@ use Rattle.shop_model.specs.declared.requests.Request.TheVariants.{NewProducts, 
 use Rattle.shop_model.specs.declared.tables.Tables.{Tables}
 use Rattle.shop_model.specs.lists.Catalogues.{catalogue, found}
 use Rattle.shop_model.specs.lists.Rankings.{newest, best}
-use Rattle.shop_model.specs.pages.Lists.{line_label}
 use Rattle.shop_model.specs.pages.PageText.{block_line}
-use Rattle.shop_model.specs.pages.Targets.{item_link, nav}
+use Rattle.shop_model.specs.pages.Targets.{nav}
 use Rattle.shop_model.specs.rows.Subjects.{subject_name}
 use Rattle.shop_history.specs.declared.keys.Key.TheVariants.{Label}
 use Rattle.shop_history.specs.declared.keys.Row.TheVariants as row
 use Rattle.shop_history.specs.Keys.{row_of}
 use Rattle.shop_cache.specs.declared.keys.ListKey.{ListKey}
 use Rattle.shop_cache.specs.declared.keys.ListKey.TheVariants.{New, Best, Found}
-use Rattle.shop_cache.specs.declared.cache.ListLine.{ListLine}
+use Rattle.shop_cache.specs.declared.lines.ListLine.{ListLine}
 use Rattle.shop_cache.specs.Keys.{key_asked}
+use Rattle.shop_cache.specs.Lines.{line_in}
 use Rattle.shop_draft.specs.Pages.{page_end}
 
 -- pages
-
--- a link to the page of the item on a line
-abbrev pub line_in : IdsAsked → ListLine → Block
-line_in ids line = item_link (codes "/product_detail") line.item ids (line_label line.label.title line.label.first line.label.last)
 
 -- the lines of a list, and a word where it is empty
 abbrev pub lines_in : IdsAsked → List ListLine → List Block

@@ -1,5 +1,5 @@
 use shop_attempt::Attempt;
-use shop_cache::ListLine;
+use shop_cache::ListLines;
 use shop_model::Scale;
 use shop_search::Index;
 use shop_text::Listed;
@@ -20,7 +20,7 @@ pub enum Attempted {
     /// The page is written.
     Ready(Attempt),
     /// The page of a list is written, by these lines.
-    Listed(Attempt, Listed<ListLine>),
+    Listed(Attempt, ListLines),
     /// What a purchase needs is read, and nothing is written: a payment decides.
     Pay(Attempt),
     /// What was read can't be so in any one shop: it was read while rows changed.

@@ -2,14 +2,13 @@
 ghost use Rattle.std.specs.Prelude.{◌≡◌, IfOk, OnOk, map};
 ghost use Rattle.std.specs.List.{flat_map};
 ghost use Rattle.shop_model.specs.pages.PageText.{block_line};
-ghost use Rattle.shop_history.specs.declared.keys.Key.TheVariants.{Label};
 ghost use Rattle.shop_draft.specs.Drawing.{ids_at};
 ghost use Rattle.shop_draft.specs.Templates.{Adds};
-ghost use Rattle.shop_browse.specs.Driver.{IsWhole, AreSeen};
+ghost use Rattle.shop_browse.specs.Driver.{IsWhole, AreSeen, ids_of};
 ghost use Rattle.shop_browse.specs.Labels as spec;
 
 use crate::Ask;
-use crate::driver::Next;
+use crate::driver::{ItemIds, Next};
 use shop_attempt::ReadOf;
 use shop_draft::{PageIds, Template};
 use shop_history::{Key, Row};
@@ -17,25 +16,14 @@ use shop_text::{Listed, Memory};
 use std::alloc::Global;
 
 /// The items that a row names: those on a list, or those that are related to an item.
-fn ids_in(row: &Row) -> &[u32]
-    ensures { result.now ≡ spec.ids_in row.now }
+fn items_in(alloc: Global, row: &Row) -> Result<ItemIds, Memory>
+    ensures { IfOk result (λ items. ids_of items ≡ spec.ids_in row.now) }
 {
     match row {
-        Row::Items(ids) => ids.get().as_slice(),
-        Row::Item(item) => &item.details.get().related,
-        _ => &[],
+        Row::Items(ids) => Ok(ItemIds::Shared(ids.share()?)),
+        Row::Item(item) => Ok(ItemIds::Five(item.details.get().related)),
+        _ => Ok(ItemIds::Owned(Listed::new(alloc))),
     }
-}
-
-/// The keys of the labels of items.
-pub fn label_keys(alloc: Global, ids: &[u32]) -> Result<Listed<Key>, Memory>
-    ensures { IfOk result (λ keys. keys ≡ map Label ids.now) }
-{
-    let mut keys = Listed::with_capacity(alloc, ids.len())?;
-    for id in ids {
-        keys.push(Key::Label(*id))?;
-    }
-    Ok(keys)
 }
 
 /// What is asked for next: the row, then the labels of the items that it names; None where all was
@@ -54,7 +42,7 @@ pub(crate) fn labels_asked(
 {
     match round {
         0 => Ok(Some(Next::ReadOne(key))),
-        1 => Ok(Some(Next::Read(label_keys(alloc, ids_in(&reads[0].row))?))),
+        1 => Ok(Some(Next::ReadLabels(items_in(alloc, &reads[0].row)?))),
         _ => Ok(None),
     }
 }

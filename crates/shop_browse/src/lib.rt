@@ -21,6 +21,6 @@ pub mod search_request;
 pub mod search_results;
 
 pub use attempted::{Ask, Attempted};
-pub use driver::{Interaction, Next, attempt_by};
-pub use labels::{label_keys, promotion};
+pub use driver::{Interaction, ItemIds, Next, attempt_by};
+pub use labels::promotion;
 pub use lists::write_list;

@@ -4,16 +4,13 @@ ghost use Rattle.shop_browse.specs.Lines.{AreLinesRead};
 
 use crate::labels::id_in;
 use shop_attempt::ReadOf;
-use shop_cache::ListLine;
+use shop_cache::{ListLine, ListLines};
 use shop_history::Row;
 use shop_text::{Listed, Memory};
 use std::alloc::Global;
 
 /// The lines, which share the labels that were read; none where a read shows no label.
-pub(crate) fn lines_read(
-    alloc: Global,
-    labels: &[ReadOf],
-) -> Result<Option<Listed<ListLine>>, Memory>
+pub(crate) fn lines_read(alloc: Global, labels: &[ReadOf]) -> Result<Option<ListLines>, Memory>
     ensures { IfOk result (AreLinesRead labels.now) }
 {
     let mut lines = Listed::with_capacity(alloc, labels.len())?;
@@ -25,5 +22,5 @@ pub(crate) fn lines_read(
         let item = id_in(&read.key);
         lines.push(ListLine { item, label })?;
     }
-    Ok(Some(lines))
+    Ok(Some(ListLines::of(alloc, lines)?))
 }

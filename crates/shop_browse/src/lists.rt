@@ -1,5 +1,5 @@
 //! Pages that show a list of items, by its lines.
-ghost use Rattle.std.specs.Prelude.{◌≡◌, ◌∷◌, ◌++◌, [], Some, IsSome, OnOk, map};
+ghost use Rattle.std.specs.Prelude.{◌≡◌, ◌∷◌, ◌++◌, [], Some, IsSome, OnOk};
 ghost use Rattle.std.specs.List.{flat_map};
 ghost use Rattle.shop_text.specs.Texts.{escape};
 ghost use Rattle.shop_model.specs.pages.PageText.{block_line};
@@ -7,55 +7,36 @@ ghost use Rattle.shop_model.specs.rows.Subjects.{subject_name};
 ghost use Rattle.shop_model.specs.declared.page.Block.TheVariants as block;
 ghost use Rattle.shop_model.specs.declared.page.Page.{Page};
 ghost use Rattle.shop_cache.specs.Keys.{key_asked};
-ghost use Rattle.shop_draft.specs.Drawing.{ids_at};
 ghost use Rattle.shop_draft.specs.Pages.{Shows};
-ghost use Rattle.shop_draft.specs.Templates.{Adds, Says};
+ghost use Rattle.shop_draft.specs.Templates.{Says};
 ghost use Rattle.shop_browse.specs.Lists as spec;
 
 use crate::{best_sellers, new_products, search_results};
-use shop_cache::ListLine;
+use shop_cache::ListLines;
 use shop_draft::{Draft, PageIds, Template};
-use shop_model::{Request, Subject};
+use shop_model::{IdsAsked, Request, Subject};
 use shop_text::Memory;
-
-/// A link to the page of the item on a line.
-fn line(page: &mut Template, ids: PageIds, line: &ListLine) -> Result<(), Memory>
-    ensures { OnOk result (Adds page.old page.new (λ drawn. block_line (spec.line_in (ids_at drawn ids) line.now))) }
-{
-    let label = &line.label;
-    page.author_link(line.item, ids, label.title(), label.first(), label.last())?;
-    Ok(())
-}
-
-fn each_line(page: &mut Template, ids: PageIds, lines: &[ListLine]) -> Result<(), Memory>
-    ensures { OnOk result (Adds page.old page.new (λ drawn. flat_map block_line (map (spec.line_in (ids_at drawn ids)) lines.now))) }
-{
-    for one in lines {
-        line(page, ids, one)?;
-    }
-    Ok(())
-}
 
 /// Adds the lines of a list, or a word where it is empty.
 #[tactic(auto, unfolding(shop_model::specs::pages::PageText::block_text))]
-fn add_lines(page: &mut Template, ids: PageIds, lines: &[ListLine]) -> Result<(), Memory>
-    ensures { OnOk result (Adds page.old page.new (λ drawn. flat_map block_line (spec.lines_in (ids_at drawn ids) lines.now))) }
+fn add_lines(page: &mut Template, ids: IdsAsked, lines: &ListLines) -> Result<(), Memory>
+    ensures { OnOk result (Says page.old page.new (flat_map block_line (spec.lines_in ids lines.now))) }
 {
     if lines.is_empty() {
         page.put(b"<p>Nothing found.</p>\n")?;
         Ok(())
     } else {
-        each_line(page, ids, lines)?;
+        page.put_links(lines.links(), ids)?;
         Ok(())
     }
 }
 
 /// Adds the lines of a list and the links behind them, and ends the page.
-pub(crate) fn finish(page: &mut Template, ids: PageIds, lines: &[ListLine]) -> Result<(), Memory>
-    ensures { OnOk result (Adds page.old page.new (λ drawn. spec.list_end (ids_at drawn ids) lines.now)) }
+pub(crate) fn finish(page: &mut Template, ids: IdsAsked, lines: &ListLines) -> Result<(), Memory>
+    ensures { OnOk result (Says page.old page.new (spec.list_end ids lines.now)) }
 {
     add_lines(page, ids, lines)?;
-    page.nav(ids)?;
+    page.nav(PageIds::of(ids))?;
     page.end()?;
     Ok(())
 }
@@ -78,12 +59,12 @@ pub(crate) fn subject_page(
     title: &[u8],
     word: &[u8],
     subject: Subject,
-    ids: PageIds,
-    lines: &[ListLine],
+    ids: IdsAsked,
+    lines: &ListLines,
 ) -> Result<(), Memory>
     requires title { escape title.now ≡ title.now }
     requires word { escape word.now ≡ word.now }
-    ensures { OnOk result (Shows draft.new (λ drawn. spec.page_in (ids_at drawn ids) title.now (block.Heading (word.now ++ subject_name subject) ∷ []) lines.now)) }
+    ensures { OnOk result (Shows draft.new (λ drawn. spec.page_in ids title.now (block.Heading (word.now ++ subject_name subject) ∷ []) lines.now)) }
 {
     draft.status = 200;
     let page = &mut draft.page;
@@ -94,7 +75,7 @@ pub(crate) fn subject_page(
 }
 
 /// Writes the page of the list that is asked for, by its lines, read now or kept.
-pub fn write_list(draft: &mut Draft, request: &Request, lines: &[ListLine]) -> Result<(), Memory>
+pub fn write_list(draft: &mut Draft, request: &Request, lines: &ListLines) -> Result<(), Memory>
     requires { IsSome (key_asked request.now) }
     ensures { OnOk result ((page : Page) → spec.page_by request.now lines.now ≡ Some page → Shows draft.new (λ drawn. page)) }
 {

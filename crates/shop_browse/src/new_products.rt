@@ -12,8 +12,8 @@ use crate::lines::lines_read;
 use crate::lists::subject_page;
 use crate::{Ask, Attempted};
 use shop_attempt::{ReadOf, Store};
-use shop_cache::ListLine;
-use shop_draft::{Draft, PageIds};
+use shop_cache::ListLines;
+use shop_draft::Draft;
 use shop_history::Key;
 use shop_model::{NewProducts, Request};
 use shop_text::Memory;
@@ -23,7 +23,7 @@ use std::alloc::Global;
 pub(crate) fn write_page(
     draft: &mut Draft,
     asked: &NewProducts,
-    lines: &[ListLine],
+    lines: &ListLines,
 ) -> Result<(), Memory>
     ensures { OnOk result (Shows draft.new (λ drawn. new_page asked.now lines.now)) }
 {
@@ -32,7 +32,7 @@ pub(crate) fn write_page(
         b"New Products",
         b"New ",
         asked.subject,
-        PageIds::of(asked.ids),
+        asked.ids,
         lines,
     )?;
     Ok(())
@@ -58,7 +58,7 @@ impl<'a> Interaction for &'a NewProducts {
             Some(next) => Ok(next),
             None => match lines_read(alloc, &reads[1..])? {
                 Some(lines) => {
-                    write_page(draft, asked, lines.as_slice())?;
+                    write_page(draft, asked, &lines)?;
                     Ok(Next::ShowList(lines))
                 }
                 None => Ok(Next::Never),

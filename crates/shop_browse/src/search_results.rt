@@ -8,14 +8,13 @@ ghost use Rattle.shop_browse.specs.Attempts.{AttemptedAs, Suits, asking_of};
 ghost use Rattle.shop_browse.specs.Lists.{found_page, head_of};
 ghost use Rattle.shop_browse.specs.SearchResults.{FollowsSearch};
 
-use crate::driver::{Interaction, Next, attempt_by};
-use crate::labels::label_keys;
+use crate::driver::{Interaction, ItemIds, Next, attempt_by};
 use crate::lines::lines_read;
 use crate::lists::finish;
 use crate::{Ask, Attempted};
 use shop_attempt::{ReadOf, Store};
-use shop_cache::ListLine;
-use shop_draft::{Draft, PageIds, Template};
+use shop_cache::ListLines;
+use shop_draft::{Draft, Template};
 use shop_model::{Request, SearchResults};
 use shop_text::Memory;
 use std::alloc::Global;
@@ -35,7 +34,7 @@ fn heading(page: &mut Template, asked: &SearchResults) -> Result<(), Memory>
 pub(crate) fn write_page(
     draft: &mut Draft,
     asked: &SearchResults,
-    lines: &[ListLine],
+    lines: &ListLines,
 ) -> Result<(), Memory>
     ensures { OnOk result (Shows draft.new (λ drawn. found_page asked.now lines.now)) }
 {
@@ -43,7 +42,7 @@ pub(crate) fn write_page(
     let page = &mut draft.page;
     page.begin(b"Search Results")?;
     heading(page, asked)?;
-    finish(page, PageIds::of(asked.ids), lines)?;
+    finish(page, asked.ids, lines)?;
     Ok(())
 }
 
@@ -65,11 +64,11 @@ impl<'a> Interaction for &'a SearchResults {
         let asked: &SearchResults = self;
         if round == 0 {
             let found = ask.index.search(asked.kind, asked.text.bytes())?;
-            return Ok(Next::Read(label_keys(alloc, found.as_slice())?));
+            return Ok(Next::ReadLabels(ItemIds::Owned(found)));
         }
         match lines_read(alloc, reads)? {
             Some(lines) => {
-                write_page(draft, asked, lines.as_slice())?;
+                write_page(draft, asked, &lines)?;
                 Ok(Next::ShowList(lines))
             }
             None => Ok(Next::Never),

@@ -1,8 +1,10 @@
 -- Parameters that were added, one after another.
-use Rattle.std.proofs.Common.{◌≡◌, ℕ, List, [], ◌∷◌, ◌++◌, codes, refl, sym, ap, ◌∙◌, append_assoc, append-nil}
+use Rattle.std.proofs.Common.{◌≡◌, ℕ, List, [], ◌∷◌, ◌++◌, ◌||◌, Option, Some, None, codes, decimal, refl, sym, ap, ◌∙◌, append_assoc, append-nil}
+use Rattle.std.specs.Prelude.{if◌then◌else◌}
+use Rattle.std.specs.Option.{is_some}
 use Rattle.shop_model.specs.declared.page.Field.{Field}
-use Rattle.shop_model.specs.pages.Targets.{pairs}
-use Rattle.shop_browsers.specs.Adding.{Adds, AddsLast}
+use Rattle.shop_model.specs.pages.Targets.{pairs, id_field, number_field}
+use Rattle.shop_browsers.specs.Adding.{Adds, AddsLast, id_text}
 
 -- the last ones came
 pub adds_last : (before middle after sign next : List ℕ) (fields more : List Field)
@@ -43,3 +45,47 @@ added_signed before middle after sign name value first second = record { behind 
 -- two pieces came
 pub pushed : (before middle after first second : List ℕ) → middle ≡ before ++ first → after ≡ middle ++ second → after ≡ before ++ (first ++ second)
 pushed before middle after first second is_middle is_after = rw (is_after, is_middle) (append_assoc before first second)
+
+-- an id came, or none did
+pub id_added : (before after name : List ℕ) (id : Option ℕ) → after ≡ before ++ id_text ((codes "&" ++ name) ++ codes "=") id
+    → Adds before (codes "&") (id_field name id) after (codes "&")
+unfolding pairs
+id_added before after name None is = record { behind = λ more. ap (λ text. text ++ pairs (codes "&") more) (is ∙ append-nil before) }
+id_added before after name (Some id) is =
+    added before after (((codes "&" ++ name) ++ codes "=") ++ decimal id) (codes "&") (number_field name id ∷ []) is (λ more. refl)
+
+-- the same, and no more
+pub id_last : (before after sign name : List ℕ) (id : Option ℕ) → after ≡ before ++ id_text ((sign ++ name) ++ codes "=") id → AddsLast before sign (id_field name id) after
+unfolding pairs
+id_last before after sign name None is = is
+id_last before after sign name (Some id) is = is ∙ ap (λ text. before ++ text) (sym (append-nil (((sign ++ name) ++ codes "=") ++ decimal id)))
+
+-- parameters behind others
+pairs_more : (sign : List ℕ) (field : Field) (fields more : List Field) → pairs sign (field ∷ fields) ++ pairs (codes "&") more ≡ pairs sign (field ∷ (fields ++ more))
+unfolding pairs
+pairs_more sign field [] more =
+    ap (λ text. text ++ pairs (codes "&") more) (append-nil (((sign ++ field.name) ++ codes "=") ++ field.value))
+pairs_more sign field (other ∷ fields) more =
+    append_assoc (((sign ++ field.name) ++ codes "=") ++ field.value) (pairs (codes "&") (other ∷ fields)) (pairs (codes "&") more)
+    ∙ ap (λ text. (((sign ++ field.name) ++ codes "=") ++ field.value) ++ text) (pairs_more (codes "&") other fields more)
+
+-- more parameters may come behind some
+more_behind : (before after : List ℕ) (field : Field) (fields : List Field) → AddsLast before (codes "?") (field ∷ fields) after
+    → Adds before (codes "?") (field ∷ fields) after (codes "&")
+more_behind before after field fields is = added before after (pairs (codes "?") (field ∷ fields)) (codes "?") (field ∷ fields) is (pairs_more (codes "?") field fields)
+
+none_behind : (before after : List ℕ) → AddsLast before (codes "?") [] after → Adds before (codes "?") [] after (codes "?")
+unfolding pairs
+none_behind before after is = record { behind = λ more. ap (λ text. text ++ pairs (codes "?") more) (is ∙ append-nil before) }
+
+-- more parameters may come behind an id, or none
+pub id_behind : (before after name : List ℕ) (id : Option ℕ) → AddsLast before (codes "?") (id_field name id) after
+    → Adds before (codes "?") (id_field name id) after (if is_some id then codes "&" else codes "?")
+id_behind before after name None is = none_behind before after is
+id_behind before after name (Some id) is = more_behind before after (number_field name id) [] is
+
+-- the same of two
+pub ids_behind : (before after name other : List ℕ) (id second : Option ℕ) → AddsLast before (codes "?") (id_field name id ++ id_field other second) after
+    → Adds before (codes "?") (id_field name id ++ id_field other second) after (if is_some id || is_some second then codes "&" else codes "?")
+ids_behind before after name other None second is = id_behind before after other second is
+ids_behind before after name other (Some id) second is = more_behind before after (number_field name id) (id_field other second) is

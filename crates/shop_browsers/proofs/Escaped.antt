@@ -1,11 +1,12 @@
 -- Texts as they stand in a page: what stands for each byte, and what is not among it.
-use Rattle.std.proofs.Common.{◌≡◌, ℕ, suc, ◌+◌, ◌==◌, ⊎_elim, Bool, true, false, List, [], ◌∷◌, ◌++◌, take, drop, arith, refl, sym, ap, subst, ◌∙◌, append-nil}
+use Rattle.std.proofs.Common.{◌≡◌, ℕ, zero, suc, ◌+◌, ◌<◌, ◌==◌, ◌||◌, ⊎_elim, Bool, true, false, List, [], ◌∷◌, ◌++◌, length, take, drop, get_or, take-append-drop, arith, refl, sym, ap, subst, ◌∙◌, append-nil}
 use Rattle.std.specs.Prelude.{if◌then◌else◌}
 use Rattle.std.specs.List.{All, before_first, after_first, position_or_len}
 use Rattle.std.proofs.lemmas.Bool.{cases_eq, ne_eqb}
 use Rattle.std.proofs.lemmas.List.Elements.{All-cons}
 use Rattle.shop_text.specs.Escape.{escape, escape_byte}
 use Rattle.shop_text.proofs.cited.Escaped.{escape_plain, byte_cases}
+use Rattle.shop_browsers.specs.Scanned.{Begins, ends}
 
 -- no byte passes the test
 abbrev pub none_of : (ℕ → Bool) → List ℕ → Bool
@@ -97,3 +98,74 @@ query_escaped (byte ∷ text) = ⊎_elim at_mark (other (query_escaped text)) (c
     other behind apart =
         after_all (λ b. b == 63) (escape_byte byte) (escape text) (none_mark byte apart) ∙ behind
         ∙ ap escape (sym (after_no (λ b. b == 63) byte text (ne_eqb byte 63 apart)))
+
+neither : (b c : Bool) → (b || c) ≡ false → (b ≡ false) × (c ≡ false)
+neither true c e = absurd (differ e)
+  where
+    differ : true ≡ false → ⊥
+    differ e = cc
+neither false c e = (refl, e)
+
+-- a mark or a quote that is no mark
+pub other_byte : (byte : ℕ) → (byte == 63 || byte == 34) ≡ true → (byte ≡ 63 → ⊥) → byte ≡ 34
+other_byte byte either other =
+    ⊎_elim (λ is. is) (λ no. absurd (differ (sym either ∙ ap (λ b. b || byte == 34) (ne_eqb byte 63 other) ∙ ne_eqb byte 34 no))) (cases_eq byte 34)
+  where
+    differ : true ≡ false → ⊥
+    differ e = cc
+
+-- the query of what stands before a quote
+abbrev query_of : List ℕ → List ℕ
+query_of text = after_first (λ b. b == 63) (before_first (λ b. b == 34) text)
+
+query_step : (x : ℕ) (xs : List ℕ) → (x == 63 || x == 34) ≡ false → query_of (x ∷ xs) ≡ query_of xs
+query_step x xs other =
+    let both = neither (x == 63) (x == 34) other in
+    ap (after_first (λ b. b == 63)) (before_no (λ b. b == 34) x xs both.1) ∙ after_no (λ b. b == 63) x (before_first (λ b. b == 34) xs) both.0
+
+at_mark : (x : ℕ) (xs : List ℕ) → x ≡ 63 → before_first (λ b. b == 34) xs ≡ query_of (x ∷ xs)
+at_mark x xs is = subst (λ b. before_first (λ y. y == 34) xs ≡ query_of (b ∷ xs)) (sym is) (ap (after_first (λ b. b == 63)) (sym (before_no (λ b. b == 34) 63 xs refl)))
+
+at_quote : (x : ℕ) (xs : List ℕ) → x ≡ 34 → query_of (x ∷ xs) ≡ []
+at_quote x xs is = subst (λ b. query_of (b ∷ xs) ≡ []) (sym is) refl
+
+-- the first mark or quote is a mark
+pub query_found : (text : List ℕ) (at : ℕ) → at < length text → ((k : ℕ) → k < at → (get_or text k 0 == 63 || get_or text k 0 == 34) ≡ false) → get_or text at 0 ≡ 63
+    → before_first (λ b. b == 34) (drop (at + 1) text) ≡ query_of text
+query_found [] at low before is = absurd (omega (arith, low))
+query_found (x ∷ xs) zero low before is = at_mark x xs is
+query_found (x ∷ xs) (suc at) low before is =
+    let e : suc at + 1 ≡ suc (at + 1) = omega arith in
+    rw e (query_found xs at (omega (arith, low)) (λ k below. before (suc k) (omega (arith, below))) is ∙ sym (query_step x xs (before 0 (omega arith))))
+
+-- it is a quote
+pub query_quoted : (text : List ℕ) (at : ℕ) → at < length text → ((k : ℕ) → k < at → (get_or text k 0 == 63 || get_or text k 0 == 34) ≡ false) → get_or text at 0 ≡ 34
+    → query_of text ≡ []
+query_quoted [] at low before is = absurd (omega (arith, low))
+query_quoted (x ∷ xs) zero low before is = at_quote x xs is
+query_quoted (x ∷ xs) (suc at) low before is =
+    query_step x xs (before 0 (omega arith)) ∙ query_quoted xs at (omega (arith, low)) (λ k below. before (suc k) (omega (arith, below))) is
+
+-- there is neither
+pub query_none : (text : List ℕ) → ((k : ℕ) → k < length text → (get_or text k 0 == 63 || get_or text k 0 == 34) ≡ false) → query_of text ≡ []
+query_none [] none = refl
+query_none (x ∷ xs) none = query_step x xs (none 0 (omega arith)) ∙ query_none xs (λ k below. none (suc k) (omega (arith, below)))
+
+ended_there : (text : List ℕ) → ends (drop (position_or_len (λ b. b == 34) text) text) ≡ true
+ended_there [] = refl
+ended_there (x ∷ xs) = by (x == 34) refl (ended_there xs)
+  where
+    one : (n : ℕ) → drop (1 + n) (x ∷ xs) ≡ drop n xs
+    one n = let e : 1 + n ≡ suc n = omega arith in rw e refl
+
+    by : (b : Bool) → (x == 34) ≡ b → ends (drop (position_or_len (λ y. y == 34) xs) xs) ≡ true → ends (drop (position_or_len (λ y. y == 34) (x ∷ xs)) (x ∷ xs)) ≡ true
+    by true same behind = rw same same
+    by false other behind = rw other (ap ends (one (position_or_len (λ y. y == 34) xs)) ∙ behind)
+
+-- a target that ends at a quote
+pub target_begins : (text target : List ℕ) → before_first (λ b. b == 34) text ≡ escape target → (tail : List ℕ) × Begins text target tail
+target_begins text target is =
+    let at = position_or_len (λ b. b == 34) text in (
+      drop at text,
+      record { is = sym (take-append-drop at text) ∙ ap (λ bytes. bytes ++ drop at text) is; ended = ended_there text },
+    )

@@ -1,28 +1,15 @@
--- A text that stands escaped is read back, a byte at a time, up to the next pair.
-use Rattle.std.proofs.Common.{◌≡◌, ℕ, zero, suc, ◌-◌, ◌==◌, ◌<◌, ◌≤◌, drop, get_or, subst, length-drop, true, false, List, [], ◌∷◌, ◌++◌, length, take, Option, Some, None, arith, refl, sym, ap, ◌∙◌, append_assoc, append-nil, length-append}
-use Rattle.std.proofs.lemmas.Grind.{flat_map-append}
-use Rattle.std.proofs.lemmas.List.{take-append-le, take_all}
+-- A query that stands escaped before a tail is read, pair by pair.
+use Rattle.std.proofs.Common.{◌≡◌, ℕ, ◌==◌, Bool, true, false, List, [], ◌∷◌, ◌++◌, Option, Some, None, refl, sym, ap, ◌∙◌, append_assoc, append-nil}
+use Rattle.std.specs.Prelude.{if◌then◌else◌}
+use Rattle.std.proofs.lemmas.Bool.{ne_eqb}
 use Rattle.std.proofs.lemmas.List.Splits.{slice_split_none, slice_split_at}
 use Rattle.shop_text.specs.Escape.{escape, escape_byte, first_read}
-use Rattle.shop_text.proofs.cited.Escaped.{escaped_read}
-use Rattle.shop_browsers.specs.Scanned.{Passes, split, IsNextPair}
-use Rattle.shop_browsers.proofs.Escaped.{none_of, none_all, none_append, none_one}
+use Rattle.shop_text.proofs.cited.Escaped.{escape_plain, byte_cases, escaped_read}
+use Rattle.shop_browsers.specs.Scanned.{Begins, IsLeft, IsNextPair, ends, first_pair, split}
+use Rattle.shop_browsers.proofs.Escaped.{none_of, none_all}
 
-nothing_read : first_read [] ≡ None
-unfolding first_read
-nothing_read = refl
-
--- the bytes of a text, of which those before a place were read and have no `&`
-pub record Seen (text bytes rest : List ℕ) : Type 0 where
-  pub before : List ℕ
-  pub others : List ℕ
-  pub text_is : text ≡ before ++ others
-  pub bytes_is : bytes ≡ escape before ++ rest
-  pub rest_is : rest ≡ escape others
-  pub none : none_of (λ b. b == 38) before ≡ true
-
-pub seen_none : (text bytes : List ℕ) → bytes ≡ escape text → Seen text bytes bytes
-seen_none text bytes is = record { before = []; others = text; text_is = refl; bytes_is = refl; rest_is = is; none = refl }
+differ : false ≡ true → ⊥
+differ e = cc
 
 byte_in : Option (ℕ × List ℕ) → ℕ
 byte_in None = 0
@@ -35,89 +22,97 @@ rest_in (Some both) = both.1
 none_some : (x : ℕ × List ℕ) → ◌≡◌ {A = Option (ℕ × List ℕ)} None (Some x) → ⊥
 none_some x e = cc
 
--- what was read is the first of what is left
-read_is : (x byte : ℕ) (others rest after : List ℕ) → rest ≡ escape (x ∷ others) → first_read rest ≡ Some (byte, after) → (x ≡ byte) × (escape others ≡ after)
+-- no target ends where a byte of it stands
+no_end : (byte : ℕ) (bytes tail : List ℕ) → ends ((escape_byte byte ++ bytes) ++ tail) ≡ false
+no_end byte bytes tail =
+    byte_cases (λ b. ends ((escape_byte b ++ bytes) ++ tail) ≡ false) refl refl refl refl
+    (λ b plain. ap (λ front. ends ((front ++ bytes) ++ tail)) (escape_plain b plain) ∙ ne_eqb b 34 plain.quote) byte
+
+-- a byte of a target is read
+target_read : (byte : ℕ) (others tail rest : List ℕ) → rest ≡ escape (byte ∷ others) ++ tail → first_read rest ≡ Some (byte, escape others ++ tail)
+target_read byte others tail rest is =
+    ap first_read (is ∙ append_assoc (escape_byte byte) (escape others) tail) ∙ escaped_read byte (escape others ++ tail)
+
+-- it is the one that was read
+read_is : (x byte : ℕ) (others tail rest after : List ℕ) → rest ≡ escape (x ∷ others) ++ tail → first_read rest ≡ Some (byte, after)
+    → (x ≡ byte) × (after ≡ escape others ++ tail)
 unfolding byte_in rest_in
-read_is x byte others rest after is read =
-    let both : ◌≡◌ {A = Option (ℕ × List ℕ)} (Some (x, escape others)) (Some (byte, after)) = sym (escaped_read x (escape others)) ∙ ap first_read (sym is) ∙ read in
-    (ap byte_in both, ap rest_in both)
+read_is x byte others tail rest after is read =
+    let both : ◌≡◌ {A = Option (ℕ × List ℕ)} (Some (x, escape others ++ tail)) (Some (byte, after)) = sym (target_read x others tail rest is) ∙ read in
+    (ap byte_in both, sym (ap rest_in both))
 
-one_more : (text bytes rest after before : List ℕ) (byte : ℕ) (others : List ℕ) → text ≡ before ++ others → bytes ≡ escape before ++ rest → rest ≡ escape others
-    → none_of (λ b. b == 38) before ≡ true → first_read rest ≡ Some (byte, after) → (byte == 38) ≡ false → Seen text bytes after
-one_more text bytes rest after before byte [] text_is bytes_is rest_is none read other =
-    absurd (none_some (byte, after) (sym nothing_read ∙ ap first_read (sym rest_is) ∙ read))
-one_more text bytes rest after before byte (x ∷ others) text_is bytes_is rest_is none read other =
-    let both = read_is x byte others rest after rest_is read in
+-- nothing of the query was read
+pub all_left : (query tail left : List ℕ) → Begins left query tail → IsLeft query tail left
+all_left query tail left begins = record { passed = []; others = query; pair = refl; all = refl; begins = begins }
+
+pair_longer : (byte : ℕ) (others : List ℕ) → (byte == 38) ≡ false → first_pair (byte ∷ others) ≡ byte ∷ first_pair others
+pair_longer byte others other = rw other refl
+
+one_more : (query tail rest after passed : List ℕ) (byte : ℕ) (others : List ℕ) → first_pair query ≡ passed ++ first_pair others → query ≡ passed ++ others
+    → rest ≡ escape others ++ tail → ends tail ≡ true → first_read rest ≡ Some (byte, after) → ends rest ≡ false → (byte == 38) ≡ false → IsLeft query tail after
+one_more query tail rest after passed byte [] pair all is ended read goes other = absurd (differ (sym goes ∙ ap ends is ∙ ended))
+one_more query tail rest after passed byte (x ∷ others) pair all is ended read goes other =
+    let both = read_is x byte others tail rest after is read in
+    let differs : (x == 38) ≡ false = ap (λ b. b == 38) both.0 ∙ other in
     record {
-      before = before ++ x ∷ [];
+      passed = passed ++ x ∷ [];
       others = others;
-      text_is = text_is ∙ sym (append_assoc before (x ∷ []) others);
-      bytes_is = bytes_is ∙ ap (λ ys. escape before ++ ys) rest_is ∙ longer ∙ ap (λ ys. escape (before ++ x ∷ []) ++ ys) both.1;
-      rest_is = sym both.1;
-      none = none_append (λ b. b == 38) before (x ∷ []) none (none_one (λ b. b == 38) x (ap (λ b. b == 38) both.0 ∙ other));
+      pair = pair ∙ ap (λ bytes. passed ++ bytes) (pair_longer x others differs) ∙ sym (append_assoc passed (x ∷ []) (first_pair others));
+      all = all ∙ sym (append_assoc passed (x ∷ []) others);
+      begins = record { is = both.1; ended = ended };
     }
+
+-- a byte that is no `&` was read
+pub left_more : (query tail rest after : List ℕ) (byte : ℕ) → IsLeft query tail rest → first_read rest ≡ Some (byte, after) → ends rest ≡ false → (byte == 38) ≡ false
+    → IsLeft query tail after
+left_more query tail rest after byte left read goes other =
+    one_more query tail rest after left.passed byte left.others left.pair left.all left.begins.is left.begins.ended read goes other
+
+-- a first pair has no `&`
+none_first : (query : List ℕ) → none_of (λ b. b == 38) (first_pair query) ≡ true
+none_first [] = refl
+none_first (byte ∷ query) = by (byte == 38) refl (none_first query)
   where
-    longer : escape before ++ (escape_byte x ++ escape others) ≡ escape (before ++ x ∷ []) ++ escape others
-    longer =
-        sym (append_assoc (escape before) (escape_byte x) (escape others))
-        ∙ ap (λ ys. (escape before ++ ys) ++ escape others) (sym (append-nil (escape_byte x)))
-        ∙ ap (λ ys. ys ++ escape others) (sym (flat_map-append escape_byte before (x ∷ [])))
+    by : (b : Bool) → (byte == 38) ≡ b → none_of (λ x. x == 38) (first_pair query) ≡ true → none_of (λ x. x == 38) (if b then [] else byte ∷ first_pair query) ≡ true
+    by true same none = refl
+    by false other none = rw other none
 
-pub seen_more : (text bytes rest after : List ℕ) (byte : ℕ) → Seen text bytes rest → first_read rest ≡ Some (byte, after) → (byte == 38) ≡ false → Seen text bytes after
-seen_more text bytes rest after byte seen read other =
-    one_more text bytes rest after seen.before byte seen.others seen.text_is seen.bytes_is seen.rest_is seen.none read other
+split_first : (query others : List ℕ) → query ≡ first_pair query ++ 38 ∷ others → split query ≡ first_pair query ∷ split others
+split_first query others is =
+    ap split is ∙ slice_split_at (λ b. b == 38) (first_pair query) 38 others (none_all (λ b. b == 38) (first_pair query) (none_first query)) refl
 
-plain_read : (byte : ℕ) (rest : List ℕ) → (byte == 38) ≡ false → first_read (byte ∷ rest) ≡ Some (byte, rest)
-unfolding first_read
-plain_read byte rest other = rw other refl
+split_last : (query : List ℕ) → query ≡ first_pair query → split query ≡ first_pair query ∷ []
+split_last query is = ap split is ∙ slice_split_none (λ b. b == 38) (first_pair query) (none_all (λ b. b == 38) (first_pair query) (none_first query))
 
-passed_at : (text bytes rest : List ℕ) (at : ℕ) → at ≤ length rest → ((k : ℕ) → k < at → (get_or rest k 0 == 38) ≡ false) → Seen text bytes rest
-    → Seen text bytes (drop at rest)
-passed_at text bytes rest zero within plain seen = seen
-passed_at text bytes [] (suc at) within plain seen = absurd (omega (arith, within))
-passed_at text bytes (x ∷ rest) (suc at) within plain seen =
-    let other = plain 0 (omega arith) in
-    passed_at text bytes rest at (omega (arith, within)) (λ k below. plain (suc k) (omega (arith, below)))
-    (seen_more text bytes (x ∷ rest) rest x seen (plain_read x rest other) other)
-
--- bytes that are no `&` are passed at once
-pub seen_passed : (text bytes rest after : List ℕ) → Passes rest after → Seen text bytes rest → Seen text bytes after
-seen_passed text bytes rest after passes seen = subst (Seen text bytes) (sym passes.is) (passed_at text bytes rest passes.passed passes.within passes.plain seen)
-
-pub passed_length : (rest after : List ℕ) → Passes rest after → length after ≤ length rest
-passed_length rest after passes = omega (arith, ap length passes.is, length-drop passes.passed rest)
-
-front_of : (bytes front rest : List ℕ) → bytes ≡ front ++ rest → take (length bytes - length rest) bytes ≡ front
-front_of bytes front rest is =
-    let len : length bytes - length rest ≡ length front = omega (arith, ap length is, length-append front rest) in
-    rw (len, is, take-append-le (length front) front rest (omega arith)) (take_all (length front) front (omega arith))
-
-pub pair_found : (text bytes rest after before others : List ℕ) → text ≡ before ++ others → bytes ≡ escape before ++ rest → rest ≡ escape others
-    → none_of (λ b. b == 38) before ≡ true → first_read rest ≡ Some (38, after) → IsNextPair text (take (length bytes - length rest) bytes) (Some after)
-pair_found text bytes rest after before [] text_is bytes_is rest_is none read =
-    absurd (none_some (38, after) (sym nothing_read ∙ ap first_read (sym rest_is) ∙ read))
-pair_found text bytes rest after before (x ∷ others) text_is bytes_is rest_is none read =
-    let both = read_is x 38 others rest after rest_is read in (
-      before,
+pair_found : (query tail rest after passed others : List ℕ) → first_pair query ≡ passed ++ first_pair others → query ≡ passed ++ others
+    → rest ≡ escape others ++ tail → ends tail ≡ true → first_read rest ≡ Some (38, after) → ends rest ≡ false → IsNextPair query tail (Some after)
+pair_found query tail rest after passed [] pair all is ended read goes = absurd (differ (sym goes ∙ ap ends is ∙ ended))
+pair_found query tail rest after passed (x ∷ others) pair all is ended read goes =
+    let both = read_is x 38 others tail rest after is read in
+    let whole : first_pair query ≡ passed = pair ∙ ap (λ b. passed ++ first_pair (b ∷ others)) both.0 ∙ append-nil passed in (
       others,
-      front_of bytes (escape before) rest bytes_is,
-      sym both.1,
-      ap split (text_is ∙ ap (λ b. before ++ b ∷ others) both.0) ∙ slice_split_at (λ b. b == 38) before 38 others (none_all (λ b. b == 38) before none) refl,
+      record { is = both.1; ended = ended },
+      split_first query others (all ∙ ap (λ b. passed ++ b ∷ others) both.0 ∙ ap (λ bytes. bytes ++ 38 ∷ others) (sym whole)),
     )
 
-pub next_found : (text bytes rest after : List ℕ) → Seen text bytes rest → first_read rest ≡ Some (38, after) → IsNextPair text (take (length bytes - length rest) bytes) (Some after)
-next_found text bytes rest after seen read =
-    pair_found text bytes rest after seen.before seen.others seen.text_is seen.bytes_is seen.rest_is seen.none read
+-- the sign between two pairs was read
+pub next_found : (query tail rest after : List ℕ) → IsLeft query tail rest → first_read rest ≡ Some (38, after) → ends rest ≡ false → IsNextPair query tail (Some after)
+next_found query tail rest after left read goes =
+    pair_found query tail rest after left.passed left.others left.pair left.all left.begins.is left.begins.ended read goes
 
-last_found : (text bytes rest before others : List ℕ) → text ≡ before ++ others → bytes ≡ escape before ++ rest → rest ≡ escape others
-    → none_of (λ b. b == 38) before ≡ true → first_read rest ≡ None → IsNextPair text bytes None
-last_found text bytes rest before [] text_is bytes_is rest_is none read =
-    let whole : text ≡ before = text_is ∙ append-nil before in (
-      bytes_is ∙ ap (λ ys. escape before ++ ys) rest_is ∙ append-nil (escape before) ∙ ap escape (sym whole),
-      ap split whole ∙ slice_split_none (λ b. b == 38) before (none_all (λ b. b == 38) before none) ∙ ap (λ ys. ys ∷ []) (sym whole),
-    )
-last_found text bytes rest before (x ∷ others) text_is bytes_is rest_is none read =
-    absurd (none_some (x, escape others) (sym read ∙ ap first_read rest_is ∙ escaped_read x (escape others)))
+last_found : (query tail rest passed others : List ℕ) → first_pair query ≡ passed ++ first_pair others → query ≡ passed ++ others
+    → rest ≡ escape others ++ tail → ends rest ≡ true → IsNextPair query tail None
+last_found query tail rest passed [] pair all is over = split_last query (all ∙ sym pair)
+last_found query tail rest passed (x ∷ others) pair all is over = absurd (differ (sym (no_end x (escape others) tail) ∙ ap ends (sym is) ∙ over))
 
-pub next_none : (text bytes rest : List ℕ) → Seen text bytes rest → first_read rest ≡ None → IsNextPair text bytes None
-next_none text bytes rest seen read = last_found text bytes rest seen.before seen.others seen.text_is seen.bytes_is seen.rest_is seen.none read
+-- the target ends
+pub next_none : (query tail rest : List ℕ) → IsLeft query tail rest → ends rest ≡ true → IsNextPair query tail None
+next_none query tail rest left over = last_found query tail rest left.passed left.others left.pair left.all left.begins.is over
+
+-- what is left is read, since it is escaped
+unread : (tail rest others : List ℕ) → rest ≡ escape others ++ tail → ends tail ≡ true → ends rest ≡ false → first_read rest ≡ None → ⊥
+unread tail rest [] is ended goes none = differ (sym goes ∙ ap ends is ∙ ended)
+unread tail rest (x ∷ others) is ended goes none = none_some (x, escape others ++ tail) (sym none ∙ target_read x others tail rest is)
+
+pub next_unread : (query tail rest : List ℕ) → IsLeft query tail rest → ends rest ≡ false → first_read rest ≡ None → IsNextPair query tail None
+next_unread query tail rest left goes none = absurd (unread tail rest left.others left.begins.is left.begins.ended goes none)

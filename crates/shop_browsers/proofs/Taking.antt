@@ -1,46 +1,63 @@
 -- Ids are taken target by target, and pair by pair.
-use Rattle.std.proofs.Common.{◌≡◌, ℕ, List, [], ◌∷◌, map, Option, Some, None, codes, sym, ap, ◌∙◌}
+use Rattle.std.proofs.Common.{◌≡◌, ◌≢◌, ℕ, List, [], ◌∷◌, ◌++◌, map, Option, None, codes, refl, sym, ap, ◌∙◌}
 use Rattle.std.specs.List.{flat_map}
 use Rattle.std.specs.Option.{option_or}
 use Rattle.shop_text.specs.Escape.{escape}
 use Rattle.shop_model.specs.declared.page.Page.{Page}
 use Rattle.shop_model.specs.declared.requests.IdsAsked.{IdsAsked}
-use Rattle.shop_browsers.specs.Scanned.{links_in, split, with_pairs, IsNextPair, NamesNoMore}
+use Rattle.shop_text.specs.Numbers.{number_of}
+use Rattle.shop_browsers.specs.Scanned.{Begins, TakesNumber, TakesPair, NamesNoMore, first_pair, links_in, with_pairs}
 use Rattle.shop_browsers.specs.Shown.{first_number, number_behind, pairs_in, ids_in}
 use Rattle.shop_browsers.proofs.Ids.{or_none, same_ids, with_more, with_none}
-use Rattle.shop_browsers.proofs.Numbers.{customer_same, cart_same}
+use Rattle.shop_browsers.proofs.Numbers.{behind_front, front_pair, left_behind, no_front, plain_customer, plain_cart}
+use Rattle.shop_browsers.proofs.Reading.{all_left}
 
 -- what one pair gives
-one_number : (front pair p : List ℕ) → number_behind front pair ≡ number_behind front p → (id : Option ℕ)
-    → option_or id (number_behind front pair) ≡ option_or id (first_number front (p ∷ []))
-one_number front pair p same id = ap (option_or id) (same ∙ sym (or_none (number_behind front p)))
+one_number : (front pair : List ℕ) (number id : Option ℕ) → number_behind front pair ≡ number → option_or id number ≡ option_or id (first_number front (pair ∷ []))
+one_number front pair number id is = ap (option_or id) (sym is ∙ sym (or_none (number_behind front pair)))
 
-pub one_pair : (ids : IdsAsked) (pair p : List ℕ) (c cart : Option ℕ) → pair ≡ escape p
-    → c ≡ option_or ids.c (number_behind (codes "c=") pair) → cart ≡ option_or ids.cart (number_behind (codes "cart=") pair)
-    → ◌≡◌ {A = IdsAsked} (record { c = c; cart = cart }) (with_pairs ids (p ∷ []))
-one_pair ids pair p c cart is first second =
-    same_ids _ _ _ _
-    (first ∙ one_number (codes "c=") pair p (ap (number_behind (codes "c=")) is ∙ customer_same p) ids.c)
-    (second ∙ one_number (codes "cart=") pair p (ap (number_behind (codes "cart=")) is ∙ cart_same p) ids.cart)
+one_pair : (ids : IdsAsked) (pair : List ℕ) (c cart customer other : Option ℕ) → number_behind (codes "c=") pair ≡ customer → number_behind (codes "cart=") pair ≡ other
+    → c ≡ option_or ids.c customer → cart ≡ option_or ids.cart other
+    → ◌≡◌ {A = IdsAsked} (record { c = c; cart = cart }) (with_pairs ids (pair ∷ []))
+one_pair ids pair c cart customer other customer_is other_is first second =
+    same_ids _ _ _ _ (first ∙ one_number (codes "c=") pair customer ids.c customer_is) (second ∙ one_number (codes "cart=") pair other ids.cart other_is)
 
--- a pair is taken, and others follow it
-pub pair_taken : (ids now start : IdsAsked) (t r pair after : List ℕ) → IsNextPair r pair (Some after)
-    → ((p : List ℕ) → pair ≡ escape p → now ≡ with_pairs ids (p ∷ []))
-    → with_pairs ids (split r) ≡ with_pairs start (pairs_in t)
-    → (q : List ℕ) × (after ≡ escape q) × (with_pairs now (split q) ≡ with_pairs start (pairs_in t))
-pair_taken ids now start t r pair after next takes same =
-    let others = split next.1 in (
-      next.1,
-      next.3,
-      ap (λ i. with_pairs i others) (takes next.0 next.2) ∙ with_more ids (next.0 ∷ []) others
-          ∙ ap (with_pairs ids) (sym next.4) ∙ same,
+-- what reading a number gives
+abbrev Reads : List ℕ → Option ℕ → List ℕ → Type 0
+Reads digits number left = (t tail : List ℕ) → Begins digits t tail → TakesNumber t tail number left
+
+-- a pair of a customer
+pub customer_taken : (ids : IdsAsked) (text digits left : List ℕ) (number c : Option ℕ) → text ≡ codes "c=" ++ digits → Reads digits number left → c ≡ option_or ids.c number
+    → (t tail : List ℕ) → Begins text t tail → TakesPair ids t tail (record { c = c; cart = ids.cart }) left
+customer_taken ids text digits left number c is reads c_is t tail begins =
+    let follows = behind_front (codes "c=") digits t tail plain_customer (sym begins.is ∙ is) begins.ended in
+    let taken = reads follows.0 tail follows.2 in
+    let pair : first_pair t ≡ codes "c=" ++ first_pair follows.0 = ap first_pair follows.1 ∙ front_pair (codes "c=") follows.0 plain_customer in (
+      one_pair ids (first_pair t) c ids.cart (number_of (first_pair follows.0)) None (ap (number_behind (codes "c=")) pair) (ap (number_behind (codes "cart=")) pair)
+          (c_is ∙ ap (option_or ids.c) taken.0) (sym (or_none ids.cart)),
+      left_behind (codes "c=") t follows.0 tail left plain_customer follows.1 taken.1,
     )
 
--- the last one is taken
-pub last_taken : (ids now start : IdsAsked) (t r pair : List ℕ) → IsNextPair r pair None
-    → ((p : List ℕ) → pair ≡ escape p → now ≡ with_pairs ids (p ∷ []))
-    → with_pairs ids (split r) ≡ with_pairs start (pairs_in t) → now ≡ with_pairs start (pairs_in t)
-last_taken ids now start t r pair next takes same = takes r next.0 ∙ ap (with_pairs ids) (sym next.1) ∙ same
+-- a pair of a cart
+pub cart_taken : (ids : IdsAsked) (text digits left : List ℕ) (number cart : Option ℕ) → text ≡ codes "cart=" ++ digits → Reads digits number left → cart ≡ option_or ids.cart number
+    → (t tail : List ℕ) → Begins text t tail → TakesPair ids t tail (record { c = ids.c; cart = cart }) left
+cart_taken ids text digits left number cart is reads cart_is t tail begins =
+    let follows = behind_front (codes "cart=") digits t tail plain_cart (sym begins.is ∙ is) begins.ended in
+    let taken = reads follows.0 tail follows.2 in
+    let pair : first_pair t ≡ codes "cart=" ++ first_pair follows.0 = ap first_pair follows.1 ∙ front_pair (codes "cart=") follows.0 plain_cart in (
+      one_pair ids (first_pair t) ids.c cart None (number_of (first_pair follows.0)) (ap (number_behind (codes "c=")) pair) (ap (number_behind (codes "cart=")) pair)
+          (sym (or_none ids.c)) (cart_is ∙ ap (option_or ids.cart) taken.0),
+      left_behind (codes "cart=") t follows.0 tail left plain_cart follows.1 taken.1,
+    )
+
+-- a pair of neither
+pub other_taken : (ids : IdsAsked) (text : List ℕ) → ((after : List ℕ) → text ≢ codes "c=" ++ after) → ((after : List ℕ) → text ≢ codes "cart=" ++ after)
+    → (t tail : List ℕ) → Begins text t tail → TakesPair ids t tail ids text
+other_taken ids text no_customer no_cart t tail begins = (
+  one_pair ids (first_pair t) ids.c ids.cart None None (no_front (codes "c=") text t tail refl begins no_customer) (no_front (codes "cart=") text t tail refl begins no_cart)
+      (sym (or_none ids.c)) (sym (or_none ids.cart)),
+  all_left t tail text begins,
+)
 
 none_cons : (x : List ℕ) (xs : List (List ℕ)) → ◌≡◌ {A = List (List ℕ)} [] (x ∷ xs) → ⊥
 none_cons x xs e = cc

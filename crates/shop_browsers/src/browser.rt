@@ -98,17 +98,19 @@ impl Browser {
         ensures ok { OnOk result (self.new ≡ spec.after_request self.old) }
         ensures err { OnErr result (self.new ≡ self.old) }
     {
-        let bytes = self.request(alloc)?;
-        self.go_on();
+        let meant = self.meant();
+        let bytes = self.request(alloc, meant)?;
+        self.go_on(meant);
         Ok(bytes)
     }
 
-    fn request(&self, alloc: Global) -> Result<Text, Memory>
+    fn request(&self, alloc: Global, meant: Interaction) -> Result<Text, Memory>
+        requires { meant ≡ spec.meant self.now }
         ensures { IfOk result (λ bytes. bytes ≡ message_bytes self.now) }
     {
         let mut bytes = Text::with_capacity(alloc, ROOM)?;
         bytes.push(b"GET ")?;
-        self.push_target(&mut bytes)?;
+        self.push_target(&mut bytes, meant)?;
         bytes.push(b" HTTP/1.1\r\nHost: shop\r\n\r\n")?;
         Ok(bytes)
     }
@@ -134,26 +136,29 @@ impl Browser {
         ensures ok { OnOk result (self.new ≡ spec.after_request self.old) }
         ensures err { OnErr result (self.new ≡ self.old) }
     {
-        self.write_message(message)?;
-        self.go_on();
+        let meant = self.meant();
+        self.write_message(message, meant)?;
+        self.go_on(meant);
         Ok(())
     }
 
-    fn write_message(&self, message: &mut Message) -> Result<(), Memory>
+    fn write_message(&self, message: &mut Message, meant: Interaction) -> Result<(), Memory>
+        requires { meant ≡ spec.meant self.now }
         ensures { OnOk result (message.new ≡ request_message self.now) }
     {
         message.method = Method::GET;
         message.target.clear();
         message.body.clear();
         message.close = false;
-        self.push_target(&mut message.target)
+        self.push_target(&mut message.target, meant)
     }
 
-    /// Goes on to the next step.
-    fn go_on(&mut self)
+    /// Goes on to the next step, once it asked.
+    fn go_on(&mut self, meant: Interaction)
+        requires { meant ≡ spec.meant self.old }
         ensures { self.new ≡ spec.after_request self.old }
     {
-        self.asked = Some(self.meant());
+        self.asked = Some(meant);
         if self.step < u64::MAX {
             self.step += 1;
             self.drawn = draw_four(&mut self.words);
@@ -216,7 +221,7 @@ impl Browser {
     }
 
     /// What it asks for next.
-    pub(crate) fn meant(&self) -> Interaction
+    fn meant(&self) -> Interaction
         ensures { result ≡ spec.meant self.now }
     {
         let picked = self.mix.picked(self.word(0));

@@ -1,10 +1,12 @@
 //! The targets of a browser's requests. A refusal may come after some pieces of one.
-ghost use Rattle.std.specs.Prelude.{◌≡◌, ◌++◌, ◌∷◌, [], codes, decimal, IfOk, OnOk};
+ghost use Rattle.std.specs.Prelude.{◌≡◌, ◌++◌, ◌∷◌, [], ◌||◌, codes, decimal, OnOk, if◌then◌else◌};
+ghost use Rattle.std.specs.Option.{is_some};
 ghost use Rattle.shop_model.specs.declared.requests.SearchKind.TheVariants as kind;
 ghost use Rattle.shop_model.specs.pages.Forms.{text_field};
 ghost use Rattle.shop_model.specs.pages.Targets.{id_field};
 ghost use Rattle.shop_model.specs.population.Words.{entry};
-ghost use Rattle.shop_browsers.specs.Adding.{Adds, AddsLast};
+ghost use Rattle.shop_browsers.specs.Adding.{Adds, AddsLast, id_text};
+ghost use Rattle.shop_browsers.specs.Browsers as browsers;
 ghost use Rattle.shop_browsers.specs.Requests as spec;
 
 use crate::Browser;
@@ -12,28 +14,19 @@ use shop_model::words::{first_name, last_name, noun};
 use shop_model::{CardType, Interaction, SearchKind, Subject};
 use shop_text::{Memory, Text};
 
-/// Adds an id, where there is one, and gives the sign of what comes next.
-fn push_id<'a>(
-    text: &mut Text,
-    sign: &'a [u8],
-    name: &[u8],
-    id: Option<u32>,
-) -> Result<&'a [u8], Memory>
-    ensures { IfOk result (λ next. Adds text.old sign.now (id_field name.now id) text.new next.now) }
+/// Adds an id with what stands before it, where there is one.
+#[inline(always)]
+fn push_id(text: &mut Text, front: &[u8], id: Option<u32>) -> Result<(), Memory>
+    ensures { OnOk result (text.new ≡ text.old ++ id_text front.now id) }
 {
     match id {
-        None => Ok(sign),
-        Some(number) => {
-            text.push(sign)?;
-            text.push(name)?;
-            text.push(b"=")?;
-            text.push_decimal(u64::from(number))?;
-            Ok(b"&")
-        }
+        None => Ok(()),
+        Some(number) => push_number(text, front, number),
     }
 }
 
 /// Adds a parameter with what stands before its value.
+#[inline(always)]
 fn push_field(text: &mut Text, front: &[u8], value: &[u8]) -> Result<(), Memory>
     ensures { OnOk result (text.new ≡ text.old ++ (front.now ++ value.now)) }
 {
@@ -42,6 +35,7 @@ fn push_field(text: &mut Text, front: &[u8], value: &[u8]) -> Result<(), Memory>
 }
 
 /// The same of a number.
+#[inline(always)]
 fn push_number(text: &mut Text, front: &[u8], number: u32) -> Result<(), Memory>
     ensures { OnOk result (text.new ≡ text.old ++ (front.now ++ decimal number)) }
 {
@@ -49,44 +43,72 @@ fn push_number(text: &mut Text, front: &[u8], number: u32) -> Result<(), Memory>
     text.push_decimal(u64::from(number))
 }
 
+/// The sign before a parameter, the first or one that stands behind others.
+fn sign_behind(others: bool) -> &'static [u8]
+    ensures { result.now ≡ (if others then codes "&" else codes "?") }
+{
+    if others { b"&" } else { b"?" }
+}
+
 impl Browser {
-    /// Adds the target of the next request.
-    pub(crate) fn push_target(&self, text: &mut Text) -> Result<(), Memory>
+    /// Adds the target of the next request, by what it asks for.
+    pub(crate) fn push_target(&self, text: &mut Text, meant: Interaction) -> Result<(), Memory>
+        requires { meant ≡ browsers.meant self.now }
         ensures { OnOk result (text.new ≡ text.old ++ spec.target_of self.now) }
     {
-        let interaction = self.meant();
-        text.push(interaction.path().as_bytes())?;
-        self.push_parameters(text, interaction)
+        text.push(meant.path().as_bytes())?;
+        self.push_parameters(text, meant)
     }
 
     fn push_parameters(&self, text: &mut Text, interaction: Interaction) -> Result<(), Memory>
         ensures { OnOk result (AddsLast text.old (codes "?") (spec.parameters_of self.now interaction) text.new) }
     {
         match interaction {
-            Interaction::Home => self.push_ids(text, b"?"),
+            Interaction::Home => self.push_ids(text),
             Interaction::NewProducts => self.push_subject(text),
             Interaction::BestSellers => self.push_subject(text),
             Interaction::ProductDetail => self.push_item_and_ids(text),
-            Interaction::SearchRequest => self.push_ids(text, b"?"),
+            Interaction::SearchRequest => self.push_ids(text),
             Interaction::SearchResults => self.push_search(text),
             Interaction::ShoppingCart => self.push_item_and_ids(text),
-            Interaction::CustomerRegistration => self.push_ids(text, b"?"),
+            Interaction::CustomerRegistration => self.push_ids(text),
             Interaction::BuyRequest => self.push_buyer(text),
             Interaction::BuyConfirm => self.push_card(text),
-            Interaction::OrderInquiry => self.push_ids(text, b"?"),
+            Interaction::OrderInquiry => self.push_ids(text),
             Interaction::OrderDisplay => self.push_login_and_ids(text),
             Interaction::AdminRequest => self.push_item_and_ids(text),
             Interaction::AdminConfirm => self.push_change(text),
         }
     }
 
-    /// Adds the ids that it has.
-    fn push_ids(&self, text: &mut Text, sign: &[u8]) -> Result<(), Memory>
-        ensures { OnOk result (AddsLast text.old sign.now (spec.carried self.now) text.new) }
+    /// Whether it has a customer or a cart.
+    fn has_ids(&self) -> bool
+        ensures { result ≡ (is_some self.now.customer || is_some self.now.cart) }
     {
-        let next = push_id(text, sign, b"c", self.customer())?;
-        push_id(text, next, b"cart", self.cart())?;
-        Ok(())
+        self.customer().is_some() || self.cart().is_some()
+    }
+
+    /// Adds the ids that it has.
+    #[inline(always)]
+    fn push_ids(&self, text: &mut Text) -> Result<(), Memory>
+        ensures { OnOk result (AddsLast text.old (codes "?") (spec.carried self.now) text.new) }
+    {
+        match self.customer() {
+            None => push_id(text, b"?cart=", self.cart()),
+            Some(customer) => {
+                push_number(text, b"?c=", customer)?;
+                push_id(text, b"&cart=", self.cart())
+            }
+        }
+    }
+
+    /// Adds the ids that it has, behind other parameters.
+    #[inline(always)]
+    fn push_more_ids(&self, text: &mut Text) -> Result<(), Memory>
+        ensures { OnOk result (AddsLast text.old (codes "&") (spec.carried self.now) text.new) }
+    {
+        push_id(text, b"&c=", self.customer())?;
+        push_id(text, b"&cart=", self.cart())
     }
 
     /// The name of the subject that it picked.
@@ -100,7 +122,7 @@ impl Browser {
         ensures { OnOk result (AddsLast text.old (codes "?") (text_field (codes "subject") (spec.subject_drawn self.now) ∷ spec.carried self.now) text.new) }
     {
         push_field(text, b"?subject=", self.subject_drawn())?;
-        self.push_ids(text, b"&")
+        self.push_more_ids(text)
     }
 
     /// The item that it picked.
@@ -121,7 +143,7 @@ impl Browser {
         ensures { OnOk result (AddsLast text.old (codes "?") (spec.item_field self.now ∷ spec.carried self.now) text.new) }
     {
         self.push_item(text)?;
-        self.push_ids(text, b"&")
+        self.push_more_ids(text)
     }
 
     /// The kind of the search that it picked.
@@ -149,7 +171,7 @@ impl Browser {
         let kind = self.kind_drawn();
         push_field(text, b"?kind=", kind.name())?;
         push_field(text, b"&text=", self.text_drawn(kind))?;
-        self.push_ids(text, b"&")
+        self.push_more_ids(text)
     }
 
     /// The customer whom it picked.
@@ -174,13 +196,14 @@ impl Browser {
         ensures { OnOk result (AddsLast text.old (codes "?") (spec.login_fields self.now ++ spec.carried self.now) text.new) }
     {
         self.push_login(text, b"?")?;
-        self.push_ids(text, b"&")
+        self.push_more_ids(text)
     }
 
     fn push_buyer(&self, text: &mut Text) -> Result<(), Memory>
         ensures { OnOk result (AddsLast text.old (codes "?") (id_field (codes "cart") self.now.cart ++ spec.buyer_fields self.now) text.new) }
     {
-        let sign = push_id(text, b"?", b"cart", self.cart())?;
+        push_id(text, b"?cart=", self.cart())?;
+        let sign = sign_behind(self.cart().is_some());
         if self.word(3) % 5 == 0 {
             self.push_newcomer(text, sign)
         } else {
@@ -205,9 +228,8 @@ impl Browser {
     fn push_card(&self, text: &mut Text) -> Result<(), Memory>
         ensures { OnOk result (AddsLast text.old (codes "?") (spec.carried self.now ++ spec.card_fields self.now) text.new) }
     {
-        let sign = push_id(text, b"?", b"c", self.customer())?;
-        let last_sign = push_id(text, sign, b"cart", self.cart())?;
-        text.push(last_sign)?;
+        self.push_ids(text)?;
+        text.push(sign_behind(self.has_ids()))?;
         push_field(text, b"card=", CardType::picked(self.word(1)).name())?;
         text.push(b"&number=4111222233334444&name=B&expiry=2030-12")
     }
@@ -218,7 +240,7 @@ impl Browser {
         self.push_item(text)?;
         push_number(text, b"&cost=", 100 + self.word(2) % 9900)?;
         text.push(b"&image=/img/new.gif&thumb=/img/newthumb.gif")?;
-        self.push_ids(text, b"&")
+        self.push_more_ids(text)
     }
 }
 

@@ -1,5 +1,5 @@
 //! What a browser takes from a page.
-ghost use Rattle.std.specs.Prelude.{◌≡◌, ◌==◌, ◌∷◌, ◌<◌, [], ℕ, List, length, IfSome, MatchOption, Some, IsTrue, codes};
+ghost use Rattle.std.specs.Prelude.{◌≡◌, ◌==◌, ◌∷◌, ◌<◌, ◌≤◌, [], ℕ, List, length, IfSome, MatchOption, Some, IsTrue, codes};
 ghost use Rattle.std.specs.List.{before_first, after_first};
 ghost use Rattle.std.specs.Option.{option_map};
 ghost use Rattle.shop_text.specs.Escape.{escape};
@@ -7,10 +7,10 @@ ghost use Rattle.shop_model.specs.declared.page.Page.{Page};
 ghost use Rattle.shop_browsers.specs.Scanned as scanned;
 ghost use Rattle.shop_browsers.specs.Shown as spec;
 
-use memchr::memchr;
+use memchr::memchr2;
 use memchr::memmem::{Finder, find};
 use shop_model::IdsAsked;
-use shop_text::{number_of, unescaped};
+use shop_text::unescaped;
 
 /// The opening of a link.
 const LINK: &[u8] = b"<a href=\"";
@@ -27,7 +27,7 @@ pub(crate) fn ids_shown(shown: &[u8]) -> IdsAsked
     let mut rest = shown;
     while let Some(after) = behind_link(&links, rest) {
         let looked = ids.c.is_some();
-        ids = with_target(ids, before_quote(after));
+        ids = with_target(ids, after);
         if names_no_more(ids, after, looked) {
             return ids;
         }
@@ -67,84 +67,128 @@ fn behind_link<'a>(links: &Finder, bytes: &'a [u8]) -> Option<&'a [u8]>
     }
 }
 
-/// What stands before the next quote.
-fn before_quote(bytes: &[u8]) -> &[u8]
-    ensures { result.now ≡ before_first (λ b. b == 34) bytes.now }
-{
-    match memchr(b'"', bytes) {
-        Some(quote) => &bytes[..quote],
-        None => bytes,
-    }
-}
-
-/// What stands behind the first `?`.
-fn query_of(target: &[u8]) -> &[u8]
-    ensures { result.now ≡ after_first (λ b. b == 63) target.now }
-{
-    match memchr(b'?', target) {
-        Some(mark) => &target[mark + 1..],
-        None => &[],
-    }
-}
-
-/// The ids, and those that a target names where they lack.
-fn with_target(ids: IdsAsked, target: &[u8]) -> IdsAsked
-    ensures { (t : List ℕ) → target.now ≡ escape t → result ≡ scanned.with_pairs ids (spec.pairs_in t) }
+/// The ids, and those that the target in front names where they lack. A target ends at the next quote.
+fn with_target(ids: IdsAsked, text: &[u8]) -> IdsAsked
+    ensures { (t : List ℕ) → before_first (λ b. b == 34) text.now ≡ escape t → result ≡ scanned.with_pairs ids (spec.pairs_in t) }
 {
     let mut ids = ids;
-    let mut rest = query_of(target);
+    let mut rest = query_in(text);
     loop {
-        let (pair, after) = next_pair(rest);
-        ids = with_pair(ids, pair);
-        let Some(text) = after else {
+        let (taken, left) = with_pair(ids, rest);
+        ids = taken;
+        let Some(after) = next_pair(left) else {
             return ids;
         };
-        rest = text;
+        rest = after;
     }
 }
 
-/// The ids, and that of a pair where it lacks.
-fn with_pair(ids: IdsAsked, pair: &[u8]) -> IdsAsked
-    ensures { (p : List ℕ) → pair.now ≡ escape p → result ≡ scanned.with_pairs ids (p ∷ []) }
+/// What stands behind the first `?` of the target in front. Nothing where it has none.
+fn query_in(text: &[u8]) -> &[u8]
+    ensures { before_first (λ b. b == 34) result.now ≡ after_first (λ b. b == 63) (before_first (λ b. b == 34) text.now) }
 {
-    IdsAsked {
-        c: ids.c.or(number_behind(b"c=", pair)),
-        cart: ids.cart.or(number_behind(b"cart=", pair)),
-    }
-}
-
-/// The number in a pair that begins so.
-fn number_behind(front: &[u8], pair: &[u8]) -> Option<u32>
-    ensures { result ≡ spec.number_behind front.now pair.now }
-{
-    if pair.starts_with(front) {
-        number_of(&pair[front.len()..])
-    } else {
-        None
-    }
-}
-
-/// What is left from the next `&` on.
-fn from_sign(bytes: &[u8]) -> &[u8]
-    ensures { scanned.Passes bytes.now result.now }
-{
-    match memchr(b'&', bytes) {
-        Some(sign) => &bytes[sign..],
+    match memchr2(b'?', b'"', text) {
+        Some(at) => {
+            if text[at] == b'?' {
+                &text[at + 1..]
+            } else {
+                &[]
+            }
+        }
         None => &[],
     }
 }
 
-/// The pair before the next `&`, and what follows that sign, where there is one.
-fn next_pair(bytes: &[u8]) -> (&[u8], Option<&[u8]>)
-    ensures pair { (text : List ℕ) → bytes.now ≡ escape text → scanned.IsNextPair text result.0.now (option_map (λ after. after.now) result.1) }
-    ensures shorter { IfSome result.1 (λ after. length after.now < length bytes.now) }
+/// The ids, and that of the pair in front where it lacks; and what is left behind the bytes of the pair that were read.
+fn with_pair(ids: IdsAsked, text: &[u8]) -> (IdsAsked, &[u8])
+    ensures taken { (t tail : List ℕ) → scanned.Begins text.now t tail → scanned.TakesPair ids t tail result.0 result.1.now }
+    ensures shorter { length result.1.now ≤ length text.now }
 {
-    let mut rest = from_sign(bytes);
-    while let Some((byte, after)) = unescaped(rest) {
-        if byte == b'&' {
-            return (&bytes[..bytes.len() - rest.len()], Some(after));
-        }
-        rest = from_sign(after);
+    if let Some(digits) = text.strip_prefix(b"c=") {
+        let (number, left) = number_in_front(digits);
+        let taken = IdsAsked {
+            c: ids.c.or(number),
+            cart: ids.cart,
+        };
+        return (taken, left);
     }
-    (bytes, None)
+    if let Some(digits) = text.strip_prefix(b"cart=") {
+        let (number, left) = number_in_front(digits);
+        let taken = IdsAsked {
+            c: ids.c,
+            cart: ids.cart.or(number),
+        };
+        return (taken, left);
+    }
+    (ids, text)
+}
+
+/// The number that the pair in front is, if any; and what is left behind its first digits.
+fn number_in_front(text: &[u8]) -> (Option<u32>, &[u8])
+    ensures number { (t tail : List ℕ) → scanned.Begins text.now t tail → scanned.TakesNumber t tail result.0 result.1.now }
+    ensures shorter { length result.1.now ≤ length text.now }
+{
+    let (value, left) = digits_in_front(text);
+    if left.len() == text.len() {
+        return (None, left);
+    }
+    if !pair_ends(left) {
+        return (None, left);
+    }
+    (u32::try_from(value).ok(), left)
+}
+
+/// The number that the first digits write, at most ten of them; and what is left behind them.
+fn digits_in_front(text: &[u8]) -> (u64, &[u8])
+    ensures digits { scanned.AreDigits text.now result.0 result.1.now }
+    ensures stops { scanned.Stops text.now result.1.now }
+{
+    let mut value = 0;
+    let mut rest = text;
+    while let [digit, after @ ..] = rest {
+        if !digit.is_ascii_digit() {
+            return (value, rest);
+        }
+        if text.len() - rest.len() == 10 {
+            return (value, rest);
+        }
+        value = value * 10 + u64::from(*digit - b'0');
+        rest = after;
+    }
+    (value, rest)
+}
+
+/// Whether the pair ends here.
+fn pair_ends(text: &[u8]) -> bool
+    ensures { (t tail : List ℕ) → scanned.Begins text.now t tail → result ≡ scanned.pair_over t }
+{
+    target_ends(text) || text.starts_with(b"&amp;")
+}
+
+/// Whether the target ends here.
+fn target_ends(text: &[u8]) -> bool
+    ensures { result ≡ scanned.ends text.now }
+{
+    match text {
+        [] => true,
+        [byte, ..] => *byte == b'"',
+    }
+}
+
+/// What follows the pair of which some is left in front, where another pair follows it.
+fn next_pair(left: &[u8]) -> Option<&[u8]>
+    ensures next { (t tail : List ℕ) → scanned.IsLeft t tail left.now → scanned.IsNextPair t tail (option_map (λ after. after.now) result) }
+    ensures shorter { IfSome result (λ after. length after.now < length left.now) }
+{
+    let mut rest = left;
+    while !target_ends(rest) {
+        let Some((byte, after)) = unescaped(rest) else {
+            return None;
+        };
+        if byte == b'&' {
+            return Some(after);
+        }
+        rest = after;
+    }
+    None
 }

@@ -2,9 +2,9 @@ ghost use Rattle.std.specs.Prelude.{◌≡◌, [], IfOk, OnOk, OnErr, option_cop
 ghost use Rattle.shop_cache.specs.Caches.{found, looked, with_kept, AllTaken};
 
 use crate::keys::ListKey;
+use crate::lines::ListLines;
 use lru::LruCache;
-use shop_history::Label;
-use shop_text::{Listed, Memory};
+use shop_text::Memory;
 use std::alloc::Global;
 use std::marker::Model;
 use std::num::NonZeroUsize;
@@ -15,13 +15,6 @@ const ROOM: usize = 96;
 /// How old a list may be, in milliseconds.
 const AGE_LIMIT: u64 = 30_000;
 
-/// A line of a list.
-#[derive(Debug, Drop)]
-pub struct ListLine {
-    pub item: u32,
-    pub label: Label,
-}
-
 /// The lines of a list, and when they were read.
 #[derive(Debug, Drop)]
 pub struct Kept {
@@ -29,7 +22,7 @@ pub struct Kept {
     pub front: u64,
     /// In milliseconds since 1970-01-01.
     pub taken: u64,
-    pub lines: Listed<ListLine>,
+    pub lines: ListLines,
 }
 
 /// The lists that are kept. A contract sees pairs of a key and its list, the one used last first.

@@ -3,6 +3,8 @@
 
 mod cache;
 mod keys;
+mod lines;
 
-pub use cache::{Kept, ListCache, ListLine};
+pub use cache::{Kept, ListCache};
 pub use keys::ListKey;
+pub use lines::{ListLine, ListLines};

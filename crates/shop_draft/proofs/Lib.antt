@@ -4,3 +4,4 @@ mod Pairs
 mod Splices
 mod Tails
 mod UserTexts
+mod Woven

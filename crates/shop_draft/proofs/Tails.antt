@@ -3,7 +3,10 @@ use Rattle.std.proofs.Common.{◌≡◌, ℕ, ◌<◌, ◌^◌, List, ◌++◌, 
 use Rattle.shop_text.specs.Escape.{escape}
 use Rattle.shop_text.proofs.cited.Plain.{escape_append, plain_decimal}
 use Rattle.shop_model.specs.pages.Targets.{pairs, id_fields}
-use Rattle.shop_draft.specs.Links.{ids_behind}
+use Rattle.shop_model.specs.declared.requests.IdsAsked.{IdsAsked}
+use Rattle.shop_draft.specs.declared.tail.Sign.{Sign}
+use Rattle.shop_draft.specs.declared.tail.Sign.TheVariants.{First, More}
+use Rattle.shop_draft.specs.Links.{IsBehind, ids_behind, sign_text, text_behind}
 
 -- a number behind its name, where this is plain
 pair : (sign name : List ℕ) (id : ℕ) → escape name ≡ name → id < 2 ^ 64
@@ -42,3 +45,9 @@ both_tail c cart sign fits_c fits_cart =
       pair (codes "&") (codes "cart") cart refl fits_cart,
     )
     (simp append_assoc)
+
+-- what stands behind any sign, behind each
+pub each_sign : (ids : IdsAsked) (text : List ℕ) → IsBehind ids text → (sign : Sign)
+    → ids_behind (sign_text sign) ids ≡ text_behind sign (record { first = codes "?" ++ text; more = codes "&amp;" ++ text })
+each_sign ids text is First = is (codes "?")
+each_sign ids text is More = is (codes "&")

@@ -1,10 +1,12 @@
 -- Parts of links as they stand in a page.
-use Rattle.std.specs.Prelude.{◌≡◌, ℕ, List, [], ◌++◌, Option, Some, None, codes, decimal}
+use Rattle.std.specs.Prelude.{◌≡◌, ℕ, ◌≤◌, List, [], ◌∷◌, ◌++◌, length, take, drop, sum_by, Option, Some, None, codes, decimal}
 use Rattle.shop_text.specs.Texts.{escape}
 use Rattle.shop_model.specs.declared.requests.IdsAsked.{IdsAsked}
 use Rattle.shop_model.specs.pages.Targets.{pairs, id_fields}
 use Rattle.shop_history.specs.declared.acts.Drawn.{Drawn}
 use Rattle.shop_draft.specs.declared.ids.PageIds.{PageIds}
+use Rattle.shop_draft.specs.declared.tail.Sign.{Sign}
+use Rattle.shop_draft.specs.declared.tail.Sign.TheVariants.{First, More}
 use Rattle.shop_draft.specs.Drawing.{ids_at}
 use Rattle.shop_draft.specs.Templates.{TemplateState, Adds}
 
@@ -25,11 +27,49 @@ ids_behind sign ids = escape (pairs sign (id_fields ids))
 abbrev pub IsBehind : IdsAsked → List ℕ → Type 0
 IsBehind ids text = (sign : List ℕ) → ids_behind sign ids ≡ escape sign ++ text
 
--- whatever is drawn, this stands behind the sign
-abbrev pub IsTail : PageIds → List ℕ → Type 0
-IsTail ids text = (drawn : Drawn) → IsBehind (ids_at drawn ids) text
+-- a sign
+abbrev pub sign_text : Sign → List ℕ
+sign_text First = codes "?"
+sign_text More = codes "&"
 
--- the ids came to a text behind a sign, which stands escaped
-abbrev pub AddsIds : TemplateState → TemplateState → List ℕ → PageIds → Type 0
-AddsIds old new escaped ids =
-    (sign : List ℕ) → escape sign ≡ escaped → Adds old new (λ drawn. ids_behind sign (ids_at drawn ids))
+-- the ids of a page behind each sign
+pub record TailTexts : Type 0 where
+  pub first : List ℕ
+  pub more : List ℕ
+
+-- what stands behind a sign, and the sign
+abbrev pub text_behind : Sign → TailTexts → List ℕ
+text_behind First tail = tail.first
+text_behind More tail = tail.more
+
+-- whatever is drawn, these are the ids
+abbrev pub IsTail : PageIds → TailTexts → Type 0
+IsTail ids tail = (drawn : Drawn) (sign : Sign) → ids_behind (sign_text sign) (ids_at drawn ids) ≡ text_behind sign tail
+
+-- the ids came to a text behind a sign
+abbrev pub AddsIds : TemplateState → TemplateState → Sign → PageIds → Type 0
+AddsIds old new sign ids = Adds old new (λ drawn. ids_behind (sign_text sign) (ids_at drawn ids))
+
+-- the text of links without ids, and how many bytes of it stand before the first place of the ids, and from each
+-- to the next
+pub record LinkTexts : Type 0 where
+  pub text : List ℕ
+  pub gaps : List ℕ
+
+-- the bytes before the last place
+abbrev pub gaps_sum : List ℕ → ℕ
+gaps_sum gaps = sum_by (λ (gap : ℕ). gap) gaps
+
+-- the places lie within the text, and so many bytes are before the last
+pub record AreWithin (text gaps : List ℕ) (front : ℕ) : Type 0 where
+  pub counted : gaps_sum gaps ≡ front
+  pub within : front ≤ length text
+
+-- a text with this at its places
+abbrev pub woven : List ℕ → List ℕ → List ℕ → List ℕ
+woven ids [] text = text
+woven ids (gap ∷ gaps) text = take gap text ++ ids ++ woven ids gaps (drop gap text)
+
+-- links that hand on these ids
+abbrev pub links_with : IdsAsked → LinkTexts → List ℕ
+links_with ids links = woven (ids_behind (codes "&") ids) links.gaps links.text

@@ -1,17 +1,17 @@
 //! Links, and the ids that a page hands on.
-ghost use Rattle.std.specs.Prelude.{◌≡◌, ◌++◌, OnOk, codes};
+ghost use Rattle.std.specs.Prelude.{◌≡◌, OnOk, codes};
 ghost use Rattle.std.specs.List.{flat_map};
 ghost use Rattle.shop_text.specs.Texts.{escape};
-ghost use Rattle.shop_model.specs.pages.Lists.{line_label};
 ghost use Rattle.shop_model.specs.pages.PageText.{block_line};
 ghost use Rattle.shop_model.specs.pages.Targets as spec;
 ghost use Rattle.shop_draft.specs.Drawing.{ids_at, maybe_at};
-ghost use Rattle.shop_draft.specs.Links.{AddsIds, marked, link_front, ids_behind};
-ghost use Rattle.shop_draft.specs.Templates.{Adds};
+ghost use Rattle.shop_draft.specs.Links.{AddsIds, links_with, marked, link_front, ids_behind, woven};
+ghost use Rattle.shop_draft.specs.Templates.{Adds, Says};
 
-use crate::tail::Tail;
-use crate::{Id, PageIds, Template};
-use shop_model::Subject;
+use crate::short::Short;
+use crate::tail::{Sign, Tail, text_of};
+use crate::{Id, ItemLinks, PageIds, Template};
+use shop_model::{IdsAsked, Subject};
 use shop_text::{Caption, Memory};
 
 impl Template {
@@ -29,19 +29,19 @@ impl Template {
 
     /// Adds ids behind a sign, one after another.
     #[tactic(auto, using(shop_text::proofs::cited::Plain::escape_append), unfolding(shop_model::specs::pages::Targets::pairs, shop_model::specs::pages::Targets::id_fields))]
-    fn put_each_id(&mut self, sign: &[u8], ids: PageIds) -> Result<(), Memory>
-        ensures { OnOk result (AddsIds self.old self.new sign.now ids) }
+    fn put_each_id(&mut self, sign: Sign, ids: PageIds) -> Result<(), Memory>
+        ensures { OnOk result (AddsIds self.old self.new sign ids) }
     {
         match ids.c {
             None => match ids.cart {
                 None => {}
                 Some(cart) => {
-                    self.put(sign)?;
+                    self.put(sign.markup())?;
                     self.id(b"cart=", cart)?;
                 }
             },
             Some(c) => {
-                self.put(sign)?;
+                self.put(sign.markup())?;
                 self.id(b"c=", c)?;
                 self.marked(b"&amp;cart=", ids.cart)?;
             }
@@ -51,20 +51,28 @@ impl Template {
 
     /// Adds ids behind a sign, and keeps them where they are known.
     #[inline(never)]
-    fn put_new_ids(&mut self, sign: &[u8], ids: PageIds) -> Result<(), Memory>
-        ensures { OnOk result (AddsIds self.old self.new sign.now ids) }
+    fn put_new_ids(&mut self, sign: Sign, ids: PageIds) -> Result<(), Memory>
+        ensures { OnOk result (AddsIds self.old self.new sign ids) }
     {
-        if let Some(tail) = Tail::of(ids) {
-            self.keep_ids(tail);
+        match Tail::of(ids) {
+            Some(tail) => {
+                self.put_short(tail.text(sign))?;
+                self.keep_ids(tail);
+            }
+            None => self.put_each_id(sign, ids)?,
         }
-        self.put_each_id(sign, ids)
+        Ok(())
     }
 
-    /// Adds ids behind a sign.
+    /// Adds ids behind a sign. Where there are none nothing is looked up.
+    #[tactic(auto, unfolding(shop_model::specs::pages::Targets::pairs, shop_model::specs::pages::Targets::id_fields))]
     #[inline(always)]
-    fn put_ids(&mut self, sign: &[u8], ids: PageIds) -> Result<(), Memory>
-        ensures { OnOk result (AddsIds self.old self.new sign.now ids) }
+    fn put_ids(&mut self, sign: Sign, ids: PageIds) -> Result<(), Memory>
+        ensures { OnOk result (AddsIds self.old self.new sign ids) }
     {
+        if let (None, None) = (ids.c, ids.cart) {
+            return Ok(());
+        }
         if self.put_kept_ids(sign, ids)? {
             return Ok(());
         }
@@ -76,7 +84,7 @@ impl Template {
     fn first_ids(&mut self, ids: PageIds) -> Result<(), Memory>
         ensures { OnOk result (Adds self.old self.new (λ drawn. ids_behind (codes "?") (ids_at drawn ids))) }
     {
-        self.put_ids(b"?", ids)
+        self.put_ids(Sign::First, ids)
     }
 
     /// Adds the ids behind other parameters of a target.
@@ -84,7 +92,34 @@ impl Template {
     fn more_ids(&mut self, ids: PageIds) -> Result<(), Memory>
         ensures { OnOk result (Adds self.old self.new (λ drawn. ids_behind (codes "&") (ids_at drawn ids))) }
     {
-        self.put_ids(b"&amp;", ids)
+        self.put_ids(Sign::More, ids)
+    }
+
+    /// Adds links that were written before, with this text at the places of the ids.
+    fn put_woven(&mut self, links: &ItemLinks, ids: &Short) -> Result<(), Memory>
+        ensures { OnOk result (Says self.old self.new (woven ids.now links.now.gaps links.now.text)) }
+    {
+        let mut rest = links.text();
+        for gap in links.gaps() {
+            let (front, behind) = rest.split_at(*gap);
+            self.put(front)?;
+            self.put_short(ids)?;
+            rest = behind;
+        }
+        self.put(rest)?;
+        Ok(())
+    }
+
+    /// Adds links that were written before, with the ids of a request. Where it has none the text stands as it is.
+    #[tactic(auto, unfolding(shop_model::specs::pages::Targets::pairs, shop_model::specs::pages::Targets::id_fields))]
+    pub fn put_links(&mut self, links: &ItemLinks, ids: IdsAsked) -> Result<(), Memory>
+        ensures { OnOk result (Says self.old self.new (links_with ids links.now)) }
+    {
+        match text_of(ids.c, ids.cart) {
+            None => self.put(links.text())?,
+            Some(text) => self.put_woven(links, &Short::behind(b"&amp;", &text))?,
+        }
+        Ok(())
     }
 
     /// A link with no parameters but the ids; path and label are plain.
@@ -158,27 +193,6 @@ impl Template {
     {
         self.detail_front(item, ids)?;
         self.text(b"", title)?;
-        self.put(b"</a>\n")?;
-        Ok(())
-    }
-
-    /// A link to the page of an item, labelled with its title and the names of its author.
-    #[tactic(auto, using(shop_text::proofs::cited::Plain::escape_append), unfolding(shop_model::specs::pages::PageText::block_text, shop_model::specs::pages::Lists::line_label, crate::specs::Links::link_front))]
-    pub fn author_link(
-        &mut self,
-        item: u32,
-        ids: PageIds,
-        title: &Caption,
-        first: &Caption,
-        last: &Caption,
-    ) -> Result<(), Memory>
-        ensures { OnOk result (Adds self.old self.new (λ drawn. block_line
-            (spec.item_link (codes "/product_detail") item (ids_at drawn ids) (line_label title.now first.now last.now)))) }
-    {
-        self.detail_front(item, ids)?;
-        self.text(b"", title)?;
-        self.text(b" by ", first)?;
-        self.text(b" ", last)?;
         self.put(b"</a>\n")?;
         Ok(())
     }

@@ -1,34 +1,58 @@
 //! The ids that the links of a page hand on, written once.
-ghost use Rattle.std.specs.Prelude.{◌≡◌, Some, None, IsTrue, IfSome};
+ghost use Rattle.std.specs.Prelude.{◌≡◌, ◌≤◌, length, Some, None, IsTrue, IfSome, MatchOption};
+ghost use Rattle.shop_text.specs.Texts.{escape};
 ghost use Rattle.shop_history.specs.declared.acts.Drawn.{Drawn};
 ghost use Rattle.shop_draft.specs.Drawing.{maybe_at};
-ghost use Rattle.shop_draft.specs.Links.{IsBehind, IsTail};
+ghost use Rattle.shop_draft.specs.Links.{IsBehind, IsTail, sign_text, text_behind};
 
 use crate::short::Short;
 use crate::{Id, PageIds};
 use std::marker::Model;
 
-/// What stands behind the sign in front of ids that are known.
+/// What stands in front of ids.
+#[derive(Clone, Copy, Debug, PartialEq, Eq)]
+pub(crate) enum Sign {
+    /// `?`, where they are the first parameters of a target.
+    First,
+    /// `&`, behind others.
+    More,
+}
+
+impl Sign {
+    /// How it stands in a page.
+    #[inline(always)]
+    pub(crate) fn markup(self) -> &'static [u8]
+        ensures { result.now ≡ escape (sign_text self) }
+    {
+        match self {
+            Sign::First => b"?",
+            Sign::More => b"&amp;",
+        }
+    }
+}
+
+/// Ids that are known behind each sign.
 #[derive(Debug, Drop)]
 pub(crate) struct Tail {
     ids: PageIds,
-    text: Short,
+    first: Short,
+    more: Short,
 }
 
 impl Model for Tail {
-    ghost use Rattle.std.specs.Prelude.{List, ℕ};
-    ghost use Rattle.shop_draft.specs.Links.{IsTail};
+    ghost use Rattle.shop_draft.specs.Links.{TailTexts, IsTail};
 
-    ghost Value = { List ℕ };
+    ghost Value = { TailTexts };
 
-    ghost view = { λ t. t.text };
+    ghost view = { λ t. record { first = t.first; more = t.more } };
 
-    ghost invariant = { λ t. IsTail t.ids t.text };
+    ghost invariant = { λ t. IsTail t.ids (record { first = t.first; more = t.more }) };
 }
 
 /// The text of a customer's id.
 fn customer_text(c: u32) -> Short
-    ensures { IsBehind (record { c = Some c; cart = None }) result }
+    ensures text { IsBehind (record { c = Some c; cart = None }) result }
+    ensures short { length result ≤ 35 }
 {
     let mut text = Short::new();
     text.put_id(b"c=", c);
@@ -37,7 +61,8 @@ fn customer_text(c: u32) -> Short
 
 /// The text of a cart's id.
 fn cart_text(cart: u32) -> Short
-    ensures { IsBehind (record { c = None; cart = Some cart }) result }
+    ensures text { IsBehind (record { c = None; cart = Some cart }) result }
+    ensures short { length result ≤ 35 }
 {
     let mut text = Short::new();
     text.put_id(b"cart=", cart);
@@ -46,7 +71,8 @@ fn cart_text(cart: u32) -> Short
 
 /// The text of both.
 fn both_text(c: u32, cart: u32) -> Short
-    ensures { IsBehind (record { c = Some c; cart = Some cart }) result }
+    ensures text { IsBehind (record { c = Some c; cart = Some cart }) result }
+    ensures short { length result ≤ 35 }
 {
     let mut text = Short::new();
     text.put_id(b"c=", c);
@@ -54,9 +80,10 @@ fn both_text(c: u32, cart: u32) -> Short
     text
 }
 
-/// The text of ids, of which there is one at least.
-fn text_of(c: Option<u32>, cart: Option<u32>) -> Option<Short>
-    ensures { IfSome result (IsBehind (record { c = c; cart = cart })) }
+/// The text of ids; none where there are none.
+pub(crate) fn text_of(c: Option<u32>, cart: Option<u32>) -> Option<Short>
+    ensures text { MatchOption result ((c ≡ None) × (cart ≡ None)) (IsBehind (record { c = c; cart = cart })) }
+    ensures short { IfSome result (λ text. length text ≤ 35) }
 {
     match (c, cart) {
         (None, None) => None,
@@ -97,7 +124,11 @@ impl Tail {
         ensures { IfSome result (IsTail ids) }
     {
         let text = text_of(number_of(ids.c)?, number_of(ids.cart)?)?;
-        Some(Tail { ids, text })
+        Some(Tail {
+            ids,
+            first: Short::behind(b"?", &text),
+            more: Short::behind(b"&amp;", &text),
+        })
     }
 
     /// Whether it is that of these ids.
@@ -108,10 +139,14 @@ impl Tail {
         is_same_id(self.ids.c, ids.c) && is_same_id(self.ids.cart, ids.cart)
     }
 
+    /// The ids behind a sign.
     #[inline(always)]
-    pub(crate) fn text(&self) -> &Short
-        ensures { result.now ≡ self.now }
+    pub(crate) fn text(&self, sign: Sign) -> &Short
+        ensures { result.now ≡ text_behind sign self.now }
     {
-        &self.text
+        match sign {
+            Sign::First => &self.first,
+            Sign::More => &self.more,
+        }
     }
 }

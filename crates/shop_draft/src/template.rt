@@ -9,7 +9,8 @@ use crate::PageIds;
 use crate::flat::Flat;
 use crate::holes::{HOLE_ROOM, Hole, hole_len, put_hole};
 use crate::out::Out;
-use crate::tail::Tail;
+use crate::short::Short;
+use crate::tail::{Sign, Tail};
 use shop_history::Drawn;
 use shop_text::{Memory, Text};
 use std::alloc::Global;
@@ -90,18 +91,26 @@ impl Template {
 
     /// Adds ids behind a sign, where they are those that are kept; answers whether they are.
     #[inline(always)]
-    pub(crate) fn put_kept_ids(&mut self, sign: &[u8], ids: PageIds) -> Result<bool, Memory>
-        ensures added { IfOk result (λ kept. IsTrue kept → AddsIds self.old self.new sign.now ids) }
+    pub(crate) fn put_kept_ids(&mut self, sign: Sign, ids: PageIds) -> Result<bool, Memory>
+        ensures added { IfOk result (λ kept. IsTrue kept → AddsIds self.old self.new sign ids) }
         ensures same { IfOk result (λ kept. kept ≡ false → self.new ≡ self.old) }
     {
         match &self.tail {
             Some(tail) if tail.is_of(ids) => {
-                self.bytes.put(sign)?;
-                self.bytes.put_short(tail.text())?;
+                self.bytes.put_short(tail.text(sign))?;
                 Ok(true)
             }
             _ => Ok(false),
         }
+    }
+
+    /// Adds a short text.
+    #[inline(always)]
+    pub(crate) fn put_short(&mut self, text: &Short) -> Result<(), Memory>
+        ensures { OnOk result (Says self.old self.new text.now) }
+    {
+        self.bytes.put_short(text)?;
+        Ok(())
     }
 
     /// Keeps ids, to be added behind further signs.

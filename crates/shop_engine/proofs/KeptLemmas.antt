@@ -13,7 +13,7 @@ use Rattle.shop_model.specs.pages.Show.{show}
 use Rattle.shop_history.specs.declared.acts.Entry.{Entry}
 use Rattle.shop_history.specs.Logs.{tables}
 use Rattle.shop_cache.specs.declared.cache.Kept.{Kept}
-use Rattle.shop_cache.specs.declared.cache.ListLine.{ListLine}
+use Rattle.shop_cache.specs.declared.lines.ListLine.{ListLine}
 use Rattle.shop_cache.specs.declared.keys.ListKey.{ListKey}
 use Rattle.shop_cache.specs.Caches.{AllTaken, Entries, age_limit, found}
 use Rattle.shop_cache.specs.Keys.{key_asked}

@@ -10,7 +10,7 @@ use Rattle.shop_edges.specs.declared.gateway.Verdict.TheVariants as verdict
 use Rattle.shop_edges.specs.Charges.{ChargeValue}
 use Rattle.shop_history.specs.declared.acts.Entry.{Entry}
 use Rattle.shop_history.specs.Logs.{tables}
-use Rattle.shop_cache.specs.declared.cache.ListLine.{ListLine}
+use Rattle.shop_cache.specs.declared.lines.ListLine.{ListLine}
 use Rattle.shop_attempt.specs.declared.attempts.Conflict.{Conflict}
 use Rattle.shop_attempt.specs.Seats.{Seat}
 use Rattle.shop_pages.specs.Replies.{reply}

@@ -22,7 +22,7 @@ use Rattle.shop_history.specs.Drawing.{new_ids}
 use Rattle.shop_history.specs.Logs.{tables, page_at, Legal, MayFollow}
 use Rattle.shop_history.proofs.cited.Places.{push_here, row_there}
 use Rattle.shop_history.proofs.cited.Rows.{tables_push}
-use Rattle.shop_cache.specs.declared.cache.ListLine.{ListLine}
+use Rattle.shop_cache.specs.declared.lines.ListLine.{ListLine}
 use Rattle.shop_draft.specs.declared.draft.Draft.{Draft}
 use Rattle.shop_draft.specs.Pages.{IsPage}
 use Rattle.shop_attempt.specs.declared.attempts.Attempt.{Attempt}

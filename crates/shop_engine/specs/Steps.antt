@@ -14,7 +14,7 @@ use Rattle.shop_model.specs.population.Words.{word}
 use Rattle.shop_history.specs.declared.acts.Entry.{Entry}
 use Rattle.shop_history.specs.Logs.{tables}
 use Rattle.shop_cache.specs.declared.cache.Kept.{Kept}
-use Rattle.shop_cache.specs.declared.cache.ListLine.{ListLine}
+use Rattle.shop_cache.specs.declared.lines.ListLine.{ListLine}
 use Rattle.shop_cache.specs.declared.keys.ListKey.{ListKey}
 use Rattle.shop_cache.specs.Caches.{found, looked, with_kept}
 use Rattle.shop_cache.specs.Keys.{key_asked}

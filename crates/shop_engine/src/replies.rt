@@ -6,7 +6,7 @@ ghost use Rattle.shop_browse.specs.Lists.{page_by};
 ghost use Rattle.shop_pages.specs.Replies as replies;
 
 use shop_browse::write_list;
-use shop_cache::ListLine;
+use shop_cache::ListLines;
 use shop_draft::refusal as write_refusal;
 use shop_history::{Drawn, Ids};
 use shop_model::{Refusal, Request};
@@ -39,7 +39,7 @@ pub(crate) fn refusal_reply(reply: &mut Reply, refusal: Refusal, form: Form) -> 
 pub(crate) fn list_reply(
     reply: &mut Reply,
     request: &Request,
-    lines: &[ListLine],
+    lines: &ListLines,
     form: Form,
 ) -> Result<(), Memory>
     requires { IsSome (key_asked request.now) }

@@ -16,11 +16,10 @@ use crate::replies::refusal_reply;
 use crate::report::PointKind;
 use crate::tries::{Job, Tried};
 use shop_attempt::{Attempt, Settle, Store};
-use shop_cache::ListLine;
+use shop_cache::ListLines;
 use shop_edges::Reason;
 use shop_model::Refusal;
 use shop_pages::Reply;
-use shop_text::Listed;
 
 /// Settles an attempt whose page is written, in the room that is made before, and finishes its reply.
 pub(crate) fn settle_page<St: Store>(
@@ -65,7 +64,7 @@ pub(crate) fn settle_list<St: Store>(
     store: &mut St,
     job: &Job,
     attempt: Attempt,
-    lines: Listed<ListLine>,
+    lines: ListLines,
     reply: &mut Reply,
 ) -> Tried
     requires faithful { Faithful (St.seat store.old).opening (St.seat store.old).seen attempt }

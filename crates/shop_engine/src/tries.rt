@@ -14,7 +14,7 @@ use crate::report::PointKind;
 use crate::settles::{settle_denied, settle_list, settle_page};
 use shop_attempt::{Conflict, Settle, Store};
 use shop_browse::{Ask, Attempted};
-use shop_cache::ListLine;
+use shop_cache::ListLines;
 use shop_edges::{Answer, Gateway, Reason};
 use shop_model::{Refusal, Request};
 use shop_order::attempt;
@@ -42,7 +42,7 @@ pub(crate) enum Tried {
     /// This decided, at this front, and the reply is made.
     Settled(PointKind, u64),
     /// A list was read, with these lines, at this front, and the reply is made.
-    Listed(Listed<ListLine>, u64),
+    Listed(ListLines, u64),
     /// The charge of the answer that is kept was denied, at this front, and the reply is made.
     Denied(Reason, u64),
     Again(Conflict),
@@ -58,7 +58,7 @@ pub(crate) struct Outcome {
     pub(crate) kind: PointKind,
     pub(crate) front: u64,
     pub(crate) tries: u32,
-    pub(crate) lines: Option<Listed<ListLine>>,
+    pub(crate) lines: Option<ListLines>,
 }
 
 /// Reads what the request is about, writes its page, makes room for its reply, settles it, and finishes

@@ -10,13 +10,13 @@ use crate::report::{Point, PointKind, plain_point};
 use crate::tries::{Job, try_all};
 use shop_attempt::Store;
 use shop_browse::Ask;
-use shop_cache::{Kept, ListCache, ListKey, ListLine};
+use shop_cache::{Kept, ListCache, ListKey, ListLines};
 use shop_edges::{Clock, Gateway};
 use shop_http::{Asked, Message, Routes, request};
 use shop_model::{Refusal, Request, STAMP_LIMIT, Scale};
 use shop_pages::{Form, Reply};
 use shop_search::Index;
-use shop_text::{Listed, Memory};
+use shop_text::Memory;
 use std::alloc::Global;
 use std::marker::Model;
 use std::sync::Arc;
@@ -290,7 +290,7 @@ impl<St: Store> Worker<St> {
             return Ok(None);
         };
         let front = kept.front;
-        list_reply(&mut self.reply, request, kept.lines.as_slice(), form)?;
+        list_reply(&mut self.reply, request, &kept.lines, form)?;
         Ok(Some(front))
     }
 
@@ -300,7 +300,7 @@ impl<St: Store> Worker<St> {
         alloc: Global,
         request: &Request,
         front: u64,
-        lines: Option<Listed<ListLine>>,
+        lines: Option<ListLines>,
     ) -> Result<(), Memory>
         requires { KeepsLines (St.seat self.old.store) (St.marked self.old.store) self.old.progress.last (key_asked request.now) front lines }
         ensures kept { OnOk result (self.new.kept ≡ kept_now (key_asked request.now) front self.old.progress.last lines self.old.kept) }

@@ -16,6 +16,7 @@ use Rattle.shop_http.specs.Firsts.{kept}
 use Rattle.shop_http.specs.Forms.{decoded_text, is_plain, value_of}
 use Rattle.shop_http.specs.declared.requests.names.TheConstants.{PARAMETERS}
 use Rattle.shop_http.specs.Names.{parameters, parameter_named, place_of}
+use Rattle.shop_http.specs.Sets.{set_asked}
 use Rattle.shop_http.proofs.DecodedLemmas.{decoded_text-plain}
 use Rattle.shop_http.proofs.FirstLemmas.{none_behind}
 
@@ -147,6 +148,43 @@ pub named-encoded : (encoded : List ℕ) (parameter : Parameter) → parameter_n
 named-encoded encoded parameter is =
     let same : encoded ≡ parameter_name parameter = (bytes_eq-Decides encoded (parameter_name parameter)).0 (has_name encoded parameter is) in
     decoded_text-plain encoded (ap (list_all is_plain) same ∙ plain_name parameter)
+
+-- and begins no name that sets a quantity
+
+own-sets-nothing : (parameter : Parameter) (text : List ℕ) → set_asked (parameter_name parameter, text) ≡ None
+unfolding set_asked
+own-sets-nothing C text = refl
+own-sets-nothing Cart text = refl
+own-sets-nothing Item text = refl
+own-sets-nothing Qty text = refl
+own-sets-nothing Subject text = refl
+own-sets-nothing Kind text = refl
+own-sets-nothing Text text = refl
+own-sets-nothing User text = refl
+own-sets-nothing Pass text = refl
+own-sets-nothing FirstName text = refl
+own-sets-nothing LastName text = refl
+own-sets-nothing Street1 text = refl
+own-sets-nothing Street2 text = refl
+own-sets-nothing City text = refl
+own-sets-nothing State text = refl
+own-sets-nothing Zip text = refl
+own-sets-nothing Country text = refl
+own-sets-nothing Phone text = refl
+own-sets-nothing Email text = refl
+own-sets-nothing Card text = refl
+own-sets-nothing Number text = refl
+own-sets-nothing Name text = refl
+own-sets-nothing Expiry text = refl
+own-sets-nothing Ship text = refl
+own-sets-nothing Cost text = refl
+own-sets-nothing Image text = refl
+own-sets-nothing Thumb text = refl
+
+pub sets-nothing : (name text : List ℕ) (parameter : Parameter) → parameter_named name ≡ Some parameter → set_asked (name, text) ≡ None
+sets-nothing name text parameter is =
+    ap (λ name. set_asked (name, text)) ((bytes_eq-Decides name (parameter_name parameter)).0 (has_name name parameter is))
+    ∙ own-sets-nothing parameter text
 
 -- the value that a pair gives
 

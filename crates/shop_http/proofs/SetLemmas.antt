@@ -1,12 +1,12 @@
 -- The sets of a request, read one after another.
-use Rattle.std.proofs.Common.{◌≡◌, ℕ, ◌<◌, ◌≤◌, List, [], ◌∷◌, ◌++◌, length, Option, Some, None, refl, sym, ap, ◌∙◌, append_assoc, append-nil}
-use Rattle.std.specs.List.{filter_map}
+use Rattle.std.proofs.Common.{◌≡◌, ℕ, ◌<◌, ◌≤◌, List, [], ◌∷◌, ◌++◌, map, length, Option, Some, None, refl, sym, ap, ◌∙◌, append_assoc, append-nil}
+use Rattle.std.specs.List.{cons_option, filter_map}
 use Rattle.std.specs.Option.{option_map, option_and_then}
 use Rattle.std.proofs.lemmas.Bool.{le-leb, lt-leb}
 use Rattle.std.proofs.lemmas.Iterator.Adapters.{option_map_id}
 use Rattle.shop_model.specs.rows.Limits.{sets_limit}
-use Rattle.shop_http.specs.Forms.{Pair}
-use Rattle.shop_http.specs.Sets.{set_asked, all_of, few, sets_behind, sets_asked}
+use Rattle.shop_http.specs.Forms.{Pair, decoded_text, decoded}
+use Rattle.shop_http.specs.Sets.{set_asked, SetNothing, all_of, few, sets_behind, sets_asked}
 
 -- no pairs set nothing
 pub sets_behind-nil : (sets : List (ℕ × ℕ)) → sets_behind sets [] ≡ Some sets
@@ -34,6 +34,18 @@ pub sets_behind-one : (sets : List (ℕ × ℕ)) (pair : Pair) (set : ℕ × ℕ
     → set_asked pair ≡ Some (Some set) → sets_behind sets (pair ∷ pairs) ≡ sets_behind (sets ++ set ∷ []) pairs
 unfolding all_of
 sets_behind-one sets pair set pairs one = rw one (one_more sets set (all_of (filter_map set_asked pairs)))
+
+-- pairs that set nothing
+
+pub nothing-next : (left left' : List Pair) (name value : List ℕ) → left ≡ (name, value) ∷ left'
+    → set_asked (decoded_text name, decoded_text value) ≡ None → SetNothing (map decoded left') → SetNothing (map decoded left)
+nothing-next left left' name value is one others =
+    ap (λ pairs. filter_map set_asked (map decoded pairs)) is
+    ∙ ap (λ asked. cons_option asked (filter_map set_asked (map decoded left'))) one ∙ others
+
+pub sets_asked-nothing : (pairs : List Pair) → SetNothing pairs → sets_asked pairs ≡ Some []
+unfolding sets_asked all_of
+sets_asked-nothing pairs nothing = rw nothing refl
 
 -- the pairs of two texts
 

@@ -220,6 +220,11 @@ pairs_asked method target body =
 abbrev pub named : Result Request Parameter → Result Request Refusal
 named read = result_map_both (λ request. request) (λ parameter. refusal.Parameter parameter) read
 
+-- what is read as a form of a message with this method: a POST's body, and nothing of a GET
+abbrev pub form_of : List ℕ → List ℕ → Option (List ℕ)
+form_of method body =
+    if bytes_eq method (codes "GET") then Some [] else (if bytes_eq method (codes "POST") then Some body else None)
+
 -- what is asked for at a path: path before method, method before parameters
 abbrev pub asked_at : Option Interaction → List ℕ → List Pair → Result Request Refusal
 asked_at None method pairs = Err refusal.NoPage

@@ -1,6 +1,6 @@
 -- The quantities that a request for the shopping cart sets, each in a parameter such as `qty_46=2`;
 -- this project's own.
-use Rattle.std.specs.Prelude.{ℕ, nat_le, List, [], ◌∷◌, ◌++◌, length, take, drop, Option, Some, None, if◌then◌else◌, codes}
+use Rattle.std.specs.Prelude.{◌≡◌, ℕ, nat_le, List, [], ◌∷◌, ◌++◌, length, take, drop, Option, Some, None, if◌then◌else◌, codes}
 use Rattle.std.specs.List.{filter_map}
 use Rattle.std.specs.Option.{option_map, option_and_then}
 use Rattle.std.specs.Str.{bytes_eq}
@@ -20,6 +20,10 @@ set_of item quantity =
 unfoldable pub set_asked : List ℕ × List ℕ → Option (Option (ℕ × ℕ))
 set_asked (name, value) =
     if bytes_eq (take 4 name) (codes "qty_") then Some (set_of (drop 4 name) value) else None
+
+-- none of the pairs sets a quantity
+abbrev pub SetNothing : List (List ℕ × List ℕ) → Type 0
+SetNothing pairs = filter_map set_asked pairs ≡ []
 
 -- the values of all of these; none where one has none
 unfoldable pub all_of : {A : Type 0} → List (Option A) → Option (List A)

@@ -1,7 +1,9 @@
 ghost use Rattle.std.specs.Prelude.{◌≡◌, ◌++◌, Result};
+ghost use Rattle.std.specs.Option.{option_map};
 ghost use Rattle.shop_model.specs.declared.parameter.Parameter.{Parameter};
 ghost use Rattle.shop_model.specs.declared.requests.Request.{Request};
 ghost use Rattle.shop_http.specs.Answers.{Reads, Answers};
+ghost use Rattle.shop_http.specs.declared.requests.Asked.{Asked};
 ghost use Rattle.shop_http.specs.Forms.{pairs};
 ghost use Rattle.shop_http.specs.Requests as spec;
 
@@ -87,14 +89,25 @@ fn asked_of(alloc: Global, routes: &Routes, method: &[u8], target: &[u8], body: 
 {
     let (path, query) = path_and_query(target);
     let Some(interaction) = routes.interaction(path) else {
-        return Asked::Refuse(Refusal::NoPage);
+        return refused(Refusal::NoPage);
     };
+    let Some(form) = form_of(method, body) else {
+        return refused(Refusal::Method);
+    };
+    answer(read(alloc, interaction, query, form))
+}
+
+/// The form that is read of a message: the body of a POST, and nothing of a GET.
+#[inline(always)]
+fn form_of<'a>(method: &[u8], body: &'a [u8]) -> Option<&'a [u8]>
+    ensures { option_map (λ form. form.now) result ≡ spec.form_of method.now body.now }
+{
     if is_same(method, b"GET") {
-        answer(read(alloc, interaction, query, &[]))
+        Some(&[])
     } else if is_same(method, b"POST") {
-        answer(read(alloc, interaction, query, body))
+        Some(body)
     } else {
-        Asked::Refuse(Refusal::Method)
+        None
     }
 }
 
@@ -140,7 +153,16 @@ fn read(
     }
 }
 
+#[cold]
+#[inline(never)]
+fn refused(refusal: Refusal) -> Asked
+    ensures { result ≡ Asked.Refuse refusal }
+{
+    Asked::Refuse(refusal)
+}
+
 /// What pairs that were read answer.
+#[inline(never)]
 fn answer(asked: Result<Request, Fault>) -> Asked
     ensures { (read : Result Request Parameter) → Reads read asked → Answers (spec.named read) result }
 {

@@ -15,7 +15,7 @@ use crate::mending::mended;
 use crate::related::{bought_keys, customers_in, related};
 use crate::stops::{Stop, stopped};
 use shop_attempt::{ReadOf, Store, Write};
-use shop_browse::{Ask, Attempted, Interaction, Next, attempt_by, label_keys};
+use shop_browse::{Ask, Attempted, Interaction, ItemIds, Next, attempt_by};
 use shop_draft::Draft;
 use shop_history::{Act, Key, Row};
 use shop_model::{AdminConfirm, Item, Refusal, Request};
@@ -60,7 +60,7 @@ fn relate(
     let scale = ask.scale;
     let five = related(alloc, asked.item, scale.items, &reads[2..])?;
     *kept = Some(five);
-    Ok(Next::Read(label_keys(alloc, &five)?))
+    Ok(Next::ReadLabels(ItemIds::Five(five)))
 }
 
 /// The change of an item, whose page it writes by what was read of the labels of those that are related

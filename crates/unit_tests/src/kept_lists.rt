@@ -2,7 +2,7 @@
 ghost use Rattle.std.specs.Prelude.{◌≤◌, IfOk, OnOk};
 ghost use Rattle.shop_cache.specs.Caches.{AllTaken};
 
-use shop_cache::{Kept, ListCache, ListKey};
+use shop_cache::{Kept, ListCache, ListKey, ListLines};
 use shop_model::SearchKind;
 use shop_text::{Listed, Memory, Text};
 use std::alloc::Global;
@@ -18,10 +18,11 @@ fn keep(alloc: Global, cache: &mut ListCache, byte: u8) -> Result<(), Memory>
     requires { AllTaken 1000 cache.old }
     ensures { OnOk result (AllTaken 1000 cache.new) }
 {
+    let lines = ListLines::of(alloc, Listed::new(alloc))?;
     let kept = Kept {
         front: u64::from(byte),
         taken: 1_000,
-        lines: Listed::new(alloc),
+        lines,
     };
     cache.keep(key(alloc, byte)?, kept)?;
     Ok(())

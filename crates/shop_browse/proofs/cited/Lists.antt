@@ -22,9 +22,10 @@ use Rattle.shop_history.specs.declared.keys.Key.TheVariants as key
 use Rattle.shop_history.specs.declared.keys.Row.TheVariants as row
 use Rattle.shop_history.specs.Keys.{shown, label_of, row_of}
 use Rattle.shop_history.specs.Labels.{LabelRow}
-use Rattle.shop_cache.specs.declared.cache.ListLine.{ListLine}
+use Rattle.shop_cache.specs.declared.lines.ListLine.{ListLine}
 use Rattle.shop_cache.specs.declared.keys.ListKey.TheVariants.{New, Best, Found}
-use Rattle.shop_browse.specs.Lists.{head_of, line_in, lines_in, page_in, page_by, items_on, AreLines, AreListed}
+use Rattle.shop_cache.specs.Lines.{line_in}
+use Rattle.shop_browse.specs.Lists.{head_of, lines_in, page_in, page_by, items_on, AreLines, AreListed}
 
 label_named : (t : Tables) (label : LabelRow) (o : Option ItemRow) → shown (λ item. row.Label (label_of t item)) o ≡ row.Label label
     → unwrap_or (option_map (λ i. line_label i.title (author_of t i).first (author_of t i).last) o) [] ≡ line_label label.title label.first label.last

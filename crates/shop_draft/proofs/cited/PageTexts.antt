@@ -1,9 +1,11 @@
 -- Texts, blocks and pages by what was added in turn.
-use Rattle.std.proofs.Common.{◌≡◌, ℕ, List, ◌++◌, append_assoc, refl}
+use Rattle.std.proofs.Common.{◌≡◌, ℕ, ◌+◌, ◌<◌, List, [], ◌∷◌, ◌++◌, length, get_or, map, take, append_assoc, append-nil, refl, sym, ap, ◌∙◌}
 use Rattle.std.specs.List.{flat_map}
 use Rattle.std.proofs.lemmas.Grind.{flat_map-append}
+use Rattle.std.proofs.lemmas.List.{map_more}
 use Rattle.shop_text.specs.Escape.{escape}
 use Rattle.shop_text.proofs.cited.Plain.{escape_append}
+use Rattle.shop_model.specs.declared.page.Block.{Block}
 use Rattle.shop_model.specs.declared.page.Page.{Page}
 use Rattle.shop_model.specs.pages.PageText.{block_line, page_text}
 use Rattle.shop_draft.specs.Pages.{page_front, page_end}
@@ -34,6 +36,16 @@ six old s1 s2 s3 s4 s5 now a b c d e f p1 p2 p3 p4 p5 p6 =
 pub both : {A : Type 0} (f : A → List ℕ) (m n : List A) (old s1 now : List ℕ) → s1 ≡ old ++ flat_map f m → now ≡ s1 ++ flat_map f n
     → now ≡ old ++ flat_map f (m ++ n)
 both f m n old s1 now p1 p2 = rw (flat_map-append f m n) (two old s1 now (flat_map f m) (flat_map f n) p1 p2)
+
+-- one more, behind those of the first
+pub blocks_more : {A : Type 0} (make : A → Block) (xs : List A) (i : ℕ) (x : A) (old before after : List ℕ) → i < length xs → x ≡ get_or xs i x
+    → before ≡ old ++ flat_map block_line (map make (take i xs)) → after ≡ before ++ block_line (make x) → after ≡ old ++ flat_map block_line (map make (take (i + 1) xs))
+blocks_more {A} make xs i x old before after within at so_far added =
+    let first : List Block = map make (take i xs) in
+    let more : map make (take (i + 1) xs) ≡ first ++ make x ∷ []
+    = map_more make xs i x within ∙ ap (λ (y : A). first ++ make y ∷ []) (sym at) in
+    both block_line first (make x ∷ []) old before after so_far (added ∙ ap (λ (l : List ℕ). before ++ l) (sym (append-nil (block_line (make x)))))
+    ∙ ap (λ (blocks : List Block). old ++ flat_map block_line blocks) (sym more)
 
 -- a page is written when its blocks are between what stands around them
 pub written : (page : Page) (begun listed now : List ℕ) → begun ≡ page_front page.title → listed ≡ begun ++ flat_map block_line page.blocks

@@ -24,8 +24,19 @@ pub(crate) fn shopping_cart(alloc: Global, pairs: &Pairs) -> Result<Request, Fau
     Ok(Request::CartRequest(CartRequest { item, sets, ids }))
 }
 
-/// The quantities that are set, where each is in its form and there are few enough.
+/// The quantities that are set, where each is in its form and there are few enough. Most messages set none.
+#[inline(always)]
 fn sets_asked(alloc: Global, pairs: &Pairs) -> Result<Listed<(u32, u32)>, Fault>
+    ensures { Reads (ok_or (sets.sets_asked pairs.now) Parameter.Qty) result }
+{
+    if !pairs.has_others() {
+        return Ok(Listed::new(alloc));
+    }
+    sets_among(alloc, pairs)
+}
+
+/// The quantities that are set among pairs, of which each is looked at.
+fn sets_among(alloc: Global, pairs: &Pairs) -> Result<Listed<(u32, u32)>, Fault>
     ensures { Reads (ok_or (sets.sets_asked pairs.now) Parameter.Qty) result }
 {
     let (query, form) = pairs.texts();

@@ -34,7 +34,5 @@ fn decoded_anew(alloc: Global, encoded: &[u8]) -> Result<CowSlice<'_, u8>, Memor
 fn is_plain(bytes: &[u8]) -> bool
     ensures { result ≡ list_all spec.is_plain bytes.now }
 {
-    bytes
-        .iter()
-        .all(|&byte| byte < 128 && byte != b'%' && byte != b'+')
+    bytes.iter().all(|&byte| matches!(byte, b','..=127) || (byte < b'+' && byte != b'%'))
 }

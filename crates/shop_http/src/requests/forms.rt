@@ -53,16 +53,43 @@ pub(crate) fn optional_number(
 }
 
 /// The number of an encoded value. Digits need no decoding.
+#[inline(always)]
 fn number_in(alloc: Global, encoded: &[u8], parameter: Parameter) -> Result<u32, Fault>
     ensures { Reads (ok_or (numbers.number_of (spec.decoded_text encoded.now)) parameter) result }
 {
-    if let Some(number) = number_of(encoded) {
+    if let Some(number) = short_number(encoded) {
         return Ok(number);
     }
+    number_decoded(alloc, encoded, parameter)
+}
+
+#[cold]
+#[inline(never)]
+fn number_decoded(alloc: Global, encoded: &[u8], parameter: Parameter) -> Result<u32, Fault>
+    ensures { Reads (ok_or (numbers.number_of (spec.decoded_text encoded.now)) parameter) result }
+{
     match number_of(decoded(alloc, encoded)?.as_slice()) {
         Some(number) => Ok(number),
         None => Err(Fault::Parameter(parameter)),
     }
+}
+
+/// A number of at most 9 digits, in one pass.
+#[inline(always)]
+fn short_number(digits: &[u8]) -> Option<u32>
+    ensures { IfSome result (λ number. numbers.number_of digits.now ≡ Some number) }
+{
+    if digits.is_empty() || digits.len() > 9 {
+        return None;
+    }
+    let mut number = 0;
+    for digit in digits {
+        if !digit.is_ascii_digit() {
+            return None;
+        }
+        number = number * 10 + u32::from(*digit - b'0');
+    }
+    Some(number)
 }
 
 /// The subject that is named.

@@ -1,6 +1,7 @@
-ghost use Rattle.std.specs.Prelude.{◌≡◌, ◌++◌};
+ghost use Rattle.std.specs.Prelude.{◌≡◌, ◌++◌, false};
 ghost use Rattle.shop_http.specs.Firsts.{firsts_of, kept};
 ghost use Rattle.shop_http.specs.Forms as spec;
+ghost use Rattle.shop_http.specs.Sets.{SetNothing};
 ghost use Rattle.shop_http.specs.ValuesView.{firsts_kept};
 
 use super::values::Values;
@@ -16,7 +17,8 @@ pub(crate) struct Pairs<'v, 'a> {
 }
 
 impl<'v, 'a> Model for Pairs<'v, 'a> {
-    ghost use Rattle.std.specs.Prelude.{List, ◌≡◌};
+    ghost use Rattle.std.specs.Prelude.{List, ◌≡◌, false};
+    ghost use Rattle.shop_http.specs.Sets.{SetNothing};
     ghost use Rattle.shop_http.specs.Forms.{Pair};
     ghost use Rattle.shop_http.specs.Firsts.{firsts_of};
     ghost use Rattle.shop_http.specs.PairsView.{pairs_of};
@@ -26,14 +28,15 @@ impl<'v, 'a> Model for Pairs<'v, 'a> {
 
     ghost view = { pairs_of };
 
-    ghost invariant = { λ p. firsts_kept p.values.now ≡ firsts_of (pairs_of p) };
+    ghost invariant = { λ p. (firsts_kept p.values.now ≡ firsts_of (pairs_of p)) × (p.values.now.has_others ≡ false → SetNothing (pairs_of p)) };
 }
 
 impl<'v, 'a> Pairs<'v, 'a> {
     /// The pairs of a query and of a form, whose values these are.
     #[inline(always)]
     pub(crate) fn of(query: &'a [u8], form: &'a [u8], values: &'v Values<'a>) -> Pairs<'v, 'a>
-        requires { firsts_kept values.now ≡ firsts_of (spec.pairs query.now ++ spec.pairs form.now) }
+        requires values { firsts_kept values.now ≡ firsts_of (spec.pairs query.now ++ spec.pairs form.now) }
+        requires others { values.now.has_others ≡ false → SetNothing (spec.pairs query.now ++ spec.pairs form.now) }
         ensures { result ≡ spec.pairs query.now ++ spec.pairs form.now }
     {
         Pairs {
@@ -41,6 +44,14 @@ impl<'v, 'a> Pairs<'v, 'a> {
             form,
             values,
         }
+    }
+
+    /// Whether a pair has the name of no parameter, as those have that set quantities.
+    #[inline(always)]
+    pub(crate) fn has_others(&self) -> bool
+        ensures { result ≡ false → SetNothing self.now }
+    {
+        self.values.has_others()
     }
 
     /// The encoded texts whose pairs these are.

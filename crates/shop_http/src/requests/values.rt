@@ -1,7 +1,8 @@
-ghost use Rattle.std.specs.Prelude.{◌≡◌, IfOk, OnOk, [], ◌∷◌, length};
+ghost use Rattle.std.specs.Prelude.{◌≡◌, IfOk, OnOk, None, [], ◌∷◌, false, length};
 ghost use Rattle.shop_http.specs.Forms as forms;
 ghost use Rattle.shop_http.specs.Firsts as spec;
 ghost use Rattle.shop_http.specs.Names as names;
+ghost use Rattle.shop_http.specs.Sets.{set_asked, SetNothing};
 ghost use Rattle.shop_http.specs.declared.requests.names.TheConstants.{PARAMETERS};
 
 use super::decoding::decoded;
@@ -27,6 +28,8 @@ fn parameter_in(alloc: Global, encoded: &[u8]) -> Result<Option<Parameter>, Memo
 pub(crate) struct Values<'a> {
     /// At the place of each parameter.
     kept: [Option<&'a [u8]>; PARAMETERS],
+    /// Whether a pair has the name of none of them.
+    has_others: bool,
     ghost place_for_each: { length kept ≡ PARAMETERS },
 }
 
@@ -34,17 +37,20 @@ impl<'a> Values<'a> {
     ghost use Rattle.shop_http.specs.ValuesView.{firsts_kept};
 
     pub(crate) fn none() -> Values<'a>
-        ensures { firsts_kept result ≡ spec.firsts_of [] }
+        ensures values { firsts_kept result ≡ spec.firsts_of [] }
+        ensures others { result.has_others ≡ false }
     {
         Values {
             kept: [None; PARAMETERS],
+            has_others: false,
         }
     }
 
     /// Reads the pairs of an encoded text behind those that were read. Most messages have no form.
     #[inline(always)]
     pub(crate) fn read(&mut self, alloc: Global, encoded: &'a [u8]) -> Result<(), Memory>
-        ensures { OnOk result (firsts_kept self.new ≡ spec.behind (firsts_kept self.old) (forms.pairs encoded.now)) }
+        ensures values { OnOk result (firsts_kept self.new ≡ spec.behind (firsts_kept self.old) (forms.pairs encoded.now)) }
+        ensures others { OnOk result (self.new.has_others ≡ false → (self.old.has_others ≡ false) × SetNothing (forms.pairs encoded.now)) }
     {
         if encoded.is_empty() {
             return Ok(());
@@ -54,7 +60,8 @@ impl<'a> Values<'a> {
 
     /// Reads the pairs of an encoded text, one after another.
     fn read_pairs(&mut self, alloc: Global, encoded: &'a [u8]) -> Result<(), Memory>
-        ensures { OnOk result (firsts_kept self.new ≡ spec.behind (firsts_kept self.old) (forms.pairs encoded.now)) }
+        ensures values { OnOk result (firsts_kept self.new ≡ spec.behind (firsts_kept self.old) (forms.pairs encoded.now)) }
+        ensures others { OnOk result (self.new.has_others ≡ false → (self.old.has_others ≡ false) × SetNothing (forms.pairs encoded.now)) }
     {
         for (name, value) in raw_pairs(encoded) {
             self.add(alloc, name, value)?;
@@ -64,14 +71,26 @@ impl<'a> Values<'a> {
 
     /// Reads a pair of an encoded name and an encoded value.
     fn add(&mut self, alloc: Global, name: &[u8], value: &'a [u8]) -> Result<(), Memory>
-        ensures { OnOk result (firsts_kept self.new ≡ spec.behind (firsts_kept self.old) ((forms.decoded_text name.now, forms.decoded_text value.now) ∷ [])) }
+        ensures values { OnOk result (firsts_kept self.new ≡ spec.behind (firsts_kept self.old) ((forms.decoded_text name.now, forms.decoded_text value.now) ∷ [])) }
+        ensures others { OnOk result (self.new.has_others ≡ false → (self.old.has_others ≡ false) × (set_asked (forms.decoded_text name.now, forms.decoded_text value.now) ≡ None)) }
     {
-        if let Some(parameter) = parameter_in(alloc, name)? {
-            if self.of(parameter).is_none() {
-                self.kept[place_of(parameter)] = Some(value);
+        match parameter_in(alloc, name)? {
+            Some(parameter) => {
+                if self.of(parameter).is_none() {
+                    self.kept[place_of(parameter)] = Some(value);
+                }
             }
+            None => self.has_others = true,
         }
         Ok(())
+    }
+
+    /// Whether a pair has the name of no parameter.
+    #[inline(always)]
+    pub(crate) fn has_others(&self) -> bool
+        ensures { result ≡ self.now.has_others }
+    {
+        self.has_others
     }
 
     /// The encoded value of a parameter.

@@ -1,6 +1,6 @@
 use Rattle.shop_draft.specs.Drawing.{ids_at}
 use Rattle.shop_browse.specs.Labels.{promoted_in}
-use Rattle.shop_browse.proofs.LabelsLemmas.{blocks_more}
+use Rattle.shop_draft.proofs.cited.PageTexts.{blocks_more}
 use Rattle.shop_browse.proofs.labels.promotion.Goals as goal
 
 pub loop-read-preserved : goal.loop-read-preserved

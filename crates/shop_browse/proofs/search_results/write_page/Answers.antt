@@ -1,8 +1,7 @@
-use Rattle.std.proofs.Common.{◌≡◌, codes, refl, ◌∙◌, ap, subst}
+use Rattle.std.proofs.Common.{◌≡◌, codes, refl, ap, subst}
+use Rattle.shop_model.specs.asked.SearchAsked.{SearchAsked}
 use Rattle.shop_model.specs.declared.requests.IdsAsked.{IdsAsked}
 use Rattle.shop_model.specs.pages.PageText.{page_text}
-use Rattle.shop_model.specs.asked.SearchAsked.{SearchAsked}
-use Rattle.shop_draft.specs.Drawing.{ids_at}
 use Rattle.shop_draft.specs.Templates.{filled}
 use Rattle.shop_browse.specs.Lists.{page_in, head_of}
 use Rattle.shop_browse.proofs.ListsLemmas.{list_written}
@@ -14,7 +13,6 @@ returns c drawn =
     let title = codes "Search Results" in
     record {
       status = refl;
-      text = subst (λ (ids : IdsAsked). filled drawn c.finish.new.page ≡ page_text (page_in ids title (head_of asked) c.args.lines.now)) (c.of.ensures drawn ∙ ap (λ (a : SearchAsked). a.ids) c.asked.view_is)
-          (list_written (ids_at drawn c.of.result) title (head_of asked) c.args.lines.now _ _ _
-          (c.in_ok-begin.ensures drawn) (c.in_ok-heading.ensures drawn) (c.in_ok-finish.ensures drawn));
+      text = subst (λ (ids : IdsAsked). filled drawn c.finish.new.page ≡ page_text (page_in ids title (head_of asked) c.args.lines.now)) (ap (λ (a : SearchAsked). a.ids) c.asked.view_is)
+          (list_written _ title (head_of asked) c.args.lines.now _ _ _ (c.in_ok-begin.ensures drawn) (c.in_ok-heading.ensures drawn) (c.in_ok-finish.ensures drawn));
     }

@@ -1,4 +1,4 @@
-use Rattle.std.proofs.Common.{◌==◌, refl, ◌∙◌}
+use Rattle.std.proofs.Common.{◌==◌, refl}
 use Rattle.std.specs.List.{before_first}
 use Rattle.shop_model.specs.pages.Targets.{targets_of}
 use Rattle.shop_browsers.proofs.ReplyLinks.{shown_links}
@@ -13,14 +13,14 @@ returns-then-names_no_more c = λ p shows.
     let after = c.in-Some.after.now in
     nothing_more c.with_target-ids.result p after
     (link_taken c.loop-after.ids c.with_target-ids.result p c.loop-after.rest.now after (before_first (λ b. b == 34) after)
-    (c.loop-after.invariant p shows) c.in-Some.ensures.links (λ t is. c.with_target-ids.ensures t (c.before_quote.ensures ∙ is)))
+    (c.loop-after.invariant p shows) c.in-Some.ensures.links c.with_target-ids.ensures)
     (c.names_no_more.ensures c.if-names_no_more.true)
 
 pub loop-after-preserved : goal.loop-after-preserved
 loop-after-preserved c = λ p shows.
     let after = c.in-Some.after.now in
     link_taken c.loop-after.ids c.with_target-ids.result p c.loop-after.rest.now after (before_first (λ b. b == 34) after)
-    (c.loop-after.invariant p shows) c.in-Some.ensures.links (λ t is. c.with_target-ids.ensures t (c.before_quote.ensures ∙ is))
+    (c.loop-after.invariant p shows) c.in-Some.ensures.links c.with_target-ids.ensures
 
 pub returns : goal.returns
 returns c = λ p shows. nothing_left c.loop-after.ids p c.loop-after.rest.now (c.loop-after.invariant p shows) c.in_default.ensures.links

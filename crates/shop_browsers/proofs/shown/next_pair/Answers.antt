@@ -1,30 +1,27 @@
 use Rattle.std.proofs.Common.{◌≡◌, Some, ap, sym, ◌∙◌, arith}
 use Rattle.std.proofs.lemmas.Bool.{ne_eqb}
 use Rattle.shop_text.specs.Escape.{first_read}
-use Rattle.shop_browsers.proofs.Reading.{seen_none, seen_more, seen_passed, passed_length, next_found, next_none}
+use Rattle.shop_browsers.proofs.Reading.{left_more, next_found, next_none, next_unread}
 use Rattle.shop_browsers.proofs.shown.next_pair.Goals as goal
 
-pub returns-then-byte-eq38-clause-pair : goal.returns-then-byte-eq38-clause-pair
-returns-then-byte-eq38-clause-pair c = λ text is.
+pub returns-in_default-clause-next : goal.returns-in_default-clause-next
+returns-in_default-clause-next c = λ t tail left.
+    next_unread t tail c.loop-rest.rest.now (c.loop-rest.invariant.left t tail left) (sym c.target_ends.ensures ∙ c.loop-rest-test.true) (sym c.in_default.ensures.value)
+
+pub returns-then-byte-eq38-clause-next : goal.returns-then-byte-eq38-clause-next
+returns-then-byte-eq38-clause-next c = λ t tail left.
     let after = c.in-Some.after.now in
-    let read : first_read c.loop-byte.rest.now ≡ Some (38, after) = sym c.in-Some.ensures.value ∙ ap (λ b. Some (b, after)) c.if-byte-eq38.true in
-    next_found text c.args.bytes.now c.loop-byte.rest.now after (c.loop-byte.invariant.seen text is) read
+    let read : first_read c.loop-rest.rest.now ≡ Some (38, after) = sym c.in-Some.ensures.value ∙ ap (λ b. Some (b, after)) c.if-byte-eq38.true in
+    next_found t tail c.loop-rest.rest.now after (c.loop-rest.invariant.left t tail left) read (sym c.target_ends.ensures ∙ c.loop-rest-test.true)
 
-pub loop-byte-init : goal.loop-byte-init
-loop-byte-init c = record {
-  seen = λ text is. seen_passed text c.args.bytes.now c.args.bytes.now c.from_sign-rest.result.now c.from_sign-rest.ensures (seen_none text c.args.bytes.now is);
-  size = passed_length _ _ c.from_sign-rest.ensures;
+pub loop-rest-preserved : goal.loop-rest-preserved
+loop-rest-preserved c = record {
+  left = λ t tail left.
+      left_more t tail c.loop-rest.rest.now c.in-Some.after.now c.in-Some.byte (c.loop-rest.invariant.left t tail left) (sym c.in-Some.ensures.value)
+      (sym c.target_ends.ensures ∙ c.loop-rest-test.true) (ne_eqb c.in-Some.byte 38 c.if-byte-eq38.false);
+  size = omega (arith, c.in-Some.ensures.shorter, c.loop-rest.invariant.size);
 }
 
-pub loop-byte-preserved : goal.loop-byte-preserved
-loop-byte-preserved c = record {
-  seen = λ text is.
-      seen_passed text c.args.bytes.now c.in-Some.after.now _ c.from_sign-rest-in-Some.ensures
-      (seen_more text c.args.bytes.now c.loop-byte.rest.now c.in-Some.after.now c.in-Some.byte (c.loop-byte.invariant.seen text is)
-      (sym c.in-Some.ensures.value) (ne_eqb c.in-Some.byte 38 c.if-byte-eq38.false));
-  size = omega (arith, passed_length _ _ c.from_sign-rest-in-Some.ensures, c.in-Some.ensures.shorter, c.loop-byte.invariant.size);
-}
-
-pub returns-clause-pair : goal.returns-clause-pair
-returns-clause-pair c = λ text is.
-    next_none text c.args.bytes.now c.loop-byte.rest.now (c.loop-byte.invariant.seen text is) (sym c.in_default.ensures.value)
+pub returns-clause-next : goal.returns-clause-next
+returns-clause-next c = λ t tail left.
+    next_none t tail c.loop-rest.rest.now (c.loop-rest.invariant.left t tail left) (sym c.target_ends.ensures ∙ c.loop-rest-test.false)

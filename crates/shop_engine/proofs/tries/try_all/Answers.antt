@@ -2,7 +2,7 @@ use Rattle.std.proofs.Common.{rules, refl, sym, ◌∙◌, subst, arith, IsSome,
 use Rattle.shop_attempt.proofs.cited.Marks.{keeps_self}
 use Rattle.shop_engine.specs.declared.tries.Outcome.{Outcome}
 use Rattle.shop_engine.specs.Failures.{RoseBy, failures_as}
-use Rattle.shop_cache.specs.declared.cache.ListLine.{ListLine}
+use Rattle.shop_cache.specs.declared.lines.ListLine.{ListLine}
 use Rattle.shop_engine.specs.Tries.{IsOutcome, LeavesMarkOf}
 use Rattle.shop_engine.proofs.Conflicts.{met_more, none_met}
 use Rattle.shop_engine.proofs.Outcomes.{behind_conflict, behind_denial, busy_is, denial_decides, denial_kept, failed_is, in_a_try, listed_is, settled_counts, settled_is}

@@ -32,4 +32,4 @@ returns c draft =
     ∙ ap (λ (l : List ReadOf). five_of (lists_in l) c.asked.inside.item c.scale.inside.items) (at_more asked.item reads has.second.first)
     ∙ ap (λ n. five_of (lists_in has.second.first.more) n c.scale.inside.items) item
     ∙ ap (λ n. five_of (lists_in has.second.first.more) asked.item n) items in
-    asks_labels asked _ ask reads five c.in_ok-label_keys.field-0 c.requires.whole has c.requires.seen refl is c.in_ok-label_keys.ensures
+    asks_labels asked _ ask reads five _ c.requires.whole has c.requires.seen refl is refl

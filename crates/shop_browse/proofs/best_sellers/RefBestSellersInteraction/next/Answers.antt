@@ -1,10 +1,8 @@
-use Rattle.std.proofs.Common.{List, refl, subst}
+use Rattle.std.proofs.Common.{refl, subst}
 use Rattle.shop_model.specs.declared.requests.Request.TheVariants.{BestSellers}
 use Rattle.shop_model.specs.declared.tables.Tables.{Tables}
 use Rattle.shop_history.specs.declared.keys.Key.TheVariants.{BestIn}
-use Rattle.shop_cache.specs.declared.cache.ListLine.{ListLine}
 use Rattle.shop_cache.specs.declared.keys.ListKey.TheVariants.{Best}
-use Rattle.shop_draft.specs.Pages.{Shows}
 use Rattle.shop_browse.specs.Labels.{AsksLabels}
 use Rattle.shop_browse.specs.Driver.{Fits}
 use Rattle.shop_browse.specs.Lines.{AreLinesRead}
@@ -29,7 +27,7 @@ returns-in_ok-write_page-in-Some-2-clause-next c =
     let have = subst (AsksLabels (BestIn asked.subject) ask c.args.round reads) c.in-None.is c.in_ok-next.ensures in
     let read = subst (AreLinesRead _) c.in-Some-2.is c.in_ok-lines-in-None.ensures in
     let listed : (t : Tables) → Fits ask.index.now t reads → AreListed t (BestSellers asked) lines = λ t fits. record { key = Best asked.subject; asked = refl; are = key_lines ask.index.now t (BestIn asked.subject) reads have fits lines read } in
-    let written = subst (λ (l : List ListLine). Shows c.write_page.new.draft (λ drawn. best_page asked l)) c.as_slice.ensures c.in_ok-write_page-in-Some-2.ensures in
+    let written = c.in_ok-write_page-in-Some-2.ensures in
     (listed, λ t fits. shows_page t (BestSellers asked) ask.draw _ (best_page asked lines) (listed_shown t (BestSellers asked) ask.draw lines (listed t fits)) written)
 
 pub returns-in-None-2-clause-next : goal.returns-in-None-2-clause-next

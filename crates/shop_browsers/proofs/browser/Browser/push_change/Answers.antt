@@ -16,4 +16,4 @@ returns c =
     let images : List Field = text_field (codes "image") (codes "/img/new.gif") ∷ text_field (codes "thumb") (codes "/img/newthumb.gif") ∷ [] in
     let pictures = added _ _ (codes "&image=/img/new.gif&thumb=/img/newthumb.gif") (codes "&") images c.in_ok-push.ensures.ok (λ more. refl) in
     let all = adds_both _ _ _ _ _ _ _ _ (adds_both _ _ _ _ _ _ _ _ c.in_ok-push_item.ensures costs) pictures in
-    on_ok_weaker c.push_ids.result (λ last. adds_last _ _ _ _ _ _ _ all last) c.push_ids.ensures
+    on_ok_weaker c.push_more_ids.result (λ last. adds_last _ _ _ _ _ _ _ all last) c.push_more_ids.ensures

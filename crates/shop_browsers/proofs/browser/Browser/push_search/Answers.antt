@@ -17,4 +17,4 @@ returns c =
     let second = rw (c.text_drawn.ensures, c.kind_drawn-kind.ensures) at c.in_ok-push_field-2.ensures in
     let kinds = added _ _ (codes "?kind=" ++ kind) (codes "?") (text_field (codes "kind") kind ∷ []) first (λ more. refl) in
     let texts = added _ _ (codes "&text=" ++ text) (codes "&") (text_field (codes "text") text ∷ []) second (λ more. refl) in
-    on_ok_weaker c.push_ids.result (λ last. adds_last _ _ _ _ _ _ _ (adds_both _ _ _ _ _ _ _ _ kinds texts) last) c.push_ids.ensures
+    on_ok_weaker c.push_more_ids.result (λ last. adds_last _ _ _ _ _ _ _ (adds_both _ _ _ _ _ _ _ _ kinds texts) last) c.push_more_ids.ensures

@@ -11,6 +11,6 @@ unfolding pairs
 returns c =
     let subject = spec.subject_drawn c.args.self.now in
     let given = rw c.subject_drawn.ensures at c.in_ok-push_field.ensures in
-    on_ok_weaker c.push_ids.result
+    on_ok_weaker c.push_more_ids.result
     (λ last. adds_last _ _ _ _ _ _ _ (added _ _ (codes "?subject=" ++ subject) (codes "?") (text_field (codes "subject") subject ∷ []) given (λ more. refl)) last)
-    c.push_ids.ensures
+    c.push_more_ids.ensures

@@ -1,6 +1,5 @@
-use Rattle.std.proofs.Common.{refl, sym, ◌∙◌, ap, subst}
+use Rattle.std.proofs.Common.{refl, sym, ◌∙◌, subst}
 use Rattle.shop_cache.proofs.cited.Caches.{all_looked}
-use Rattle.shop_browse.specs.Lists.{page_by}
 use Rattle.shop_pages.specs.Replies.{bytes_of}
 use Rattle.shop_engine.specs.Keeping.{IsFoundList}
 use Rattle.shop_engine.specs.Lists.{AreKept, IsKept}
@@ -45,4 +44,4 @@ returns-clause-found g c =
     subst (λ (w : WorkerState g.row.St.Denot). IsFoundList (g.St.Store.seat w.store) (g.St.Store.marked w.store) c.args.request.now c.args.form kept.front w.progress.last bytes w.kept) c.self.view_is
     (found_list (g.St.Store.seat c.self.inside.store) (g.St.Store.marked c.self.inside.store) c.args.request.now c.args.form kept.front c.self.inside.last bytes c.self.inside.cache c.in-Some.key kept
     (sym c.in_ok-key.ensures ∙ c.in-Some.is) c.self.invariant.2 (sym c.in-Some-look.ensures.value) refl
-    (λ page is. c.in_ok-list_reply.ensures page (ap (page_by c.args.request.now) c.as_slice.ensures ∙ is)))
+    c.in_ok-list_reply.ensures)

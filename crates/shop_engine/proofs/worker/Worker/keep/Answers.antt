@@ -1,5 +1,5 @@
 use Rattle.std.proofs.Common.{List, Option, Some, sym, ◌∙◌, subst}
-use Rattle.shop_cache.specs.declared.cache.ListLine.{ListLine}
+use Rattle.shop_cache.specs.declared.lines.ListLine.{ListLine}
 use Rattle.shop_cache.specs.declared.keys.ListKey.{ListKey}
 use Rattle.shop_cache.specs.Keys.{key_asked}
 use Rattle.shop_cache.proofs.cited.Caches.{all_with_kept}

@@ -1,0 +1,104 @@
+//! Links to the pages of items, which are written once for many pages.
+ghost use Rattle.std.specs.Prelude.{◌≡◌, ◌≤◌, ◌++◌, [], length, codes, OnOk};
+ghost use Rattle.shop_text.specs.Texts.{escape};
+ghost use Rattle.shop_model.specs.declared.requests.IdsAsked.{IdsAsked};
+ghost use Rattle.shop_model.specs.pages.Lists.{line_label};
+ghost use Rattle.shop_model.specs.pages.PageText.{block_line};
+ghost use Rattle.shop_model.specs.pages.Targets.{item_link};
+ghost use Rattle.shop_draft.specs.Links.{AreWithin, gaps_sum, links_with};
+
+use shop_text::{Caption, Memory, Text};
+use std::alloc::Global;
+use std::marker::Model;
+
+/// Links to the pages of items, but for the ids that they hand on.
+#[derive(Debug, Drop)]
+pub struct ItemLinks {
+    text: Text,
+    /// How many bytes stand before the first place of the ids, and from each place to the next.
+    gaps: Vec<usize>,
+    /// The bytes before the last place.
+    front: usize,
+}
+
+impl Model for ItemLinks {
+    ghost use Rattle.shop_draft.specs.Links.{LinkTexts, AreWithin};
+
+    ghost Value = { LinkTexts };
+
+    ghost view = { λ l. record { text = l.text; gaps = l.gaps.items } };
+
+    ghost invariant = { λ l. AreWithin l.text l.gaps.items l.front };
+}
+
+/// Adds what stands in a link behind the ids.
+#[tactic(auto, using(shop_text::proofs::cited::Plain::escape_append), unfolding(shop_model::specs::pages::Lists::line_label))]
+fn push_label(
+    text: &mut Text,
+    title: &Caption,
+    first: &Caption,
+    last: &Caption,
+) -> Result<(), Memory>
+    ensures text { OnOk result (text.new ≡ text.old ++ (codes "\">" ++ escape (line_label title.now first.now last.now) ++ codes "</a>\n")) }
+    ensures longer { length text.old ≤ length text.new }
+{
+    text.push(b"\">")?;
+    text.push_caption(title)?;
+    text.push(b" by ")?;
+    text.push_caption(first)?;
+    text.push(b" ")?;
+    text.push_caption(last)?;
+    text.push(b"</a>\n")?;
+    Ok(())
+}
+
+impl ItemLinks {
+    /// No links; takes no memory.
+    pub fn new(alloc: Global) -> ItemLinks
+        ensures { (ids : IdsAsked) → links_with ids result ≡ [] }
+    {
+        ItemLinks {
+            text: Text::new(alloc),
+            gaps: Vec::new(alloc),
+            front: 0,
+        }
+    }
+
+    /// Adds the link to the page of an item, labelled with its title and the names of its author. Where memory runs
+    /// out nothing is said of the links.
+    pub fn push(
+        &mut self,
+        item: u32,
+        title: &Caption,
+        first: &Caption,
+        last: &Caption,
+    ) -> Result<(), Memory>
+        ensures { OnOk result ((ids : IdsAsked) → links_with ids self.new
+            ≡ links_with ids self.old ++ block_line (item_link (codes "/product_detail") item ids (line_label title.now first.now last.now))) }
+    {
+        self.text.push(b"<a href=\"/product_detail?item=")?;
+        self.text.push_decimal(u64::from(item))?;
+        let end = self.text.len();
+        push_label(&mut self.text, title, first, last)?;
+        self.gaps.push(end - self.front)?;
+        self.front = end;
+        Ok(())
+    }
+
+    /// The text without ids.
+    #[inline(always)]
+    pub(crate) fn text(&self) -> &[u8]
+        ensures text { result.now ≡ self.now.text }
+        ensures within { AreWithin result.now self.now.gaps (gaps_sum self.now.gaps) }
+    {
+        self.text.bytes()
+    }
+
+    /// How many bytes of it stand before the first place of the ids, and from each to the next.
+    #[inline(always)]
+    pub(crate) fn gaps(&self) -> &[usize]
+        ensures { result.now ≡ self.now.gaps }
+    {
+        &self.gaps
+    }
+}
