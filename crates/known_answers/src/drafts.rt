@@ -103,7 +103,7 @@ fn put_links(
 
 fn print_links(rt: &(impl Print + AllocGlobal), page: &mut Template) -> Result<(), Stop> {
     let caption = Caption::copy(rt.alloc(), b"a<b")?;
-    let mut links = ItemLinks::new(rt.alloc());
+    let mut links = ItemLinks::with_capacity(rt.alloc(), 1)?;
     links.push(9, &caption, &caption, &caption)?;
     let mut asked = IdsAsked {
         c: None,

@@ -41,7 +41,7 @@ impl Model for ListLines {
 fn links_of(alloc: Global, lines: &[ListLine]) -> Result<ItemLinks, Memory>
     ensures { IfOk result (spec.AreLinksOf lines.now) }
 {
-    let mut links = ItemLinks::new(alloc);
+    let mut links = ItemLinks::with_capacity(alloc, lines.len())?;
     for line in lines {
         let label = &line.label;
         links.push(line.item, label.title(), label.first(), label.last())?;

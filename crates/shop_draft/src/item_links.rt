@@ -1,5 +1,5 @@
 //! Links to the pages of items, which are written once for many pages.
-ghost use Rattle.std.specs.Prelude.{◌≡◌, ◌≤◌, ◌++◌, [], length, codes, OnOk};
+ghost use Rattle.std.specs.Prelude.{◌≡◌, ◌≤◌, ◌++◌, [], length, codes, IfOk, OnOk};
 ghost use Rattle.shop_text.specs.Texts.{escape};
 ghost use Rattle.shop_model.specs.declared.requests.IdsAsked.{IdsAsked};
 ghost use Rattle.shop_model.specs.pages.Lists.{line_label};
@@ -10,6 +10,9 @@ ghost use Rattle.shop_draft.specs.Links.{AreWithin, gaps_sum, links_with};
 use shop_text::{Caption, Memory, Text};
 use std::alloc::Global;
 use std::marker::Model;
+
+/// The bytes of a link without ids, or some more: few are longer.
+const LENGTH: usize = 96;
 
 /// Links to the pages of items, but for the ids that they hand on.
 #[derive(Debug, Drop)]
@@ -53,15 +56,15 @@ fn push_label(
 }
 
 impl ItemLinks {
-    /// No links; takes no memory.
-    pub fn new(alloc: Global) -> ItemLinks
-        ensures { (ids : IdsAsked) → links_with ids result ≡ [] }
+    /// No links, with room for so many of nearly every length.
+    pub fn with_capacity(alloc: Global, links: usize) -> Result<ItemLinks, Memory>
+        ensures { IfOk result (λ none. (ids : IdsAsked) → links_with ids none ≡ []) }
     {
-        ItemLinks {
-            text: Text::new(alloc),
-            gaps: Vec::new(alloc),
+        Ok(ItemLinks {
+            text: Text::with_capacity(alloc, links.saturating_mul(LENGTH))?,
+            gaps: Vec::with_capacity(alloc, links)?,
             front: 0,
-        }
+        })
     }
 
     /// Adds the link to the page of an item, labelled with its title and the names of its author. Where memory runs
