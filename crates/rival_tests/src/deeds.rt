@@ -12,7 +12,9 @@ use shop_browse::{Ask, Attempted};
 use shop_draft::Draft;
 use shop_gateway::Emulator;
 use shop_history::{Act, Ids, Key};
-use shop_model::{AdminConfirm, BuyConfirm, Card, CardType, CartRequest, IdsAsked, ShipType};
+use shop_model::{
+    AdminConfirm, BuyConfirm, Card, CardNumber, CardType, CartRequest, IdsAsked, Month, ShipType,
+};
 use shop_order::admin_confirm::admin_confirm;
 use shop_order::buy_confirm::{Paid, buy_confirm, pay};
 use shop_order::shopping_cart::shopping_cart;
@@ -238,9 +240,9 @@ fn repricing<St: Store>(
 fn card(alloc: Global) -> Result<Card, Memory> {
     Ok(Card {
         card: CardType::Visa,
-        number: Text::copy(alloc, b"4111222233334444")?,
+        number: CardNumber::of_number(4_111_222_233_334_444),
         name: Text::copy(alloc, b"G")?,
-        expiry: Text::copy(alloc, b"2027-05")?,
+        expiry: Month::new(*b"2027-05"),
     })
 }
 

@@ -44,9 +44,10 @@ fn answers_of(alloc: Global, gateway: &Emulator) -> Result<Vec<Answer>, Memory> 
     let mut answers = Vec::new(alloc);
     for entry in gateway.ledger() {
         let entry = entry.get();
-        let charge = entry.charge.copy(alloc)?;
-        let verdict = entry.verdict;
-        answers.push(Answer { charge, verdict })?;
+        answers.push(Answer {
+            charge: entry.charge.copy(),
+            verdict: entry.verdict,
+        })?;
     }
     Ok(answers)
 }

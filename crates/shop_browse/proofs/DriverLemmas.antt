@@ -1,7 +1,7 @@
 -- What the driver has read, round by round, and the attempt that it makes of a decision.
-use Rattle.std.proofs.Common.{◌≡◌, ℕ, suc, List, [], ◌∷◌, ◌++◌, ◌+◌, ◌≤◌, ◌<◌, length, map, drop, get_or, All, Some, None, refl, sym, ◌∙◌, ap, subst, arith}
-use Rattle.std.proofs.lemmas.List.{append_assoc, append-nil, drop_more, map-append}
-use Rattle.std.proofs.lemmas.List.Elements.{All-nil, All-append, All-head, All-tail}
+use Rattle.std.proofs.Common.{◌≡◌, ℕ, suc, List, [], ◌∷◌, ◌++◌, ◌+◌, ◌≤◌, get_or, All, Some, None, refl, sym, ◌∙◌, ap, subst, arith}
+use Rattle.std.proofs.lemmas.List.{append_assoc, append-nil, map-append}
+use Rattle.std.proofs.lemmas.List.Elements.{All-nil, All-cons, All-append, All-head, All-tail}
 use Rattle.shop_model.specs.declared.page.Page.{Page}
 use Rattle.shop_model.specs.declared.requests.IdsAsked.{IdsAsked}
 use Rattle.shop_model.specs.declared.requests.Request.{Request}
@@ -10,7 +10,6 @@ use Rattle.shop_model.specs.lists.Catalogues.{Catalogue, catalogue}
 use Rattle.shop_history.specs.declared.acts.Drawn.{Drawn}
 use Rattle.shop_history.specs.declared.acts.Entry.{Entry}
 use Rattle.shop_history.specs.declared.keys.Key.{Key}
-use Rattle.shop_history.specs.declared.keys.Key.TheVariants.{Label}
 use Rattle.shop_history.specs.Keys.{row_of}
 use Rattle.shop_history.specs.Logs.{tables}
 use Rattle.shop_history.proofs.cited.KeptTables.{kept}
@@ -32,7 +31,7 @@ use Rattle.shop_browse.specs.declared.attempted.Attempted.TheVariants as attempt
 use Rattle.shop_history.specs.declared.acts.Act.{Act}
 use Rattle.shop_attempt.specs.declared.attempts.Write.{Write}
 use Rattle.shop_browse.specs.Attempts.{AreReadFor, IsAttempt, AttemptedAs, Suits, asking_of}
-use Rattle.shop_browse.specs.Driver.{keys_of, Fits, AreSeen, WereRead, MayRead, AsksFor, IsNext, AddsReads, attempt_with}
+use Rattle.shop_browse.specs.Driver.{keys_of, Fits, FollowsOne, AreSeen, WereRead, MayRead, AsksFor, IsNext, AddsReads, attempt_with}
 use Rattle.shop_browse.specs.Footprints.{InFootprint}
 use Rattle.shop_browse.proofs.Items.{seat_sound}
 
@@ -103,10 +102,6 @@ all_read start now keys left old new some none = record {
   seen = some.seen;
 }
 
--- the labels of the ids that are left
-pub labels_left : (ids : List ℕ) (at : ℕ) → at < length ids → map Label (drop at ids) ≡ Label (get_or ids at 0) ∷ map Label (drop (at + 1) ids)
-labels_left ids at within = ap (map Label) (drop_more ids at 0 within)
-
 -- a draft with the ids that a request hands on
 pub with_ids : (draft : Draft) (page : IdsAsked → Page) (given : PageIds) (ids : IdsAsked) → ((drawn : Drawn) → ids_at drawn given ≡ ids)
     → Shows draft (λ drawn. page (ids_at drawn given)) → Shows draft (λ drawn. page ids)
@@ -120,6 +115,20 @@ two_reads k l [] first second are at then = absurd cc
 two_reads k l (one ∷ []) first second are at then = absurd cc
 two_reads k l (one ∷ two ∷ []) first second are at then = (cc, cc, cc)
 two_reads k l (one ∷ two ∷ other ∷ reads) first second are at then = absurd cc
+
+-- the first round reads a row that the request is about
+pub asks_one : (k : Key) (request : Request) (ask : Ask) (round : ℕ) (reads : List ReadOf) → round ≡ 0 → FollowsOne k round reads
+    → ((opening : Tables) (log : List Entry) → ask.index.now ≡ catalogue opening → InFootprint opening log request ask.draw k)
+    → AsksFor (FollowsOne k) request ask round reads (k ∷ [])
+asks_one k request ask round reads is follows about = record {
+  few = omega (arith, is);
+  goes_on = λ more of.
+      let none : reads ≡ [] = subst (λ r. FollowsOne k r reads) is follows in
+      subst (λ r. FollowsOne k (suc r) (reads ++ more)) (sym is) (subst (λ l. FollowsOne k 1 (l ++ more)) (sym none) of);
+  may = λ opening log were.
+      let P : Key → Type 0 = InFootprint opening log request ask.draw in
+      All-cons P k [] (about opening log were.named) (All-nil P);
+}
 
 -- the rounds
 

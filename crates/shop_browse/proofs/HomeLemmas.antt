@@ -1,5 +1,5 @@
 -- Home: the drawn item, the reads of its promotion, and the page for a customer or for anyone.
-use Rattle.std.proofs.Common.{◌≡◌, ℕ, zero, suc, ◌+◌, ◌%◌, List, [], ◌∷◌, ◌++◌, map, drop, get_or, All, Option, Some, None, refl, sym, ◌∙◌, ap, subst, inl, inr, arith}
+use Rattle.std.proofs.Common.{◌≡◌, ℕ, zero, suc, ◌+◌, ◌%◌, List, [], ◌∷◌, ◌++◌, map, get_or, All, Option, Some, None, option_map, unwrap_or, refl, sym, ◌∙◌, ap, subst, inl, inr, arith}
 use Rattle.std.specs.List.{flat_map}
 use Rattle.std.proofs.lemmas.List.Elements.{All-nil, All-cons}
 use Rattle.shop_model.specs.declared.refusal.Refusal.TheVariants.{NoCustomer}
@@ -11,8 +11,8 @@ use Rattle.shop_model.specs.lists.Catalogues.{Catalogue, catalogue}
 use Rattle.shop_model.specs.pages.Show.{check_there, check_customer, show, refused_or}
 use Rattle.shop_model.specs.rows.Lookups.{row_numbered}
 use Rattle.shop_model.specs.asked.Refusals.{page_of}
-use Rattle.shop_model.specs.rows.Rows.{CustomerRow}
-use Rattle.shop_model.specs.pages.Promotion.{promo}
+use Rattle.shop_model.specs.rows.Rows.{CustomerRow, ItemRow}
+use Rattle.shop_model.specs.pages.Promotion.{promoted, promo}
 use Rattle.shop_model.specs.pages.Home.{home_page, customer_asked}
 use Rattle.shop_history.specs.declared.acts.Entry.{Entry}
 use Rattle.shop_history.specs.declared.keys.Key.{Key}
@@ -25,16 +25,16 @@ use Rattle.shop_draft.proofs.cited.PageTexts.{both}
 use Rattle.shop_draft.specs.declared.draft.Draft.{Draft}
 use Rattle.shop_attempt.specs.declared.attempts.ReadOf.{ReadOf}
 use Rattle.shop_browse.specs.declared.attempted.Ask.{Ask}
-use Rattle.shop_browse.specs.declared.driver.Next.{Next}
-use Rattle.shop_browse.specs.declared.driver.Next.TheVariants.{ReadOne, Read, ReadLabels, Show, ShowList, Change, Pay, Never}
-use Rattle.shop_browse.specs.Driver.{keys_of, ids_of, IsWhole, Fits, AsksFor, IsNext}
+use Rattle.shop_browse.specs.declared.driver.Next.TheVariants.{Show}
+use Rattle.shop_browse.specs.Driver.{keys_of, IsWhole, Fits, AsksFor, IsNext}
 use Rattle.shop_browse.specs.Footprints.{drawn_item, InFootprint}
 use Rattle.shop_browse.specs.Home.{drawn_key, FollowsHome, home_in, IsWelcome}
-use Rattle.shop_browse.specs.Labels.{HaveLabels, FollowsLabels, AsksLabels, promoted_in}
-use Rattle.shop_browse.proofs.cited.Reads.{shows_page}
+use Rattle.shop_browse.specs.Related.{promoted_in, related_in}
+use Rattle.shop_browse.proofs.DriverLemmas.{asks_one, two_reads}
+use Rattle.shop_browse.proofs.cited.Reads.{one_read, one_follows, shows_page}
+use Rattle.shop_browse.proofs.cited.Titles.{links_are}
 use Rattle.shop_browse.proofs.Items.{row_missing}
 use Rattle.shop_browse.proofs.cited.Sizes.{size_of, size_after}
-use Rattle.shop_browse.proofs.LabelsLemmas.{ShowsLabels, labels_fit, promotion_shown}
 
 -- four lists of blocks that were added in turn
 pub four_parts : {A : Type 0} (f : A → List ℕ) (k l m n : List A) (old s1 s2 s3 now : List ℕ) → s1 ≡ old ++ flat_map f k → s2 ≡ s1 ++ flat_map f l → s3 ≡ s2 ++ flat_map f m
@@ -49,30 +49,27 @@ drawn_after ask opening log whole named = ap (λ n. key.Item (1 + ask.draw % n))
 drawn_here : (ask : Ask) (t : Tables) → IsWhole ask → catalogue t ≡ ask.index.now → drawn_key ask ≡ key.Item (drawn_item t ask.draw)
 drawn_here ask t whole named = ap (λ n. key.Item (1 + ask.draw % n)) (whole ∙ sym (size_of ask.index.now t named))
 
-pub promo_shown : (ask : Ask) (t : Tables) (ids : IdsAsked) (reads : List ReadOf) → IsWhole ask → HaveLabels (drawn_key ask) reads → Fits ask.index.now t reads
-    → promo t ids ask.draw ≡ map (promoted_in ids) (drop 1 reads)
-promo_shown ask t ids reads whole have fits =
-    sym (promotion_shown t ids ask.draw (drop 1 reads)
-    (subst (λ k. ShowsLabels t k (drop 1 reads)) (drawn_here ask t whole fits.named) (labels_fit ask.index.now t (drawn_key ask) reads have fits)))
+-- the items that are related to the one in a row
+related_shown : (o : Option ItemRow) → related_in (shown row.Item o) ≡ unwrap_or (option_map (λ i. i.related) o) []
+related_shown None = refl
+related_shown (Some x) = refl
 
-pub home_shown : (ask : Ask) (ids : IdsAsked) (customer : Option CustomerRow) (reads : List ReadOf) → IsWhole ask → HaveLabels (drawn_key ask) reads
-    → (t : Tables) → Fits ask.index.now t reads → home_page t ids ask.draw customer ≡ home_in ids ask.draw customer (drop 1 reads)
+-- the promotion, by what was read of the drawn item
+pub promo_shown : (ask : Ask) (t : Tables) (ids : IdsAsked) (drawn : ReadOf) → IsWhole ask → drawn.key ≡ drawn_key ask → Fits ask.index.now t (drawn ∷ [])
+    → promo t ids ask.draw ≡ map (promoted_in ask.index.now ids) (related_in drawn.row)
+unfolding promo
+promo_shown ask t ids drawn whole key_is fits =
+    let item : ℕ = drawn_item t ask.draw in
+    let row_is : row_of t (key.Item item) ≡ drawn.row = ap (row_of t) (sym (key_is ∙ drawn_here ask t whole fits.named)) ∙ fits.shows.0 in
+    ap (map (promoted t ids)) (sym (related_shown (row_numbered t.items item)) ∙ ap related_in row_is)
+    ∙ sym (links_are ask.index.now t fits.named ids (related_in drawn.row))
+
+pub home_shown : (ask : Ask) (ids : IdsAsked) (customer : Option CustomerRow) (drawn : ReadOf) → IsWhole ask → drawn.key ≡ drawn_key ask
+    → (t : Tables) → Fits ask.index.now t (drawn ∷ []) → home_page t ids ask.draw customer ≡ home_in ask ids customer (related_in drawn.row)
 unfolding home_page home_in
-home_shown ask ids customer reads whole have t fits =
-    let links = promo_shown ask t ids reads whole have fits in
+home_shown ask ids customer drawn whole key_is t fits =
+    let links = promo_shown ask t ids drawn whole key_is fits in
     cc
-
--- what is asked for next of the promotion
-pub is_welcome : (ids : IdsAsked) (customer : Option CustomerRow) (ask : Ask) (round : ℕ) (reads : List ReadOf) (draft : Draft) (next : Next) → AsksLabels (drawn_key ask) ask round reads (Some next)
-    → IsWelcome ids customer ask round reads draft next
-is_welcome ids customer ask round reads draft (ReadOne k) asks = asks
-is_welcome ids customer ask round reads draft (Read keys) asks = absurd asks
-is_welcome ids customer ask round reads draft (ReadLabels items) asks = asks
-is_welcome ids customer ask round reads draft Show asks = absurd asks
-is_welcome ids customer ask round reads draft (ShowList lines) asks = absurd asks
-is_welcome ids customer ask round reads draft (Change act writes) asks = absurd asks
-is_welcome ids customer ask round reads draft Pay asks = absurd asks
-is_welcome ids customer ask round reads draft Never asks = absurd asks
 
 -- what Home shows by the number that is given, and by the row with it
 
@@ -86,21 +83,19 @@ number_shows t asked draw number customer is found =
     home_shows t asked draw (Some number) is ∙ ap (λ o. refused_or (check_there NoCustomer o) (Some (home_page t asked.ids draw o))) found
 
 -- for anyone
-pub anyone_next : (asked : home_asked.Home) (ask : Ask) (round : ℕ) (reads : List ReadOf) (draft : Draft) (next : Next) → asked.ids.c ≡ None → IsWhole ask
-    → IsWelcome asked.ids None ask round reads draft next → IsNext (FollowsHome asked.ids.c ask) (Home asked) ask round reads draft next
-anyone_next asked ask round reads draft next none whole is = subst (λ c. IsNext (FollowsHome c ask) (Home asked) ask round reads draft next) (sym none) (by next is)
-  where
-    by : (n : Next) → IsWelcome asked.ids None ask round reads draft n → IsNext (FollowsHome None ask) (Home asked) ask round reads draft n
-    by (ReadOne k) is = is (Home asked) (λ opening log named. inr (drawn_after ask opening log whole named))
-    by (Read keys) is = absurd is
-    by (ReadLabels items) is = is (Home asked) (λ opening log named. inr (drawn_after ask opening log whole named))
-    by Show is = (refl, λ t fits. shows_page t (Home asked) ask.draw draft (home_page t asked.ids ask.draw None) (home_shows t asked ask.draw None none) (is t fits))
-    by (ShowList lines) is = absurd is
-    by (Change act writes) is = absurd is
-    by Pay is = absurd is
-    by Never is = absurd is
+module _ (asked : home_asked.Home) (ask : Ask) (none : asked.ids.c ≡ None) where
+  pub asks_drawn : (round : ℕ) (reads : List ReadOf) → IsWhole ask → round ≡ 0 → FollowsHome asked.ids.c ask round reads
+      → AsksFor (FollowsHome asked.ids.c ask) (Home asked) ask round reads (drawn_key ask ∷ [])
+  asks_drawn round reads whole is follows = subst (λ c. AsksFor (FollowsHome c ask) (Home asked) ask round reads (drawn_key ask ∷ [])) (sym none)
+      (asks_one (drawn_key ask) (Home asked) ask round reads is (subst (λ c. FollowsHome c ask round reads) none follows) (λ opening log named. inl (inr (drawn_after ask opening log whole named))))
 
--- the customer whose number is given, behind whom the promotion is read
+  pub drawn_read : (round : ℕ) (reads : List ReadOf) (drawn : ReadOf) → (round ≡ 0 → ⊥) → FollowsHome asked.ids.c ask round reads → drawn ≡ get_or reads 0 drawn → (reads ≡ drawn ∷ []) × (drawn.key ≡ drawn_key ask)
+  drawn_read round reads drawn some follows at = one_read (drawn_key ask) reads drawn (one_follows (drawn_key ask) round reads some (subst (λ c. FollowsHome c ask round reads) none follows)) at
+
+  pub anyone_next : (round : ℕ) (drawn : ReadOf) (draft : Draft) → IsWelcome asked.ids None ask drawn draft → IsNext (FollowsHome asked.ids.c ask) (Home asked) ask round (drawn ∷ []) draft Show
+  anyone_next round drawn draft is = (refl, λ t fits. shows_page t (Home asked) ask.draw draft (home_page t asked.ids ask.draw None) (home_shows t asked ask.draw None none) (is t fits))
+
+-- for the customer whose number is given
 module _ (asked : home_asked.Home) (number : ℕ) (ask : Ask) (is_c : asked.ids.c ≡ Some number) where
   pub asks_both : (round : ℕ) (reads : List ReadOf) (keys : List Key) → IsWhole ask → round ≡ 0 → FollowsHome asked.ids.c ask round reads → keys ≡ key.Customer number ∷ drawn_key ask ∷ []
       → AsksFor (FollowsHome asked.ids.c ask) (Home asked) ask round reads keys
@@ -108,24 +103,21 @@ module _ (asked : home_asked.Home) (number : ℕ) (ask : Ask) (is_c : asked.ids.
     few = omega (arith, is);
     goes_on = λ more of.
         let none : reads ≡ [] = subst (λ r. FollowsHome (Some number) ask r reads) is (subst (λ c. FollowsHome c ask round reads) is_c follows) in
-        subst (λ r. FollowsHome (Some number) ask (suc r) (reads ++ more)) (sym is) (subst (λ l. FollowsHome (Some number) ask 1 (l ++ more)) (sym none) (begins more (of ∙ are)));
+        subst (λ r. FollowsHome (Some number) ask (suc r) (reads ++ more)) (sym is) (subst (λ l. FollowsHome (Some number) ask 1 (l ++ more)) (sym none) (of ∙ are));
     may = λ opening log were.
         let P : Key → Type 0 = InFootprint opening log (Home asked) ask.draw in
         subst (All P) (sym are) (All-cons P (key.Customer number) (drawn_key ask ∷ []) (inl (inl (number, is_c, refl)))
         (All-cons P (drawn_key ask) [] (inl (inr (drawn_after ask opening log whole were.named))) (All-nil P)));
   })
-    where
-      begins : (more : List ReadOf) → keys_of more ≡ key.Customer number ∷ drawn_key ask ∷ [] → FollowsHome (Some number) ask 1 more
-      begins [] of = absurd cc
-      begins (known ∷ more) of = (cc, cc)
 
-  pub known_reads : (round : ℕ) (reads : List ReadOf) (known : ReadOf) → (round ≡ 0 → ⊥) → FollowsHome asked.ids.c ask round reads → known ≡ get_or reads 0 known → reads ≡ known ∷ drop 1 reads
-  known_reads round reads known some follows at = by round reads some (subst (λ c. FollowsHome c ask round reads) is_c follows) at
+  pub both_read : (round : ℕ) (reads : List ReadOf) (known drawn : ReadOf) → (round ≡ 0 → ⊥) → FollowsHome asked.ids.c ask round reads → known ≡ get_or reads 0 known → drawn ≡ get_or reads 1 drawn
+      → (reads ≡ known ∷ drawn ∷ []) × (known.key ≡ key.Customer number) × (drawn.key ≡ drawn_key ask)
+  both_read round reads known drawn some follows at then =
+      two_reads (key.Customer number) (drawn_key ask) reads known drawn (by round some (subst (λ c. FollowsHome c ask round reads) is_c follows)) at then
     where
-      by : (round : ℕ) (reads : List ReadOf) → (round ≡ 0 → ⊥) → FollowsHome (Some number) ask round reads → known ≡ get_or reads 0 known → reads ≡ known ∷ drop 1 reads
-      by zero reads some follows at = absurd (some refl)
-      by (suc round) [] some follows at = absurd follows
-      by (suc round) (first ∷ rest) some follows at = ap (λ (r : ReadOf). r ∷ rest) (sym at)
+      by : (round : ℕ) → (round ≡ 0 → ⊥) → FollowsHome (Some number) ask round reads → keys_of reads ≡ key.Customer number ∷ drawn_key ask ∷ []
+      by zero some follows = absurd (some refl)
+      by (suc round) some follows = follows
 
   module _ (known : ReadOf) (key_is : known.key ≡ key.Customer number) where
     shown_row : (t : Tables) (r : Row) → row_of t known.key ≡ known.row → known.row ≡ r → shown row.Customer (row_numbered t.customers number) ≡ r
@@ -140,24 +132,9 @@ module _ (asked : home_asked.Home) (number : ℕ) (ask : Ask) (is_c : asked.ids.
         number_shows t asked ask.draw number None is_c
         (row_missing row.Customer (λ (x : CustomerRow) is. absurd cc) (row_numbered t.customers number) (shown_row t row.Absent fits.shows.0 is))
 
-    -- what the promotion asks for, behind the customer
-    asks_behind : (round : ℕ) (reads : List ReadOf) (keys : List Key) → AsksFor (FollowsLabels (drawn_key ask)) (Home asked) ask (suc round) reads keys
-        → AsksFor (FollowsHome (Some number) ask) (Home asked) ask (suc round) (known ∷ reads) keys
-    asks_behind round reads keys asks = record {
-      few = asks.few;
-      goes_on = λ more of. (key_is, asks.goes_on more of);
-      may = λ opening log were. asks.may opening log (record { named = were.named; sound = were.sound; are = were.are.1 });
-    }
-
-    pub known_next : (customer : CustomerRow) (round : ℕ) (reads : List ReadOf) (draft : Draft) (next : Next) → known.row ≡ row.Customer customer → IsWhole ask → (round ≡ 0 → ⊥)
-        → IsWelcome asked.ids (Some customer) ask round reads draft next → IsNext (FollowsHome (Some number) ask) (Home asked) ask round (known ∷ reads) draft next
-    known_next customer zero reads draft next is whole some welcome = absurd (some refl)
-    known_next customer (suc round) reads draft (ReadOne k) is whole some welcome =
-        asks_behind round reads (k ∷ []) (welcome (Home asked) (λ opening log named. inr (drawn_after ask opening log whole named)))
-    known_next customer (suc round) reads draft (Read keys) is whole some welcome = absurd welcome
-    known_next customer (suc round) reads draft (ReadLabels items) is whole some welcome =
-        asks_behind round reads (map key.Label (ids_of items)) (welcome (Home asked) (λ opening log named. inr (drawn_after ask opening log whole named)))
-    known_next customer (suc round) reads draft Show is whole some welcome = (
+    pub known_next : (customer : CustomerRow) (round : ℕ) (drawn : ReadOf) (draft : Draft) → known.row ≡ row.Customer customer
+        → IsWelcome asked.ids (Some customer) ask drawn draft → IsNext (FollowsHome (Some number) ask) (Home asked) ask round (known ∷ drawn ∷ []) draft Show
+    known_next customer round drawn draft is welcome = (
       refl,
       λ t fits.
           let o : Option CustomerRow = row_numbered t.customers number in
@@ -165,7 +142,3 @@ module _ (asked : home_asked.Home) (number : ℕ) (ask : Ask) (is_c : asked.ids.
           (number_shows t asked ask.draw number (Some customer) is_c (customer_found o customer (shown_row t (row.Customer customer) fits.shows.0 is)))
           (welcome t (record { sound = fits.sound; named = fits.named; shows = fits.shows.1 })),
     )
-    known_next customer (suc round) reads draft (ShowList lines) is whole some welcome = absurd welcome
-    known_next customer (suc round) reads draft (Change act writes) is whole some welcome = absurd welcome
-    known_next customer (suc round) reads draft Pay is whole some welcome = absurd welcome
-    known_next customer (suc round) reads draft Never is whole some welcome = absurd welcome

@@ -1,7 +1,7 @@
 pub mod cited
 pub mod Items
 pub mod DriverLemmas
-pub mod LabelsLemmas
+pub mod ListedItems
 pub mod LinesLemmas
 pub mod ListsLemmas
 pub mod HomeLemmas

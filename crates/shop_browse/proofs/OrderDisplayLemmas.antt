@@ -1,6 +1,6 @@
 -- What Order Display shows, by what it has read.
-use Rattle.std.proofs.Common.{◌≡◌, ℕ, ◌-◌, ◌≤◌, List, [], ◌∷◌, length, take, drop, get_or, All, Option, Some, None, IfSome, option_map, unwrap_or, refl, sym, ◌∙◌, ap, subst, arith}
-use Rattle.std.proofs.lemmas.List.{take_all}
+use Rattle.std.proofs.Common.{◌≡◌, ℕ, List, [], ◌∷◌, length, get_or, All, Option, Some, None, IfSome, option_map, unwrap_or, refl, sym, ◌∙◌, ap, subst}
+use Rattle.std.proofs.lemmas.List.Elements.{All-nil, All-cons, All-head, All-tail}
 use Rattle.shop_model.specs.declared.address.Address.{Address}
 use Rattle.shop_model.specs.declared.buying.OrderDisplay as asked_for
 use Rattle.shop_model.specs.declared.country.Country.{Country}
@@ -9,11 +9,11 @@ use Rattle.shop_model.specs.declared.requests.Request.TheVariants.{OrderDisplay}
 use Rattle.shop_model.specs.declared.tables.Tables.{Tables}
 use Rattle.shop_model.specs.asked.CustomersAsked.{LoginAsked}
 use Rattle.shop_model.specs.asked.Refusals.{page_of}
-use Rattle.shop_model.specs.lists.Catalogues.{Catalogue}
+use Rattle.shop_model.specs.lists.Catalogues.{Catalogue, naming, catalogue}
 use Rattle.shop_model.specs.pages.OrderDisplay.{last_page, order_page, no_order_page}
 use Rattle.shop_model.specs.pages.Show.{show, refused_or}
 use Rattle.shop_model.specs.rows.Lookups.{row_numbered, joined, order_of, last_order, country_name}
-use Rattle.shop_model.specs.rows.Rows.{CustomerRow, OrderRow}
+use Rattle.shop_model.specs.rows.Rows.{CustomerRow, LineRow, OrderRow}
 use Rattle.shop_model.specs.rows.Sound.{Has, Sound, OrderNames}
 use Rattle.shop_model.specs.trade.Buyers.{customer_named, check_password}
 use Rattle.shop_history.specs.declared.keys.Key.{Key}
@@ -21,16 +21,16 @@ use Rattle.shop_history.specs.declared.keys.Key.TheVariants as key
 use Rattle.shop_history.specs.declared.keys.Row.{Row}
 use Rattle.shop_history.specs.declared.keys.Row.TheVariants as row
 use Rattle.shop_history.specs.Keys.{row_of}
-use Rattle.shop_history.proofs.cited.Places.{all_numbered}
+use Rattle.shop_history.proofs.cited.Places.{all_numbered, some_row}
 use Rattle.shop_attempt.specs.declared.attempts.ReadOf.{ReadOf}
 use Rattle.shop_attempt.specs.Reads.{Shows}
-use Rattle.shop_browse.specs.Driver.{keys_of, Fits, AreSeen}
+use Rattle.shop_browse.specs.Driver.{keys_of, Fits}
 use Rattle.shop_model.specs.declared.refusal.Refusal.{Refusal}
 use Rattle.shop_browse.proofs.Items.{row_missing}
 use Rattle.shop_browse.proofs.Logins.{customer_of_name, no_name, password_passes, password_fails}
 use Rattle.shop_browse.proofs.Rows.{shown_some, found_by, there_shown}
-use Rattle.shop_browse.proofs.cited.Sizes.{size_of}
-use Rattle.shop_browse.specs.OrderDisplay.{Then, Ends, HasUser, HasLogin, HasLast, HasOrder, HasAddress, HasAll, AtCustomer, AtLast, AreLabelled, ShipsTo}
+use Rattle.shop_browse.proofs.cited.Titles.{item_named}
+use Rattle.shop_browse.specs.OrderDisplay.{Then, Ends, HasUser, HasLogin, HasLast, HasOrder, HasAddress, HasAll, IsThere, HaveItems, ShipsTo}
 
 -- one read more, behind what holds of those so far
 then_shows : (t : Tables) (before : List ReadOf → Type 0) (k : Key) (r : Row) (rest : List ReadOf) → ((all : List ReadOf) → before all → Shows t all) → Then before k r rest
@@ -140,31 +140,27 @@ module _ (asked : asked_for.OrderDisplay) (reads : List ReadOf) (d : ReadOf) (ar
       let here = subst (Shows t) one.0 shows in
       none_named t asked draw (ap (row_of t) (sym one.1) ∙ here.0 ∙ is)
 
-module _ (asked : LoginAsked) (reads : List ReadOf) (at : AtCustomer asked.user reads) (d : ReadOf) where
-  same_read : get_or reads 1 d ≡ at.customer
-  same_read = ap (λ (l : List ReadOf). get_or l 1 d) at.is.has
+module _ (asked : LoginAsked) (reads : List ReadOf) (at : (id : ℕ) × Ends (HasUser asked.user id reads) (key.Customer id)) (d : ReadOf) where
+  same_read : get_or reads 1 d ≡ at.1.read
+  same_read = ap (λ (l : List ReadOf). get_or l 1 d) at.1.has.has
 
-  pub at_last : (x : CustomerRow) → (get_or reads 1 d).row ≡ row.Customer x → asked.pass ≡ x.password → AtLast asked reads
-  at_last x is same = (
-    at.id,
-    record {
-      read = at.last;
-      has = record {
-        customer = x;
-        passes = same;
-        is = record { read = at.customer; has = at.is; key_is = at.customer_is; row_is = ap (λ (r : ReadOf). r.row) (sym same_read) ∙ is };
-      };
-      key_is = at.last_is;
-    },
-  )
+  pub is_user : (get_or reads 0 d).row ≡ row.Id at.0
+  is_user = ap (λ (l : List ReadOf). (get_or l 0 d).row) at.1.has.has ∙ at.1.has.row_is
+
+  pub has_login : (x : CustomerRow) → (get_or reads 1 d).row ≡ row.Customer x → asked.pass ≡ x.password → HasLogin asked at.0 reads []
+  has_login x is same = record {
+    customer = x;
+    passes = same;
+    is = ended (HasUser asked.user at.0 reads) (key.Customer at.0) (row.Customer x) at.1 (ap (λ (r : ReadOf). r.row) (sym same_read) ∙ is);
+  }
 
   -- the row is that of the customer with the name
   pub is_named : (c : Catalogue) (t : Tables) → Fits c t reads → (x : CustomerRow) × (customer_named t asked.user ≡ Some x) × ((get_or reads 1 d).row ≡ row.Customer x)
   is_named c t fits =
-      let found = same_customer t fits.sound asked reads fits.shows at.id at.customer.row (at.last ∷ []) at.customer at.is at.customer_is refl in
+      let found = same_customer t fits.sound asked reads fits.shows at.0 at.1.read.row [] at.1.read at.1.has at.1.key_is refl in
       (found.0, found.1, ap (λ (r : ReadOf). r.row) same_read ∙ found.2)
 
-pub password_refused : (asked : asked_for.OrderDisplay) (draw : ℕ) (reads : List ReadOf) (at : AtCustomer asked.login.user reads) (d : ReadOf) (x : CustomerRow) (c : Catalogue) (t : Tables)
+pub password_refused : (asked : asked_for.OrderDisplay) (draw : ℕ) (reads : List ReadOf) (at : (id : ℕ) × Ends (HasUser asked.login.user id reads) (key.Customer id)) (d : ReadOf) (x : CustomerRow) (c : Catalogue) (t : Tables)
     → (get_or reads 1 d).row ≡ row.Customer x → (asked.login.pass ≡ x.password → ⊥) → Fits c t reads → show t (OrderDisplay asked) draw ≡ Some (page_of WrongPassword)
 password_refused asked draw reads at d x c t is other fits =
     let found = is_named asked.login reads at d c t fits in
@@ -173,7 +169,7 @@ password_refused asked draw reads at d x c t is other fits =
 
 -- the last order's id
 
-module _ (asked : asked_for.OrderDisplay) (reads : List ReadOf) (at : AtLast asked.login reads) (d : ReadOf) where
+module _ (asked : asked_for.OrderDisplay) (reads : List ReadOf) (at : (id : ℕ) × Ends (HasLogin asked.login id reads) (key.LastOrder id)) (d : ReadOf) where
   then_last : (r : Row) → (get_or reads 2 d).row ≡ r → Then (HasLogin asked.login at.0 reads) (key.LastOrder at.0) r []
   then_last r is =
       let same : get_or reads 2 d ≡ at.1.read = ap (λ (l : List ReadOf). get_or l 2 d) at.1.has.is.has.has in
@@ -208,6 +204,14 @@ module _ (asked : LoginAsked) (reads : List ReadOf) (at : (order : ℕ) × Ends 
       let found = there_shown row.Order t.orders at.0 at.1.read.row (last_there t fits.sound asked reads fits.shows at.0 last.0) (ap (row_of t) (sym at.1.key_is) ∙ last.1.0) in
       (found.0, ap (λ (r : ReadOf). r.row) order_read ∙ found.1)
 
+-- the items of lines, which the tables have, are in their catalogue
+lines_there : (c : Catalogue) (t : Tables) → catalogue t ≡ c → (lines : List LineRow) → All (λ l. Has (length t.items) l.item) lines → All (IsThere c) lines
+lines_there c t named [] within = All-nil (IsThere c)
+lines_there c t named (line ∷ lines) within =
+    let P : LineRow → Type 0 = λ l. Has (length t.items) l.item in
+    let item = some_row t.items line.item (All-head P line lines within) in
+    All-cons (IsThere c) line lines (naming item.0, item_named c t named line.item ∙ ap (option_map naming) item.1) (lines_there c t named lines (All-tail P line lines within))
+
 -- what an order names is there
 order_names : (t : Tables) (order : OrderRow) (id : ℕ) → Sound t → row_numbered t.orders id ≡ Some order → OrderNames t order
 order_names t order id sound is = all_numbered (OrderNames t) t.orders id order is sound.names.orders
@@ -231,39 +235,24 @@ module _ (asked : LoginAsked) (reads : List ReadOf) (order : OrderRow) (at : End
       let found = there_shown row.Address t.addresses order.ship_address at.read.row (order_names t order is.0 fits.sound is.2).ship_address (ap (row_of t) (sym at.key_is) ∙ is.3.0) in
       (found.0, ap (λ (r : ReadOf). r.row) address_read ∙ found.1)
 
-  -- the items of its lines are in the catalogue of the tables that showed it
-  pub items_there : (c : Catalogue) → AreSeen c reads → All (λ l. Has (length c.items) l.item) order.lines
-  items_there c seen =
-      let last = at.has.is in
-      let all = subst (AreSeen c) last.has.is.has.is.has.has seen in
-      let t : Tables = all.1.1.1.0.0 in
-      let fits = all.1.1.1.0.1 in
-      let found : row_numbered t.orders at.has.id ≡ Some order
-      = found_by row.Order (λ x is. absurd cc) (λ x y is. cc) (row_numbered t.orders at.has.id) order (ap (row_of t) (sym last.key_is) ∙ fits.shows.0 ∙ last.row_is) in
-      subst (λ n. All (λ l. Has n l.item) order.lines) (size_of c t fits.named) (order_names t order at.has.id fits.sound found).items
-
 -- all that is read
 
 module _ (asked : asked_for.OrderDisplay) (reads : List ReadOf) (all : HasAll asked.login reads) where
-  reads_of : reads ≡ all.is.has.is.has.is.has.is.has.read ∷ all.is.has.is.has.is.has.is.read ∷ all.is.has.is.has.is.read ∷ all.is.has.is.read ∷ all.is.read ∷ all.country ∷ all.labels
-  reads_of = all.is.has.is.has.is.has.is.has.has
+  reads_of : reads
+      ≡ all.is.has.has.is.has.is.has.is.has.read ∷ all.is.has.has.is.has.is.has.is.read ∷ all.is.has.has.is.has.is.read ∷ all.is.has.has.is.read ∷ all.is.has.read ∷ all.is.read ∷ []
+  reads_of = all.is.has.has.is.has.is.has.is.has.has
 
   pub all_order : (d : ReadOf) → (get_or reads 3 d).row ≡ row.Order all.order
-  all_order d = ap (λ (l : List ReadOf). (get_or l 3 d).row) reads_of ∙ all.is.has.is.row_is
+  all_order d = ap (λ (l : List ReadOf). (get_or l 3 d).row) reads_of ∙ all.is.has.has.is.row_is
 
   pub all_address : (d : ReadOf) → (get_or reads 4 d).row ≡ row.Address all.address
-  all_address d = ap (λ (l : List ReadOf). (get_or l 4 d).row) reads_of ∙ all.is.row_is
-
-  pub all_labels : take (length reads - 6) (drop 6 reads) ≡ all.labels
-  all_labels =
-      let many : length all.labels ≤ length reads - 6 = omega (arith, ap length reads_of) in
-      ap (λ (l : List ReadOf). take (length reads - 6) (drop 6 l)) reads_of ∙ take_all (length reads - 6) all.labels many
+  all_address d = ap (λ (l : List ReadOf). (get_or l 4 d).row) reads_of ∙ all.is.has.row_is
 
   -- what tables show of it
   module _ (c : Catalogue) (t : Tables) (fits : Fits c t reads) where
-    address_found : (row_numbered t.addresses all.order.ship_address ≡ Some all.address) × Shows t (all.country ∷ all.labels)
+    address_found : (row_numbered t.addresses all.order.ship_address ≡ Some all.address) × Shows t (all.is.read ∷ [])
     address_found =
-        let behind = then_shows t (HasOrder asked.login all.order reads) _ _ (all.country ∷ all.labels) (λ rest is. (order_is t fits.sound asked.login reads fits.shows all.order rest is).3) all.is in
+        let behind = then_shows t (HasOrder asked.login all.order reads) _ _ (all.is.read ∷ []) (λ rest is. (order_is t fits.sound asked.login reads fits.shows all.order rest is).3) all.is.has in
         (found_by row.Address (λ x is. absurd cc) (λ x y is. cc) (row_numbered t.addresses all.order.ship_address) all.address behind.0, behind.1)
 
     pub country_there : (d : ReadOf) → (x : Country) × ((get_or reads 5 d).row ≡ row.Country x)
@@ -271,28 +260,28 @@ module _ (asked : asked_for.OrderDisplay) (reads : List ReadOf) (all : HasAll as
         let address = address_found in
         let has : Has (length t.countries) all.address.text.country
         = all_numbered (λ (a : Address). Has (length t.countries) a.text.country) t.addresses all.order.ship_address all.address address.0 fits.sound.names.addresses in
-        let found = there_shown row.Country t.countries all.address.text.country all.country.row has (ap (row_of t) (sym all.country_is) ∙ address.1.0) in
+        let found = there_shown row.Country t.countries all.address.text.country all.is.read.row has (ap (row_of t) (sym all.is.key_is) ∙ address.1.0) in
         (found.0, ap (λ (l : List ReadOf). (get_or l 5 d).row) reads_of ∙ found.1)
 
     pub ships_to : (d : ReadOf) (x : Country) → (get_or reads 5 d).row ≡ row.Country x → ShipsTo t all.order.ship_address all.address.text.city x.name
     ships_to d x is =
         let address = address_found in
-        let row_is : all.country.row ≡ row.Country x = sym (ap (λ (l : List ReadOf). (get_or l 5 d).row) reads_of) ∙ is in
+        let row_is : all.is.read.row ≡ row.Country x = sym (ap (λ (l : List ReadOf). (get_or l 5 d).row) reads_of) ∙ is in
         let country : row_numbered t.countries all.address.text.country ≡ Some x
-        = found_by row.Country (λ x is. absurd cc) (λ x y is. cc) (row_numbered t.countries all.address.text.country) x (ap (row_of t) (sym all.country_is) ∙ address.1.0 ∙ row_is) in
+        = found_by row.Country (λ x is. absurd cc) (λ x y is. cc) (row_numbered t.countries all.address.text.country) x (ap (row_of t) (sym all.is.key_is) ∙ address.1.0 ∙ row_is) in
         record {
           city_is = ap (λ o. unwrap_or (option_map (λ (a : Address). a.text.city) o) []) address.0;
           country_is = ap (λ o. country_name t (unwrap_or (option_map (λ (a : Address). a.text.country) o) 0)) address.0 ∙ ap (λ o. unwrap_or (option_map (λ (x : Country). x.name) o) []) country;
         }
 
-    pub order_labelled : AreLabelled t all.order.lines all.labels
-    order_labelled =
-        let is = order_is t fits.sound asked.login reads fits.shows all.order (all.is.read ∷ all.country ∷ all.labels) all.is.has in
-        record { there = (order_names t all.order is.0 fits.sound is.2).items; shows = is.3.1.1 }
+    pub have_items : HaveItems t c all.order.lines
+    have_items =
+        let is = order_is t fits.sound asked.login reads fits.shows all.order (all.is.has.read ∷ all.is.read ∷ []) all.is.has.has in
+        record { named = fits.named; there = lines_there c t fits.named all.order.lines (order_names t all.order is.0 fits.sound is.2).items }
 
     pub order_shown : (draw : ℕ) → show t (OrderDisplay asked) draw ≡ Some (order_page t asked.ids all.order)
     order_shown draw =
-        let is = order_is t fits.sound asked.login reads fits.shows all.order (all.is.read ∷ all.country ∷ all.labels) all.is.has in
+        let is = order_is t fits.sound asked.login reads fits.shows all.order (all.is.has.read ∷ all.is.read ∷ []) all.is.has.has in
         let login : LogsIn t asked.login is.1.id = is.1.login in
         let last : joined (row_numbered t.last login.customer.id) ≡ Some is.0 = ap (λ n. joined (row_numbered t.last n)) login.id_is ∙ is.1.last in
         login_shows t asked draw login.customer (Some is.0) login.named login.passes last ∙ ap (λ (o : Option OrderRow). Some (last_page t asked.ids o)) is.2

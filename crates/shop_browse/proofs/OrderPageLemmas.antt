@@ -1,7 +1,7 @@
--- The table of an order's lines, by reads of the labels of their items.
-use Rattle.std.proofs.Common.{◌≡◌, ℕ, ◌+◌, ◌<◌, codes, decimal, List, [], ◌∷◌, ◌++◌, length, map, take, get_or, sym, ◌∙◌, ap, subst, arith}
+-- The table of an order's lines, and the page of an order.
+use Rattle.std.proofs.Common.{◌≡◌, ℕ, ◌+◌, ◌<◌, codes, decimal, List, [], ◌∷◌, ◌++◌, length, map, take, get_or, sym, ◌∙◌, ap}
 use Rattle.std.specs.List.{flat_map}
-use Rattle.std.proofs.lemmas.List.{append-nil, length-map, get_or-map, map_more}
+use Rattle.std.proofs.lemmas.List.{append-nil, map_more}
 use Rattle.shop_model.specs.declared.tables.Tables.{Tables}
 use Rattle.shop_model.specs.declared.page.Block.TheVariants.{Heading, Para}
 use Rattle.shop_model.specs.declared.requests.IdsAsked.{IdsAsked}
@@ -11,46 +11,22 @@ use Rattle.shop_model.specs.pages.Priced.{line_cells, lines_table, totals_text}
 use Rattle.shop_model.specs.pages.Targets.{nav}
 use Rattle.shop_model.specs.rows.Lookups.{city_of, country_of, country_name}
 use Rattle.shop_model.specs.rows.Rows.{CardUseRow, LineRow, OrderRow}
-use Rattle.shop_model.specs.rows.Sound.{Has}
 use Rattle.shop_model.specs.trade.Money.{charged}
-use Rattle.shop_history.specs.declared.keys.Key.{Key}
-use Rattle.shop_history.specs.declared.keys.Key.TheVariants as key
-use Rattle.shop_history.specs.Keys.{row_of}
 use Rattle.shop_draft.specs.Pages.{page_front, page_end}
 use Rattle.shop_draft.proofs.cited.PageTexts.{two, six, both, written}
-use Rattle.shop_attempt.specs.declared.attempts.ReadOf.{ReadOf}
-use Rattle.shop_attempt.proofs.cited.Looks.{shows_at}
-use Rattle.shop_browse.specs.OrderDisplay.{AreLabels, IsLabelled, AreLabelled, ShipsTo}
+use Rattle.shop_browse.specs.OrderDisplay.{ShipsTo}
 
--- one line more, whose label was read
-module _ (lines : List LineRow) (labels : List ReadOf) (i : ℕ) (line : LineRow) (read : ReadOf) (are : AreLabels lines labels) (within : i < length lines) (line_at : line ≡ get_or lines i line) (at : read ≡ get_or labels i read) where
-  pub label_within : i < length labels
-  label_within =
-      omega (arith, within, sym (length-map labels (λ (r : ReadOf). r.key)) ∙ ap length are ∙ length-map lines (λ (l : LineRow). key.Label l.item))
-
-  label_of_line : (t : Tables) → AreLabelled t lines labels → IsLabelled t line read.row
-  label_of_line t labelled =
-      let key_is : read.key ≡ key.Label line.item
-      = ap (λ (r : ReadOf). r.key) at
-      ∙ sym (get_or-map (λ (r : ReadOf). r.key) labels i read read.key label_within)
-      ∙ ap (λ (keys : List Key). get_or keys i read.key) are
-      ∙ get_or-map (λ (l : LineRow). key.Label l.item) lines i line read.key within
-      ∙ ap (λ (l : LineRow). key.Label l.item) (sym line_at) in
-      record {
-        there = subst (λ (l : LineRow). Has (length t.items) l.item) (sym line_at) (labelled.there i line within);
-        shows = ap (row_of t) (sym key_is) ∙ shows_at t labels i read label_within at labelled.shows;
-      }
-
-  pub rows_more : (old rows new : List ℕ) (t : Tables) → AreLabelled t lines labels → (IsLabelled t line read.row → new ≡ rows ++ row_text (line_cells t line))
-      → rows ≡ old ++ flat_map row_text (map (line_cells t) (take i lines)) → new ≡ old ++ flat_map row_text (map (line_cells t) (take (i + 1) lines))
-  rows_more old rows new t labelled added so_far =
-      let first : List (List (List ℕ)) = map (line_cells t) (take i lines) in
-      let cells : List (List ℕ) = line_cells t line in
-      let more : map (line_cells t) (take (i + 1) lines) ≡ first ++ cells ∷ []
-      = map_more (line_cells t) lines i line within ∙ ap (λ (l : LineRow). first ++ line_cells t l ∷ []) (sym line_at) in
-      both row_text first (cells ∷ []) old rows new so_far
-      (added (label_of_line t labelled) ∙ ap (λ (l : List ℕ). rows ++ l) (sym (append-nil (row_text cells))))
-      ∙ ap (λ (r : List (List (List ℕ))). old ++ flat_map row_text r) (sym more)
+-- one line more
+pub rows_more : (t : Tables) (lines : List LineRow) (i : ℕ) (line : LineRow) (old rows new : List ℕ) → i < length lines → line ≡ get_or lines i line → new ≡ rows ++ row_text (line_cells t line)
+    → rows ≡ old ++ flat_map row_text (map (line_cells t) (take i lines)) → new ≡ old ++ flat_map row_text (map (line_cells t) (take (i + 1) lines))
+rows_more t lines i line old rows new within at added so_far =
+    let first : List (List (List ℕ)) = map (line_cells t) (take i lines) in
+    let cells : List (List ℕ) = line_cells t line in
+    let more : map (line_cells t) (take (i + 1) lines) ≡ first ++ cells ∷ []
+    = map_more (line_cells t) lines i line within ∙ ap (λ (l : LineRow). first ++ line_cells t l ∷ []) (sym at) in
+    both row_text first (cells ∷ []) old rows new so_far
+    (added ∙ ap (λ (l : List ℕ). rows ++ l) (sym (append-nil (row_text cells))))
+    ∙ ap (λ (r : List (List (List ℕ))). old ++ flat_map row_text r) (sym more)
 
 -- the page of an order, by what was written in turn
 module _ (t : Tables) (ids : IdsAsked) (order : OrderRow) (city country : List ℕ) (lines : List LineRow) (card : CardUseRow) (ships : ShipsTo t order.ship_address city country) (lines_are : lines ≡ order.lines) (card_is : card ≡ order.card) where

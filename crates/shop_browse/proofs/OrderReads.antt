@@ -1,14 +1,12 @@
 -- What Order Display asks for, round by round, by what it has read.
-use Rattle.std.proofs.Common.{◌≡◌, ℕ, List, [], ◌∷◌, ◌++◌, length, map, take, All, refl, sym, ◌∙◌, ap, subst, inl, inr, arith}
-use Rattle.std.proofs.lemmas.List.Elements.{All-nil, All-cons, All-map}
-use Rattle.std.proofs.lemmas.Simd.{map-map}
+use Rattle.std.proofs.Common.{◌≡◌, ℕ, List, [], ◌∷◌, ◌++◌, take, All, refl, sym, ◌∙◌, ap, subst, inl, inr, arith}
+use Rattle.std.proofs.lemmas.List.Elements.{All-nil, All-cons}
 use Rattle.shop_model.specs.declared.address.Address.{Address}
 use Rattle.shop_model.specs.declared.buying.OrderDisplay as asked_for
 use Rattle.shop_model.specs.declared.requests.Request.TheVariants.{OrderDisplay}
 use Rattle.shop_model.specs.declared.tables.Tables.{Tables}
 use Rattle.shop_model.specs.asked.CustomersAsked.{LoginAsked}
-use Rattle.shop_model.specs.rows.Rows.{LineRow, OrderRow}
-use Rattle.shop_model.specs.rows.Sound.{Has}
+use Rattle.shop_model.specs.rows.Rows.{OrderRow}
 use Rattle.shop_history.specs.declared.acts.Entry.{Entry}
 use Rattle.shop_history.specs.declared.keys.Key.{Key}
 use Rattle.shop_history.specs.declared.keys.Key.TheVariants as key
@@ -21,8 +19,7 @@ use Rattle.shop_attempt.specs.Reads.{AreTrue}
 use Rattle.shop_browse.specs.declared.attempted.Ask.{Ask}
 use Rattle.shop_browse.specs.Driver.{keys_of, AsksFor}
 use Rattle.shop_browse.specs.Footprints.{InFootprint, WasShown, IsOfOrder}
-use Rattle.shop_browse.proofs.cited.Labels.{labels_may}
-use Rattle.shop_browse.specs.OrderDisplay.{Then, Ends, HasUser, HasLogin, HasLast, HasOrder, HasAddress, HasAll, AtCustomer, FollowsDisplay}
+use Rattle.shop_browse.specs.OrderDisplay.{Then, Ends, HasUser, HasLogin, HasLast, HasOrder, HasAddress, FollowsDisplay}
 
 -- one read more, behind what holds of those so far
 
@@ -91,25 +88,24 @@ module _ (asked : asked_for.OrderDisplay) (ask : Ask) (reads : List ReadOf) wher
       let P : Key → Type 0 = InFootprint opening log (OrderDisplay asked) ask.draw in
       All-cons P k [] (inl (inr is)) (All-nil P)
 
-  at_customer : (id : ℕ) (more : List ReadOf) → HasUser asked.login.user id reads [] → keys_of more ≡ key.Customer id ∷ key.LastOrder id ∷ [] → AtCustomer asked.login.user (reads ++ more)
-  at_customer id [] has are = absurd cc
-  at_customer id (customer ∷ []) has are = absurd cc
-  at_customer id (customer ∷ last ∷ []) has are =
-      record { id = id; customer = customer; last = last; is = user_more asked.login reads (customer ∷ last ∷ []) id [] has; customer_is = cc; last_is = cc }
-  at_customer id (customer ∷ last ∷ other ∷ more) has are = absurd cc
-
-  pub asks_customer : (id : ℕ) (keys : List Key) → HasUser asked.login.user id reads [] → keys ≡ key.Customer id ∷ key.LastOrder id ∷ [] → AsksFor (FollowsDisplay asked) (OrderDisplay asked) ask 1 reads keys
-  asks_customer id keys has are = record {
+  pub asks_customer : (id : ℕ) → HasUser asked.login.user id reads [] → AsksFor (FollowsDisplay asked) (OrderDisplay asked) ask 1 reads (key.Customer id ∷ [])
+  asks_customer id has = record {
     few = omega arith;
-    goes_on = λ more of. at_customer id more has (of ∙ are);
+    goes_on = λ more of. (id, one_key (key.Customer id) (HasUser asked.login.user id (reads ++ more)) more (user_more asked.login reads more id [] has) of);
     may = λ opening log were.
         let P : Key → Type 0 = InFootprint opening log (OrderDisplay asked) ask.draw in
         let named = (user_true opening log asked.login reads were.are id [] has).0 in
-        subst (All P) (sym are) (All-cons P (key.Customer id) (key.LastOrder id ∷ []) (inl (inl (inr (id, named, refl))))
-        (one_may opening log (key.LastOrder id) (inl (id, named, inl refl))));
+        All-cons P (key.Customer id) [] (inl (inl (inr (id, named, refl)))) (All-nil P);
   }
 
-  pub asks_order : (order : ℕ) → HasLast asked.login order reads [] → AsksFor (FollowsDisplay asked) (OrderDisplay asked) ask 2 reads (key.Order order ∷ [])
+  pub asks_last : (id : ℕ) → HasLogin asked.login id reads [] → AsksFor (FollowsDisplay asked) (OrderDisplay asked) ask 2 reads (key.LastOrder id ∷ [])
+  asks_last id has = record {
+    few = omega arith;
+    goes_on = λ more of. (id, one_key (key.LastOrder id) (HasLogin asked.login id (reads ++ more)) more (login_more asked.login reads more id [] has) of);
+    may = λ opening log were. one_may opening log (key.LastOrder id) (inl (id, (login_true opening log asked.login reads were.are id [] has).0, inl refl));
+  }
+
+  pub asks_order : (order : ℕ) → HasLast asked.login order reads [] → AsksFor (FollowsDisplay asked) (OrderDisplay asked) ask 3 reads (key.Order order ∷ [])
   asks_order order has = record {
     few = omega arith;
     goes_on = λ more of. (order, one_key (key.Order order) (HasLast asked.login order (reads ++ more)) more (last_more asked.login reads more order [] has) of);
@@ -118,7 +114,7 @@ module _ (asked : asked_for.OrderDisplay) (ask : Ask) (reads : List ReadOf) wher
         one_may opening log (key.Order order) (inl (last.id, last.named, inr (order, last.last, inl refl)));
   }
 
-  pub asks_address : (order : OrderRow) → HasOrder asked.login order reads [] → AsksFor (FollowsDisplay asked) (OrderDisplay asked) ask 3 reads (key.Address order.ship_address ∷ [])
+  pub asks_address : (order : OrderRow) → HasOrder asked.login order reads [] → AsksFor (FollowsDisplay asked) (OrderDisplay asked) ask 4 reads (key.Address order.ship_address ∷ [])
   asks_address order has = record {
     few = omega arith;
     goes_on = λ more of. (order, one_key (key.Address order.ship_address) (HasOrder asked.login order (reads ++ more)) more (order_more asked.login reads more order [] has) of);
@@ -128,29 +124,14 @@ module _ (asked : asked_for.OrderDisplay) (ask : Ask) (reads : List ReadOf) wher
         one_may opening log (key.Address order.ship_address) (inl (last.id, last.named, inr (has.id, last.last, inr (order, was, refl))));
   }
 
-  -- the country and the labels, which may be read where the items of the lines are there
-  at_labels : (order : OrderRow) (address : Address) (more : List ReadOf) → HasAddress asked.login order address reads [] → keys_of more ≡ key.Country address.text.country ∷ map (λ (l : LineRow). key.Label l.item) order.lines
-      → HasAll asked.login (reads ++ more)
-  at_labels order address [] has are = absurd cc
-  at_labels order address (country ∷ labels) has are = record {
-    order = order;
-    address = address;
-    country = country;
-    labels = labels;
-    is = then_more _ _ _ _ [] (country ∷ labels) (λ all. order_more asked.login reads (country ∷ labels) order all) has;
-    country_is = cc;
-    labels_are = cc are;
-  }
-
-  pub asks_labels : (order : OrderRow) (address : Address) (keys : List Key) → HasAddress asked.login order address reads [] → All (λ l. Has (length ask.index.now.items) l.item) order.lines
-      → keys ≡ key.Country address.text.country ∷ map (λ (l : LineRow). key.Label l.item) order.lines → AsksFor (FollowsDisplay asked) (OrderDisplay asked) ask 4 reads keys
-  asks_labels order address keys has there are = record {
+  pub asks_country : (order : OrderRow) (address : Address) → HasAddress asked.login order address reads [] → AsksFor (FollowsDisplay asked) (OrderDisplay asked) ask 5 reads (key.Country address.text.country ∷ [])
+  asks_country order address has = record {
     few = omega arith;
-    goes_on = λ more of. at_labels order address more has (of ∙ are);
-    may = λ opening log were.
-        let P : Key → Type 0 = InFootprint opening log (OrderDisplay asked) ask.draw in
-        subst (All P) (sym are) (All-cons P (key.Country address.text.country) (map (λ (l : LineRow). key.Label l.item) order.lines) (inl (inr (inr (address.text.country, refl))))
-        (subst (All P) (map-map key.Label (λ (l : LineRow). l.item) order.lines)
-        (labels_may ask.index.now opening log (OrderDisplay asked) ask.draw (map (λ (l : LineRow). l.item) order.lines) were.named
-        (All-map (Has (length ask.index.now.items)) (λ (l : LineRow). l.item) order.lines there))));
+    goes_on = λ more of. record {
+      order = order;
+      address = address;
+      is = one_key (key.Country address.text.country) (HasAddress asked.login order address (reads ++ more)) more
+          (then_more _ _ _ _ [] more (λ all. order_more asked.login reads more order all) has) of;
+    };
+    may = λ opening log were. one_may opening log (key.Country address.text.country) (inr (address.text.country, refl));
   }

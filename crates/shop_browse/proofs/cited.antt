@@ -1,4 +1,4 @@
 pub mod Reads
 pub mod Sizes
-pub mod Labels
+pub mod Titles
 pub mod Lists

@@ -1,5 +1,5 @@
 -- The driver of interactions: what one may do next by what it has read, and the attempt of what it decides.
-use Rattle.std.specs.Prelude.{◌≡◌, ℕ, suc, ◌≤◌, List, [], ◌∷◌, ◌++◌, length, map, All, Option, Some, None}
+use Rattle.std.specs.Prelude.{◌≡◌, ℕ, zero, suc, ◌≤◌, List, [], ◌∷◌, ◌++◌, length, All, Option, Some, None}
 use Rattle.shop_model.specs.declared.requests.Request.{Request}
 use Rattle.shop_model.specs.declared.tables.Tables.{Tables}
 use Rattle.shop_model.specs.lists.Catalogues.{Catalogue, catalogue}
@@ -7,7 +7,6 @@ use Rattle.shop_model.specs.rows.Limits.{stamp_limit}
 use Rattle.shop_history.specs.declared.acts.Act.{Act}
 use Rattle.shop_history.specs.declared.acts.Entry.{Entry}
 use Rattle.shop_history.specs.declared.keys.Key.{Key}
-use Rattle.shop_history.specs.declared.keys.Key.TheVariants.{Label}
 use Rattle.shop_history.specs.Acts.{IsActOf}
 use Rattle.shop_cache.specs.Keys.{key_asked}
 use Rattle.shop_draft.specs.declared.draft.Draft.{Draft}
@@ -19,9 +18,7 @@ use Rattle.shop_attempt.specs.Reads.{AreTrue, AreReadSince}
 use Rattle.shop_attempt.specs.Seats.{Seat}
 use Rattle.shop_browse.specs.declared.attempted.Ask.{Ask}
 use Rattle.shop_browse.specs.declared.driver.Next.{Next}
-use Rattle.shop_browse.specs.declared.driver.ItemIds.{ItemIds}
-use Rattle.shop_browse.specs.declared.driver.ItemIds.TheVariants.{Owned, Shared, Five}
-use Rattle.shop_browse.specs.declared.driver.Next.TheVariants.{ReadOne, Read, ReadLabels, Show, ShowList, Change, Pay, Never}
+use Rattle.shop_browse.specs.declared.driver.Next.TheVariants.{ReadOne, Read, Show, ShowList, Change, Pay, Never}
 use Rattle.shop_browse.specs.Attempts.{Becomes, IsShownBy, IsFree}
 use Rattle.shop_browse.specs.Baskets.{IsBasketFor}
 pub use Rattle.shop_browse.specs.Fitting.{keys_of, Fits, AreSeen}
@@ -52,6 +49,11 @@ pub record AsksFor (follows : ℕ → List ReadOf → Type 0) (request : Request
   pub goes_on : (more : List ReadOf) → keys_of more ≡ keys → follows (suc round) (reads ++ more)
   pub may : MayRead request ask reads keys
 
+-- after the first round this row was read
+abbrev pub FollowsOne : Key → ℕ → List ReadOf → Type 0
+FollowsOne k zero reads = reads ≡ []
+FollowsOne k (suc more) reads = keys_of reads ≡ k ∷ []
+
 -- the act does the request, nothing is to be paid for it, and the writes and the draft are those of the act in these tables, at any stamp
 pub record IsChange (request : Request) (ask : Ask) (reads : List ReadOf) (draft : Draft) (act : Act) (writes : List Write) : Type 0 where
   pub does : IsActOf request ask.draw act
@@ -63,17 +65,10 @@ pub record IsChange (request : Request) (ask : Ask) (reads : List ReadOf) (draft
 abbrev pub IsPageFor : Request → Ask → List ReadOf → Draft → Type 0
 IsPageFor request ask reads draft = (t : Tables) → Fits ask.index.now t reads → IsShownBy t request ask.draw draft
 
--- the ids of items
-abbrev pub ids_of : ItemIds → List ℕ
-ids_of (Owned ids) = ids
-ids_of (Shared ids) = ids
-ids_of (Five ids) = ids
-
 -- what is done next is right in whichever tables fit what was read, with the draft as it is then
 abbrev pub IsNext : (ℕ → List ReadOf → Type 0) → Request → Ask → ℕ → List ReadOf → Draft → Next → Type 0
 IsNext follows request ask round reads draft (ReadOne key) = AsksFor follows request ask round reads (key ∷ [])
 IsNext follows request ask round reads draft (Read keys) = AsksFor follows request ask round reads keys
-IsNext follows request ask round reads draft (ReadLabels items) = AsksFor follows request ask round reads (map Label (ids_of items))
 IsNext follows request ask round reads draft Show = (key_asked request ≡ None) × IsPageFor request ask reads draft
 IsNext follows request ask round reads draft (ShowList lines) =
     ((t : Tables) → Fits ask.index.now t reads → AreListed t request lines) × IsPageFor request ask reads draft

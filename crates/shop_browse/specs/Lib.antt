@@ -4,12 +4,9 @@ pub mod Footprints
 pub mod Lists
 pub mod Attempts
 pub mod Driver
-pub mod Labels
+pub mod Related
 pub mod Lines
 pub mod Home
-pub mod ProductDetail
 pub mod SearchRequest
-pub mod SearchResults
 pub mod Known
-pub mod AdminRequest
 pub mod OrderDisplay

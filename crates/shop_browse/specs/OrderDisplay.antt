@@ -1,20 +1,18 @@
 -- What Order Display reads, from a user name on to the rows of its customer's last order.
-use Rattle.std.specs.Prelude.{◌≡◌, ℕ, zero, suc, List, [], ◌∷◌, map, All, length}
+use Rattle.std.specs.Prelude.{◌≡◌, ℕ, zero, suc, List, [], ◌∷◌, All, Some}
 use Rattle.shop_model.specs.declared.address.Address.{Address}
 use Rattle.shop_model.specs.declared.buying.OrderDisplay as asked_for
 use Rattle.shop_model.specs.declared.requests.Request.TheVariants.{OrderDisplay}
 use Rattle.shop_model.specs.declared.tables.Tables.{Tables}
 use Rattle.shop_model.specs.asked.CustomersAsked.{LoginAsked}
-use Rattle.shop_model.specs.rows.Lookups.{city_of, country_of, country_name}
+use Rattle.shop_model.specs.lists.Catalogues.{Catalogue, Naming, catalogue}
+use Rattle.shop_model.specs.rows.Lookups.{city_of, country_of, country_name, row_numbered}
 use Rattle.shop_model.specs.rows.Rows.{CustomerRow, LineRow, OrderRow}
-use Rattle.shop_model.specs.rows.Sound.{Has}
 use Rattle.shop_history.specs.declared.keys.Key.{Key}
 use Rattle.shop_history.specs.declared.keys.Key.TheVariants as key
 use Rattle.shop_history.specs.declared.keys.Row.{Row}
 use Rattle.shop_history.specs.declared.keys.Row.TheVariants as row
-use Rattle.shop_history.specs.Keys.{row_of}
 use Rattle.shop_attempt.specs.declared.attempts.ReadOf.{ReadOf}
-use Rattle.shop_attempt.specs.Reads as attempt
 use Rattle.shop_draft.specs.declared.draft.Draft.{Draft}
 use Rattle.shop_browse.specs.declared.attempted.Ask.{Ask}
 use Rattle.shop_browse.specs.declared.driver.Next.{Next}
@@ -58,57 +56,36 @@ abbrev pub HasAddress : LoginAsked → OrderRow → Address → List ReadOf → 
 HasAddress asked order address reads rest =
     Then (HasOrder asked order reads) (key.Address order.ship_address) (row.Address address) rest
 
--- a label was read for each line
-abbrev pub AreLabels : List LineRow → List ReadOf → Type 0
-AreLabels lines labels = keys_of labels ≡ map (λ l. key.Label l.item) lines
-
--- then those of the country, and of the labels of the items of the lines
+-- then that of the address's country
 pub record HasAll (asked : LoginAsked) (reads : List ReadOf) : Type 0 where
   pub order : OrderRow
   pub address : Address
-  pub country : ReadOf
-  pub labels : List ReadOf
-  pub is : HasAddress asked order address reads (country ∷ labels)
-  pub country_is : country.key ≡ key.Country address.text.country
-  pub labels_are : AreLabels order.lines labels
-
--- the reads of a user name, of its customer and of the customer's last order
-pub record AtCustomer (user : List ℕ) (reads : List ReadOf) : Type 0 where
-  pub id : ℕ
-  pub customer : ReadOf
-  pub last : ReadOf
-  pub is : HasUser user id reads (customer ∷ last ∷ [])
-  pub customer_is : customer.key ≡ key.Customer id
-  pub last_is : last.key ≡ key.LastOrder id
-
--- the same, of a customer who has the password
-abbrev pub AtLast : LoginAsked → List ReadOf → Type 0
-AtLast asked reads = (id : ℕ) × Ends (HasLogin asked id reads) (key.LastOrder id)
+  pub is : Ends (HasAddress asked order address reads) (key.Country address.text.country)
 
 -- after each round the reads reach one row further
 abbrev pub FollowsDisplay : asked_for.OrderDisplay → ℕ → List ReadOf → Type 0
 FollowsDisplay asked zero reads = reads ≡ []
 FollowsDisplay asked (suc zero) reads = keys_of reads ≡ key.Name asked.login.user ∷ []
-FollowsDisplay asked (suc (suc zero)) reads = AtCustomer asked.login.user reads
-FollowsDisplay asked (suc (suc (suc zero))) reads = (order : ℕ) × Ends (HasLast asked.login order reads) (key.Order order)
-FollowsDisplay asked (suc (suc (suc (suc zero)))) reads =
+FollowsDisplay asked (suc (suc zero)) reads = (id : ℕ) × Ends (HasUser asked.login.user id reads) (key.Customer id)
+FollowsDisplay asked (suc (suc (suc zero))) reads = (id : ℕ) × Ends (HasLogin asked.login id reads) (key.LastOrder id)
+FollowsDisplay asked (suc (suc (suc (suc zero)))) reads = (order : ℕ) × Ends (HasLast asked.login order reads) (key.Order order)
+FollowsDisplay asked (suc (suc (suc (suc (suc zero))))) reads =
     (order : OrderRow) × Ends (HasOrder asked.login order reads) (key.Address order.ship_address)
-FollowsDisplay asked (suc (suc (suc (suc (suc more))))) reads = HasAll asked.login reads
+FollowsDisplay asked (suc (suc (suc (suc (suc (suc more)))))) reads = HasAll asked.login reads
 
 -- what is done next after so many rounds, in any ask, with the draft as it is then
 abbrev pub DisplaysNext : asked_for.OrderDisplay → ℕ → List ReadOf → Draft → Next → Type 0
 DisplaysNext asked round reads draft next =
     (ask : Ask) → IsNext (FollowsDisplay asked) (OrderDisplay asked) ask round reads draft next
 
--- tables show a row as the label of the item of a line, which they have
-pub record IsLabelled (t : Tables) (line : LineRow) (label : Row) : Type 0 where
-  pub there : Has (length t.items) line.item
-  pub shows : row_of t (key.Label line.item) ≡ label
+-- the item of a line is in a catalogue
+abbrev pub IsThere : Catalogue → LineRow → Type 0
+IsThere c line = (item : Naming) × (row_numbered c.items line.item ≡ Some item)
 
--- tables show the labels of the items of lines, which they have
-pub record AreLabelled (t : Tables) (lines : List LineRow) (labels : List ReadOf) : Type 0 where
-  pub there : All (λ l. Has (length t.items) l.item) lines
-  pub shows : attempt.Shows t labels
+-- the tables are of a catalogue that has the items of lines
+pub record HaveItems (t : Tables) (c : Catalogue) (lines : List LineRow) : Type 0 where
+  pub named : catalogue t ≡ c
+  pub there : All (IsThere c) lines
 
 -- an address has this city, and is in the country with this name
 pub record ShipsTo (t : Tables) (address : ℕ) (city country : List ℕ) : Type 0 where

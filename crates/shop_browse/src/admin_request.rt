@@ -9,8 +9,7 @@ ghost use Rattle.shop_draft.specs.Templates.{Says};
 ghost use Rattle.shop_attempt.specs.Marks.{Looks};
 ghost use Rattle.shop_browse.specs.declared.attempted.Ask.{Ask};
 ghost use Rattle.shop_browse.specs.Attempts.{AttemptedAs, Suits, asking_of};
-ghost use Rattle.shop_browse.specs.AdminRequest.{FollowsItem};
-ghost use Rattle.shop_browse.specs.Driver.{IsNext};
+ghost use Rattle.shop_browse.specs.Driver.{FollowsOne, IsNext};
 
 use crate::driver::{Interaction, Next, attempt_by};
 use crate::{Ask, Attempted};
@@ -64,7 +63,7 @@ fn write_page(draft: &mut Draft, item: &Item, ids: PageIds) -> Result<(), Memory
 /// What is done by what was read of the item.
 fn by_item(asked: &AdminRequest, item: &ReadOf, draft: &mut Draft) -> Result<Next, Memory>
     requires { item.now.key ≡ key_kinds.Item asked.now.item }
-    ensures { IfOk result (λ next. (ask : Ask) (round : ℕ) → IsNext (FollowsItem asked.now.item) (Request.AdminRequest asked.now) ask round (item.now ∷ []) draft.new next) }
+    ensures { IfOk result (λ next. (ask : Ask) (round : ℕ) → IsNext (FollowsOne (key_kinds.Item asked.now.item)) (Request.AdminRequest asked.now) ask round (item.now ∷ []) draft.new next) }
 {
     match &item.row {
         Row::Absent => {
@@ -84,7 +83,7 @@ impl<'a> Interaction for &'a AdminRequest {
 
     ghost request = { λ asked. request_kinds.AdminRequest asked.now };
 
-    ghost follows = { λ asked ask. FollowsItem asked.now.item };
+    ghost follows = { λ asked ask. FollowsOne (key_kinds.Item asked.now.item) };
 
     fn next(
         &mut self,

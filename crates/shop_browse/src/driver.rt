@@ -1,8 +1,7 @@
 //! The one call that has a store: it reads the rows that an interaction asks for, round by round, and
 //! makes the attempt of what the interaction decides by them, whose page is in the draft that it lends.
-ghost use Rattle.std.specs.Prelude.{◌≡◌, ◌∷◌, [], List, ℕ, None, IfOk, map};
+ghost use Rattle.std.specs.Prelude.{◌≡◌, ◌∷◌, [], List, ℕ, None, IfOk};
 ghost use Rattle.shop_model.specs.declared.requests.Request.{Request};
-ghost use Rattle.shop_history.specs.declared.keys.Key.TheVariants.{Label};
 ghost use Rattle.shop_attempt.specs.declared.attempts.ReadOf.{ReadOf};
 ghost use Rattle.shop_attempt.specs.Marks.{Looks};
 ghost use Rattle.shop_browse.specs.declared.attempted.Ask.{Ask};
@@ -14,7 +13,7 @@ use shop_attempt::{Attempt, ReadOf, Store, Write, read};
 use shop_cache::ListLines;
 use shop_draft::Draft;
 use shop_history::{Act, Key};
-use shop_text::{Listed, Memory, Shared};
+use shop_text::{Listed, Memory};
 use std::alloc::Global;
 
 /// The most rounds of an interaction, the last of which decides.
@@ -23,14 +22,6 @@ const ROUNDS: u32 = 7;
 /// How many reads have room from the start: those of most requests.
 const READS: usize = 12;
 
-/// The ids of items.
-#[derive(Drop)]
-pub enum ItemIds {
-    Owned(Listed<u32>),
-    Shared(Shared<Listed<u32>>),
-    Five([u32; 5]),
-}
-
 /// What an interaction does next.
 #[derive(Drop)]
 pub enum Next {
@@ -38,8 +29,6 @@ pub enum Next {
     ReadOne(Key),
     /// It reads these rows.
     Read(Listed<Key>),
-    /// It reads the labels of these items.
-    ReadLabels(ItemIds),
     /// It shows the page that it has written, and changes nothing.
     Show,
     /// It shows the page that it has written of a list, by these lines, and changes nothing.
@@ -103,46 +92,6 @@ fn read_all<St: Store>(
     Ok(())
 }
 
-/// Reads the labels of the items with these ids, one after another.
-fn read_each_label<St: Store>(
-    store: &mut St,
-    reads: &mut Vec<ReadOf>,
-    ids: &[u32],
-) -> Result<(), Memory>
-    ensures looks { Looks St.seat St.marked store.old store.new }
-    ensures reads { IfOk result (λ _. spec.AddsReads (St.seat store.old) (St.seat store.new) (map Label ids.now) reads.old.items reads.new.items) }
-{
-    reads.reserve(ids.len())?;
-    for id in ids {
-        read_one(store, reads, Key::Label(*id))?;
-    }
-    Ok(())
-}
-
-impl ItemIds {
-    fn as_slice(&self) -> &[u32]
-        ensures { result.now ≡ spec.ids_of self.now }
-    {
-        match self {
-            ItemIds::Owned(ids) => ids.as_slice(),
-            ItemIds::Shared(ids) => ids.get().as_slice(),
-            ItemIds::Five(ids) => ids,
-        }
-    }
-}
-
-/// Reads the labels of items.
-fn read_labels<St: Store>(
-    store: &mut St,
-    reads: &mut Vec<ReadOf>,
-    items: ItemIds,
-) -> Result<(), Memory>
-    ensures looks { Looks St.seat St.marked store.old store.new }
-    ensures reads { IfOk result (λ _. spec.AddsReads (St.seat store.old) (St.seat store.new) (map Label (spec.ids_of items)) reads.old.items reads.new.items) }
-{
-    read_each_label(store, reads, items.as_slice())
-}
-
 /// The attempt by what was read, which changes nothing.
 fn looked(ask: &Ask, reads: Vec<ReadOf>) -> Attempt
     ensures { result ≡ spec.attempt_with ask.now reads.items None None }
@@ -185,11 +134,6 @@ pub fn attempt_by<St: Store, I: Interaction + Drop>(
             }
             Next::Read(keys) => {
                 let Ok(()) = read_all(store, &mut reads, keys) else {
-                    return Attempted::Memory;
-                };
-            }
-            Next::ReadLabels(items) => {
-                let Ok(()) = read_labels(store, &mut reads, items) else {
                     return Attempted::Memory;
                 };
             }

@@ -1,4 +1,4 @@
-ghost use Rattle.std.specs.Prelude.{◌≡◌, ◌∷◌, [], ◌≢◌, Some, IfOk, OnOk, codes, option_copied};
+ghost use Rattle.std.specs.Prelude.{◌≡◌, ◌∷◌, [], ℕ, Some, IfOk, OnOk, codes, option_copied};
 ghost use Rattle.std.specs.List.{flat_map};
 ghost use Rattle.shop_model.specs.pages.PageText.{block_line};
 ghost use Rattle.shop_model.specs.declared.page.Block.TheVariants as block;
@@ -9,12 +9,11 @@ ghost use Rattle.shop_history.specs.declared.keys.Key.TheVariants as key_kinds;
 ghost use Rattle.shop_model.specs.pages.Home as spec;
 ghost use Rattle.shop_attempt.specs.Marks.{Looks};
 ghost use Rattle.shop_browse.specs.Attempts.{AttemptedAs, Suits, asking_of};
-ghost use Rattle.shop_browse.specs.Driver.{IsWhole, AreSeen, IsNext};
+ghost use Rattle.shop_browse.specs.Driver.{IsWhole, IsNext};
 ghost use Rattle.shop_browse.specs.Home.{FollowsHome, IsWelcome, home_in, drawn_key as drawn_key_is};
-ghost use Rattle.shop_browse.specs.Labels.{FollowsLabels};
 
 use crate::driver::{Interaction, Next, attempt_by};
-use crate::labels::{labels_asked, promotion};
+use crate::related::{promotion, related_in};
 use crate::{Ask, Attempted};
 use shop_attempt::{ReadOf, Store};
 use shop_draft::{Draft, PageIds, Template, refusal};
@@ -64,23 +63,23 @@ fn subject_links(page: &mut Template, subject: Subject, ids: PageIds) -> Result<
     Ok(())
 }
 
-/// Writes the page for a customer or for anyone, with a promotion by these labels.
+/// Writes the page for a customer or for anyone, with a promotion of these items.
 fn write_page(
     draft: &mut Draft,
+    ask: &Ask,
     ids: PageIds,
-    draw: u32,
     customer: Option<&Customer>,
-    labels: &[ReadOf],
+    items: &[u32],
 ) -> Result<(), Memory>
-    ensures { OnOk result (Shows draft.new (λ drawn. home_in (ids_at drawn ids) draw (option_copied customer.entry) labels.now)) }
+    ensures { OnOk result (Shows draft.new (λ drawn. home_in ask.now (ids_at drawn ids) (option_copied customer.entry) items.now)) }
 {
     draft.status = 200;
     let page = &mut draft.page;
     page.begin(b"Home")?;
     heading(page)?;
     greetings(page, customer)?;
-    promotion(page, ids, labels)?;
-    subject_links(page, Subject::picked(draw), ids)?;
+    promotion(page, ids, ask.index, items)?;
+    subject_links(page, Subject::picked(ask.draw), ids)?;
     page.nav(ids)?;
     page.end()?;
     Ok(())
@@ -94,48 +93,41 @@ pub(crate) fn drawn_key(ask: &Ask) -> Key
     Key::Item(1 + ask.draw % scale.items)
 }
 
-/// What is done next by the reads of the promotion, for a customer or for anyone.
+/// Writes the page by what was read of the drawn item, for a customer or for anyone.
 fn welcome(
-    alloc: Global,
     ask: &Ask,
     ids: IdsAsked,
     customer: Option<&Customer>,
-    round: u32,
-    reads: &[ReadOf],
+    drawn: &ReadOf,
     draft: &mut Draft,
-) -> Result<Next, Memory>
+) -> Result<(), Memory>
     requires whole { IsWhole ask.now }
-    requires follows { FollowsLabels (drawn_key_is ask.now) round reads.now }
-    requires seen { AreSeen ask.now.index.now reads.now }
-    ensures { IfOk result (IsWelcome ids (option_copied customer.entry) ask.now round reads.now draft.new) }
+    requires drawn { drawn.now.key ≡ drawn_key_is ask.now }
+    ensures { OnOk result (IsWelcome ids (option_copied customer.entry) ask.now drawn.now draft.new) }
 {
-    match labels_asked(alloc, ask, drawn_key(ask), round, reads)? {
-        Some(next) => Ok(next),
-        None => {
-            write_page(draft, PageIds::of(ids), ask.draw, customer, &reads[1..])?;
-            Ok(Next::Show)
-        }
-    }
+    write_page(
+        draft,
+        ask,
+        PageIds::of(ids),
+        customer,
+        related_in(&drawn.row),
+    )
 }
 
-/// What is done next by what was read of the customer with a number, and then of the promotion.
+/// What is done by what was read of the customer with a number, and of the drawn item.
 fn greet(
-    alloc: Global,
     ask: &Ask,
     asked: &Home,
     number: u32,
-    round: u32,
     known: &ReadOf,
-    reads: &[ReadOf],
+    drawn: &ReadOf,
     draft: &mut Draft,
 ) -> Result<Next, Memory>
     requires whole { IsWhole ask.now }
     requires number { asked.now.ids.c ≡ Some number }
-    requires some { round ≢ 0 }
     requires known { known.now.key ≡ key_kinds.Customer number }
-    requires follows { FollowsLabels (drawn_key_is ask.now) round reads.now }
-    requires seen { AreSeen ask.now.index.now reads.now }
-    ensures { IfOk result (IsNext (FollowsHome (Some number) ask.now) (Request.Home asked.now) ask.now round (known.now ∷ reads.now) draft.new) }
+    requires drawn { drawn.now.key ≡ drawn_key_is ask.now }
+    ensures { IfOk result (λ next. (round : ℕ) → IsNext (FollowsHome (Some number) ask.now) (Request.Home asked.now) ask.now round (known.now ∷ drawn.now ∷ []) draft.new next) }
 {
     match &known.row {
         Row::Absent => {
@@ -143,7 +135,8 @@ fn greet(
             Ok(Next::Show)
         }
         Row::Customer(customer) => {
-            welcome(alloc, ask, asked.ids, Some(customer), round, reads, draft)
+            welcome(ask, asked.ids, Some(customer), drawn, draft)?;
+            Ok(Next::Show)
         }
         _ => Ok(Next::Never),
     }
@@ -175,22 +168,18 @@ impl<'a> Interaction for &'a Home {
         draft: &mut Draft,
     ) -> Result<Next, Memory> {
         match self.ids.c {
-            None => welcome(alloc, ask, self.ids, None, round, reads, draft),
+            None => {
+                if round == 0 {
+                    return Ok(Next::ReadOne(drawn_key(ask)));
+                }
+                welcome(ask, self.ids, None, &reads[0], draft)?;
+                Ok(Next::Show)
+            }
             Some(number) => {
                 if round == 0 {
-                    Ok(Next::Read(first_keys(alloc, ask, number)?))
-                } else {
-                    greet(
-                        alloc,
-                        ask,
-                        *self,
-                        number,
-                        round,
-                        &reads[0],
-                        &reads[1..],
-                        draft,
-                    )
+                    return Ok(Next::Read(first_keys(alloc, ask, number)?));
                 }
+                greet(ask, *self, number, &reads[0], &reads[1], draft)
             }
         }
     }

@@ -3,12 +3,11 @@ ghost use Rattle.shop_history.specs.declared.keys.Key.TheVariants as key_kinds;
 ghost use Rattle.shop_draft.specs.Pages.{Shows};
 ghost use Rattle.shop_attempt.specs.Marks.{Looks};
 ghost use Rattle.shop_browse.specs.Attempts.{AttemptedAs, Suits, asking_of};
-ghost use Rattle.shop_browse.specs.Labels.{FollowsLabels};
+ghost use Rattle.shop_browse.specs.Driver.{FollowsOne};
 ghost use Rattle.shop_browse.specs.Lists.{new_page};
 
 use crate::driver::{Interaction, Next, attempt_by};
-use crate::labels::labels_asked;
-use crate::lines::lines_read;
+use crate::lines::{items_in, lines_of};
 use crate::lists::subject_page;
 use crate::{Ask, Attempted};
 use shop_attempt::{ReadOf, Store};
@@ -43,7 +42,7 @@ impl<'a> Interaction for &'a NewProducts {
 
     ghost request = { λ asked. request_kinds.NewProducts asked.now };
 
-    ghost follows = { λ asked ask. FollowsLabels (key_kinds.NewIn asked.now.subject) };
+    ghost follows = { λ asked ask. FollowsOne (key_kinds.NewIn asked.now.subject) };
 
     fn next(
         &mut self,
@@ -54,15 +53,15 @@ impl<'a> Interaction for &'a NewProducts {
         draft: &mut Draft,
     ) -> Result<Next, Memory> {
         let asked: &NewProducts = self;
-        match labels_asked(alloc, ask, Key::NewIn(asked.subject), round, reads)? {
-            Some(next) => Ok(next),
-            None => match lines_read(alloc, &reads[1..])? {
-                Some(lines) => {
-                    write_page(draft, asked, &lines)?;
-                    Ok(Next::ShowList(lines))
-                }
-                None => Ok(Next::Never),
-            },
+        if round == 0 {
+            return Ok(Next::ReadOne(Key::NewIn(asked.subject)));
+        }
+        match lines_of(alloc, ask.index, items_in(&reads[0].row))? {
+            Some(lines) => {
+                write_page(draft, asked, &lines)?;
+                Ok(Next::ShowList(lines))
+            }
+            None => Ok(Next::Never),
         }
     }
 }

@@ -1,12 +1,11 @@
-ghost use Rattle.std.specs.Prelude.{◌≡◌, ◌∷◌, [], ◌↔◌, ℕ, IfOk, IsTrue, map};
-ghost use Rattle.shop_model.specs.rows.Rows.{LineRow};
+ghost use Rattle.std.specs.Prelude.{◌≡◌, ◌↔◌, ℕ, IfOk, IsTrue};
 ghost use Rattle.shop_history.specs.declared.keys.Key.TheVariants as key_kinds;
 ghost use Rattle.shop_attempt.specs.Marks.{Looks};
 ghost use Rattle.shop_draft.specs.declared.draft.Draft.{Draft};
 ghost use Rattle.shop_browse.specs.declared.attempted.Ask.{Ask};
 ghost use Rattle.shop_browse.specs.Attempts.{AttemptedAs, Suits, asking_of};
-ghost use Rattle.shop_browse.specs.Driver.{AreSeen, IsNext};
-ghost use Rattle.shop_browse.specs.OrderDisplay.{FollowsDisplay, AtLast, DisplaysNext};
+ghost use Rattle.shop_browse.specs.Driver.{IsNext};
+ghost use Rattle.shop_browse.specs.OrderDisplay.{FollowsDisplay, DisplaysNext};
 
 use crate::driver::{Interaction, Next, attempt_by};
 use crate::order_page::{no_order_page, order_page};
@@ -14,8 +13,9 @@ use crate::{Ask, Attempted};
 use shop_attempt::{ReadOf, Store};
 use shop_draft::{Draft, PageIds, refusal};
 use shop_history::{Key, Row};
-use shop_model::{Customer, Line, OrderDisplay, Refusal, Request};
-use shop_text::{Listed, Memory, Text, is_digsyl_lower};
+use shop_model::{Customer, OrderDisplay, Refusal, Request};
+use shop_search::Index;
+use shop_text::{Memory, Text, is_digsyl_lower};
 use std::alloc::Global;
 
 /// Whether this is the password of a customer.
@@ -32,35 +32,8 @@ fn name_key(alloc: Global, asked: &OrderDisplay) -> Result<Key, Memory>
     Ok(Key::Name(Text::copy(alloc, asked.login.user.bytes())?))
 }
 
-/// The keys of a customer and of its last order.
-fn customer_keys(alloc: Global, id: u32) -> Result<Listed<Key>, Memory>
-    ensures { IfOk result (λ keys. keys ≡ key_kinds.Customer id ∷ key_kinds.LastOrder id ∷ []) }
-{
-    let mut keys = Listed::with_capacity(alloc, 2)?;
-    keys.push(Key::Customer(id))?;
-    keys.push(Key::LastOrder(id))?;
-    Ok(keys)
-}
-
-/// The keys of a country, and of the labels of the items of lines.
-fn last_keys(alloc: Global, country: u32, lines: &[Line]) -> Result<Listed<Key>, Memory>
-    ensures { IfOk result (λ keys. keys ≡ key_kinds.Country country ∷ map (λ (l : LineRow). key_kinds.Label l.item) lines.now) }
-{
-    let mut keys = Listed::with_capacity(alloc, lines.len().saturating_add(1))?;
-    keys.push(Key::Country(country))?;
-    for line in lines {
-        keys.push(Key::Label(line.item))?;
-    }
-    Ok(keys)
-}
-
 /// What is done next by what was read of the user name.
-fn by_name(
-    alloc: Global,
-    asked: &OrderDisplay,
-    reads: &[ReadOf],
-    draft: &mut Draft,
-) -> Result<Next, Memory>
+fn by_name(asked: &OrderDisplay, reads: &[ReadOf], draft: &mut Draft) -> Result<Next, Memory>
     requires { FollowsDisplay asked.now 1 reads.now }
     ensures { IfOk result (DisplaysNext asked.now 1 reads.now draft.new) }
 {
@@ -69,15 +42,33 @@ fn by_name(
             refusal(draft, Refusal::NoUserName)?;
             Ok(Next::Show)
         }
-        Row::Id(id) => Ok(Next::Read(customer_keys(alloc, *id)?)),
+        Row::Id(id) => Ok(Next::ReadOne(Key::Customer(*id))),
+        _ => Ok(Next::Never),
+    }
+}
+
+/// What is done next by what was read of the user name and of its customer.
+fn by_customer(asked: &OrderDisplay, reads: &[ReadOf], draft: &mut Draft) -> Result<Next, Memory>
+    requires { FollowsDisplay asked.now 2 reads.now }
+    ensures { IfOk result (DisplaysNext asked.now 2 reads.now draft.new) }
+{
+    match (&reads[0].row, &reads[1].row) {
+        (Row::Id(id), Row::Customer(customer)) => {
+            if is_password(customer, &asked.login.pass) {
+                Ok(Next::ReadOne(Key::LastOrder(*id)))
+            } else {
+                refusal(draft, Refusal::WrongPassword)?;
+                Ok(Next::Show)
+            }
+        }
         _ => Ok(Next::Never),
     }
 }
 
 /// What is done next for a customer who logs in, by what was read of its last order's id.
 fn by_last(asked: &OrderDisplay, reads: &[ReadOf], draft: &mut Draft) -> Result<Next, Memory>
-    requires { AtLast asked.now.login reads.now }
-    ensures { IfOk result (DisplaysNext asked.now 2 reads.now draft.new) }
+    requires { FollowsDisplay asked.now 3 reads.now }
+    ensures { IfOk result (DisplaysNext asked.now 3 reads.now draft.new) }
 {
     match &reads[2].row {
         Row::Absent => {
@@ -89,28 +80,10 @@ fn by_last(asked: &OrderDisplay, reads: &[ReadOf], draft: &mut Draft) -> Result<
     }
 }
 
-/// What is done next by what was read of the customer and of its last order's id.
-fn by_customer(asked: &OrderDisplay, reads: &[ReadOf], draft: &mut Draft) -> Result<Next, Memory>
-    requires { FollowsDisplay asked.now 2 reads.now }
-    ensures { IfOk result (DisplaysNext asked.now 2 reads.now draft.new) }
-{
-    match &reads[1].row {
-        Row::Customer(customer) => {
-            if is_password(customer, &asked.login.pass) {
-                by_last(asked, reads, draft)
-            } else {
-                refusal(draft, Refusal::WrongPassword)?;
-                Ok(Next::Show)
-            }
-        }
-        _ => Ok(Next::Never),
-    }
-}
-
 /// What is done next by what was read of the order.
 fn by_order(asked: &OrderDisplay, reads: &[ReadOf]) -> Next
-    requires { FollowsDisplay asked.now 3 reads.now }
-    ensures { (draft : Draft) → DisplaysNext asked.now 3 reads.now draft result }
+    requires { FollowsDisplay asked.now 4 reads.now }
+    ensures { (draft : Draft) → DisplaysNext asked.now 4 reads.now draft result }
 {
     match &reads[3].row {
         Row::Order(order) => Next::ReadOne(Key::Address(order.get().ship_address)),
@@ -119,24 +92,25 @@ fn by_order(asked: &OrderDisplay, reads: &[ReadOf]) -> Next
 }
 
 /// What is done next by what was read of the order and of its address.
-fn by_address(alloc: Global, asked: &OrderDisplay, reads: &[ReadOf]) -> Result<Next, Memory>
-    requires { FollowsDisplay asked.now 4 reads.now }
-    ensures { IfOk result (λ next. (ask : Ask) (draft : Draft) → AreSeen ask.index.now reads.now
-        → IsNext (FollowsDisplay asked.now) (Request.OrderDisplay asked.now) ask 4 reads.now draft next) }
+fn by_address(asked: &OrderDisplay, reads: &[ReadOf]) -> Next
+    requires { FollowsDisplay asked.now 5 reads.now }
+    ensures { (draft : Draft) → DisplaysNext asked.now 5 reads.now draft result }
 {
-    match (&reads[3].row, &reads[4].row) {
-        (Row::Order(order), Row::Address(address)) => {
-            let country = address.get().text.country;
-            Ok(Next::Read(last_keys(alloc, country, order.get().lines.as_slice())?))
-        }
-        _ => Ok(Next::Never),
+    match &reads[4].row {
+        Row::Address(address) => Next::ReadOne(Key::Country(address.get().text.country)),
+        _ => Next::Never,
     }
 }
 
-/// What is done by all that was read.
-fn by_all(asked: &OrderDisplay, reads: &[ReadOf], draft: &mut Draft) -> Result<Next, Memory>
-    requires { FollowsDisplay asked.now 5 reads.now }
-    ensures { IfOk result (λ next. (round : ℕ) → DisplaysNext asked.now round reads.now draft.new next) }
+/// What is done by all that was read, with the titles of the items that an index knows.
+fn by_all(
+    index: &Index,
+    asked: &OrderDisplay,
+    reads: &[ReadOf],
+    draft: &mut Draft,
+) -> Result<Next, Memory>
+    requires { FollowsDisplay asked.now 6 reads.now }
+    ensures { IfOk result (λ next. (ask : Ask) (round : ℕ) → ask.index.now ≡ index.now → IsNext (FollowsDisplay asked.now) (Request.OrderDisplay asked.now) ask round reads.now draft.new next) }
 {
     match (&reads[3].row, &reads[4].row, &reads[5].row) {
         (Row::Order(order), Row::Address(address), Row::Country(country)) => {
@@ -145,10 +119,10 @@ fn by_all(asked: &OrderDisplay, reads: &[ReadOf], draft: &mut Draft) -> Result<N
             order_page(
                 draft,
                 PageIds::of(asked.ids),
+                index,
                 order.get(),
                 city,
                 country,
-                &reads[6..],
             )?;
             Ok(Next::Show)
         }
@@ -171,14 +145,14 @@ impl<'a> Interaction for &'a OrderDisplay {
         reads: &[ReadOf],
         draft: &mut Draft,
     ) -> Result<Next, Memory> {
-        let _ = ask;
         match round {
             0 => Ok(Next::ReadOne(name_key(alloc, *self)?)),
-            1 => by_name(alloc, *self, reads, draft),
+            1 => by_name(*self, reads, draft),
             2 => by_customer(*self, reads, draft),
-            3 => Ok(by_order(*self, reads)),
-            4 => by_address(alloc, *self, reads),
-            _ => by_all(*self, reads, draft),
+            3 => by_last(*self, reads, draft),
+            4 => Ok(by_order(*self, reads)),
+            5 => Ok(by_address(*self, reads)),
+            _ => by_all(ask.index, *self, reads, draft),
         }
     }
 }

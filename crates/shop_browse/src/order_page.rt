@@ -1,52 +1,52 @@
 //! The page of an order, and that of who has none.
-ghost use Rattle.std.specs.Prelude.{◌++◌, ◌∷◌, [], OnOk, codes, decimal, map};
+ghost use Rattle.std.specs.Prelude.{◌++◌, ◌∷◌, [], ◌≡◌, OnOk, codes, decimal, map};
 ghost use Rattle.std.specs.List.{flat_map};
 ghost use Rattle.shop_model.specs.declared.page.Block.TheVariants as block;
 ghost use Rattle.shop_model.specs.declared.tables.Tables.{Tables};
 ghost use Rattle.shop_model.specs.pages.OrderDisplay as spec;
 ghost use Rattle.shop_model.specs.pages.PageText.{block_line, row_text};
+ghost use Rattle.shop_model.specs.lists.Catalogues.{catalogue};
 ghost use Rattle.shop_model.specs.pages.Priced.{line_cells, lines_table, totals_text};
 ghost use Rattle.shop_model.specs.trade.Money.{charged};
 ghost use Rattle.shop_draft.specs.Drawing.{ids_at};
 ghost use Rattle.shop_draft.specs.Pages.{Shows};
 ghost use Rattle.shop_draft.specs.Templates.{Says};
-ghost use Rattle.shop_browse.specs.OrderDisplay.{AreLabels, IsLabelled, AreLabelled, ShipsTo};
+ghost use Rattle.shop_browse.specs.OrderDisplay.{HaveItems, IsThere, ShipsTo};
 
-use shop_attempt::ReadOf;
 use shop_draft::{Draft, PageIds, Template};
-use shop_history::Row;
 use shop_model::{Line, Order};
+use shop_search::Index;
 use shop_text::Memory;
 
-/// Adds the row of a line, by the label of its item; in every shop there is one.
-fn row(page: &mut Template, line: &Line, label: &Row) -> Result<(), Memory>
-    ensures { OnOk result ((t : Tables) → IsLabelled t line.now label.now → Says page.old page.new (row_text (line_cells t line.now))) }
+/// Adds the row of a line; in every shop there is its item.
+fn row(page: &mut Template, index: &Index, line: &Line) -> Result<(), Memory>
+    ensures { OnOk result ((t : Tables) → catalogue t ≡ index.now → IsThere index.now line.now → Says page.old page.new (row_text (line_cells t line.now))) }
 {
-    match label {
-        Row::Label(label) => page.line_row(line.item, label.title(), line.quantity, line.cost)?,
-        _ => {}
+    match index.details(line.item) {
+        Some(details) => {
+            page.line_row(line.item, &details.get().title, line.quantity, line.cost)?
+        }
+        None => {}
     }
     Ok(())
 }
 
-fn rows(page: &mut Template, lines: &[Line], labels: &[ReadOf]) -> Result<(), Memory>
-    requires { AreLabels lines.now labels.now }
-    ensures { OnOk result ((t : Tables) → AreLabelled t lines.now labels.now → Says page.old page.new (flat_map row_text (map (line_cells t) lines.now))) }
+fn rows(page: &mut Template, index: &Index, lines: &[Line]) -> Result<(), Memory>
+    ensures { OnOk result ((t : Tables) → HaveItems t index.now lines.now → Says page.old page.new (flat_map row_text (map (line_cells t) lines.now))) }
 {
-    for (place, line) in lines.iter().enumerate() {
-        row(page, line, &labels[place].row)?;
+    for line in lines {
+        row(page, index, line)?;
     }
     Ok(())
 }
 
-/// Adds the table of lines, by the labels of their items.
+/// Adds the table of lines.
 #[tactic(auto, unfolding(shop_model::specs::pages::PageText::block_text, shop_model::specs::pages::Priced::lines_table))]
-fn table(page: &mut Template, lines: &[Line], labels: &[ReadOf]) -> Result<(), Memory>
-    requires { AreLabels lines.now labels.now }
-    ensures { OnOk result ((t : Tables) → AreLabelled t lines.now labels.now → Says page.old page.new (block_line (lines_table t lines.now))) }
+fn table(page: &mut Template, index: &Index, lines: &[Line]) -> Result<(), Memory>
+    ensures { OnOk result ((t : Tables) → HaveItems t index.now lines.now → Says page.old page.new (block_line (lines_table t lines.now))) }
 {
     page.put(b"<table>")?;
-    rows(page, lines, labels)?;
+    rows(page, index, lines)?;
     page.put(b"</table>\n")?;
     Ok(())
 }
@@ -68,17 +68,16 @@ fn totals(page: &mut Template, order: &Order) -> Result<(), Memory>
     Ok(())
 }
 
-/// Writes the page of an order, by its city, the name of its country and the labels of its items.
+/// Writes the page of an order, by its city and the name of its country, with the titles that an index knows.
 pub(crate) fn order_page(
     draft: &mut Draft,
     ids: PageIds,
+    index: &Index,
     order: &Order,
     city: &[u8],
     country: &[u8],
-    labels: &[ReadOf],
 ) -> Result<(), Memory>
-    requires { AreLabels order.now.lines labels.now }
-    ensures { OnOk result ((t : Tables) → ShipsTo t order.now.ship_address city.now country.now → AreLabelled t order.now.lines labels.now
+    ensures { OnOk result ((t : Tables) → ShipsTo t order.now.ship_address city.now country.now → HaveItems t index.now order.now.lines
         → Shows draft.new (λ drawn. spec.order_page t (ids_at drawn ids) order.now)) }
 {
     draft.status = 200;
@@ -86,7 +85,7 @@ pub(crate) fn order_page(
     page.begin(b"Order Display")?;
     heading(page, order)?;
     page.placed(order)?;
-    table(page, order.lines.as_slice(), labels)?;
+    table(page, index, order.lines.as_slice())?;
     totals(page, order)?;
     page.ship_to(city, country)?;
     page.paid(&order.card)?;

@@ -10,15 +10,15 @@ ghost use Rattle.shop_draft.specs.Templates.{Adds, Says};
 ghost use Rattle.shop_attempt.specs.Marks.{Looks};
 ghost use Rattle.shop_browse.specs.declared.attempted.Ask.{Ask};
 ghost use Rattle.shop_browse.specs.Attempts.{AttemptedAs, Suits, asking_of};
-ghost use Rattle.shop_browse.specs.Driver.{IsNext};
-ghost use Rattle.shop_browse.specs.ProductDetail.{FollowsProduct, named};
+ghost use Rattle.shop_browse.specs.Driver.{FollowsOne, IsNext};
 
 use crate::driver::{Interaction, Next, attempt_by};
 use crate::{Ask, Attempted};
 use shop_attempt::{ReadOf, Store};
 use shop_draft::{Draft, PageIds, Template, refusal};
-use shop_history::{Key, Label, Row};
-use shop_model::{Item, ProductDetail, Refusal, Request};
+use shop_history::{Key, Row};
+use shop_model::{Author, Item, ProductDetail, Refusal, Request};
+use shop_search::Index;
 use shop_text::Memory;
 use std::alloc::Global;
 
@@ -30,11 +30,11 @@ fn heading(page: &mut Template, item: &Item) -> Result<(), Memory>
 }
 
 #[tactic(auto, using(shop_text::proofs::cited::Plain::escape_append), unfolding(shop_model::specs::pages::PageText::block_text, shop_model::specs::pages::ProductDetail::author_line))]
-fn author_line(page: &mut Template, author: &Label) -> Result<(), Memory>
-    ensures { OnOk result (Says page.old page.new (block_line (block.Para (spec.author_line (named author.now))))) }
+fn author_line(page: &mut Template, author: &Author) -> Result<(), Memory>
+    ensures { OnOk result (Says page.old page.new (block_line (block.Para (spec.author_line author.now)))) }
 {
-    page.text(b"<p>By ", author.first())?;
-    page.text(b" ", author.last())?;
+    page.text(b"<p>By ", &author.first)?;
+    page.text(b" ", &author.last)?;
     page.put(b"</p>\n")?;
     Ok(())
 }
@@ -103,8 +103,8 @@ fn details(page: &mut Template, item: &Item, ids: PageIds) -> Result<(), Memory>
 
 /// Writes the page of an item and its author.
 #[tactic(auto, unfolding(shop_model::specs::pages::PageText::page_text, shop_model::specs::pages::ProductDetail::product_page))]
-fn write_page(draft: &mut Draft, item: &Item, author: &Label, ids: PageIds) -> Result<(), Memory>
-    ensures { OnOk result (Shows draft.new (λ drawn. spec.product_page item.now (named author.now) (ids_at drawn ids))) }
+fn write_page(draft: &mut Draft, item: &Item, author: &Author, ids: PageIds) -> Result<(), Memory>
+    ensures { OnOk result (Shows draft.new (λ drawn. spec.product_page item.now author.now (ids_at drawn ids))) }
 {
     draft.status = 200;
     let page = &mut draft.page;
@@ -119,43 +119,27 @@ fn write_page(draft: &mut Draft, item: &Item, author: &Label, ids: PageIds) -> R
     Ok(())
 }
 
-/// What is done next by what was read of the item.
-fn by_item(asked: &ProductDetail, item: &ReadOf, draft: &mut Draft) -> Result<Next, Memory>
-    requires { item.now.key ≡ key_kinds.Item asked.now.item }
-    ensures { IfOk result (λ next. (ask : Ask) → IsNext (FollowsProduct asked.now) (Request.ProductDetail asked.now) ask 1 (item.now ∷ []) draft.new next) }
-{
-    match &item.row {
-        Row::Absent => {
-            refusal(draft, Refusal::NoItem)?;
-            Ok(Next::Show)
-        }
-        Row::Item(_) => Ok(Next::ReadOne(Key::Label(asked.item))),
-        _ => Ok(Next::Never),
-    }
-}
-
-/// What is done by what was read of the item and of its label.
-fn by_label(
+/// What is done by what was read of the item, whose author an index knows.
+fn by_item(
+    index: &Index,
     asked: &ProductDetail,
     item: &ReadOf,
-    label: &ReadOf,
     draft: &mut Draft,
 ) -> Result<Next, Memory>
-    requires item { item.now.key ≡ key_kinds.Item asked.now.item }
-    requires label { label.now.key ≡ key_kinds.Label asked.now.item }
-    ensures { IfOk result (λ next. (ask : Ask) (round : ℕ) → IsNext (FollowsProduct asked.now) (Request.ProductDetail asked.now) ask round (item.now ∷ label.now ∷ []) draft.new next) }
+    requires { item.now.key ≡ key_kinds.Item asked.now.item }
+    ensures { IfOk result (λ next. (ask : Ask) (round : ℕ) → ask.index.now ≡ index.now → IsNext (FollowsOne (key_kinds.Item asked.now.item)) (Request.ProductDetail asked.now) ask round (item.now ∷ []) draft.new next) }
 {
     match &item.row {
         Row::Absent => {
             refusal(draft, Refusal::NoItem)?;
             Ok(Next::Show)
         }
-        Row::Item(item) => match &label.row {
-            Row::Label(names) => {
-                write_page(draft, item, names, PageIds::of(asked.ids))?;
+        Row::Item(item) => match index.author(item.details.get().author) {
+            Some(author) => {
+                write_page(draft, item, author.get(), PageIds::of(asked.ids))?;
                 Ok(Next::Show)
             }
-            _ => Ok(Next::Never),
+            None => Ok(Next::Never),
         },
         _ => Ok(Next::Never),
     }
@@ -166,7 +150,7 @@ impl<'a> Interaction for &'a ProductDetail {
 
     ghost request = { λ asked. request_kinds.ProductDetail asked.now };
 
-    ghost follows = { λ asked ask. FollowsProduct asked.now };
+    ghost follows = { λ asked ask. FollowsOne (key_kinds.Item asked.now.item) };
 
     fn next(
         &mut self,
@@ -177,14 +161,10 @@ impl<'a> Interaction for &'a ProductDetail {
         draft: &mut Draft,
     ) -> Result<Next, Memory> {
         let _ = alloc;
-        let _ = ask;
         if round == 0 {
             return Ok(Next::ReadOne(Key::Item(self.item)));
         }
-        if round == 1 {
-            return by_item(*self, &reads[0], draft);
-        }
-        by_label(*self, &reads[0], &reads[1], draft)
+        by_item(ask.index, *self, &reads[0], draft)
     }
 }
 

@@ -6,17 +6,18 @@ ghost use Rattle.shop_draft.specs.Pages.{Shows};
 ghost use Rattle.shop_draft.specs.Templates.{Says};
 ghost use Rattle.shop_attempt.specs.Marks.{Looks};
 ghost use Rattle.shop_browse.specs.Attempts.{AttemptedAs, Suits, asking_of};
+ghost use Rattle.shop_browse.specs.Driver.{FollowsOne};
 ghost use Rattle.shop_browse.specs.Home.{drawn_key};
-ghost use Rattle.shop_browse.specs.Labels.{FollowsLabels};
 ghost use Rattle.shop_browse.specs.SearchRequest.{search_in};
 
 use crate::driver::{Interaction, Next, attempt_by};
 use crate::home::drawn_key;
-use crate::labels::{labels_asked, promotion};
+use crate::related::{promotion, related_in};
 use crate::{Ask, Attempted};
 use shop_attempt::{ReadOf, Store};
 use shop_draft::{Draft, PageIds, Template};
 use shop_model::{Request, SearchRequest};
+use shop_search::Index;
 use shop_text::Memory;
 use std::alloc::Global;
 
@@ -29,15 +30,15 @@ fn heading(page: &mut Template) -> Result<(), Memory>
     Ok(())
 }
 
-/// Writes the form of a search, with a promotion by these labels.
-fn write_page(draft: &mut Draft, ids: PageIds, labels: &[ReadOf]) -> Result<(), Memory>
-    ensures { OnOk result (Shows draft.new (λ drawn. search_in (ids_at drawn ids) labels.now)) }
+/// Writes the form of a search, with a promotion of these items.
+fn write_page(draft: &mut Draft, ids: PageIds, index: &Index, items: &[u32]) -> Result<(), Memory>
+    ensures { OnOk result (Shows draft.new (λ drawn. search_in index.now (ids_at drawn ids) items.now)) }
 {
     draft.status = 200;
     let page = &mut draft.page;
     page.begin(b"Search Request")?;
     heading(page)?;
-    promotion(page, ids, labels)?;
+    promotion(page, ids, index, items)?;
     page.search_form(ids)?;
     page.nav(ids)?;
     page.end()?;
@@ -49,7 +50,7 @@ impl<'a> Interaction for &'a SearchRequest {
 
     ghost request = { λ asked. request_kinds.SearchRequest asked.now };
 
-    ghost follows = { λ asked ask. FollowsLabels (drawn_key ask) };
+    ghost follows = { λ asked ask. FollowsOne (drawn_key ask) };
 
     fn next(
         &mut self,
@@ -59,13 +60,17 @@ impl<'a> Interaction for &'a SearchRequest {
         reads: &[ReadOf],
         draft: &mut Draft,
     ) -> Result<Next, Memory> {
-        match labels_asked(alloc, ask, drawn_key(ask), round, reads)? {
-            Some(next) => Ok(next),
-            None => {
-                write_page(draft, PageIds::of(self.ids), &reads[1..])?;
-                Ok(Next::Show)
-            }
+        let _ = alloc;
+        if round == 0 {
+            return Ok(Next::ReadOne(drawn_key(ask)));
         }
+        write_page(
+            draft,
+            PageIds::of(self.ids),
+            ask.index,
+            related_in(&reads[0].row),
+        )?;
+        Ok(Next::Show)
     }
 }
 

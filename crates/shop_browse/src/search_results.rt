@@ -1,4 +1,4 @@
-ghost use Rattle.std.specs.Prelude.{◌≡◌, OnOk};
+ghost use Rattle.std.specs.Prelude.{◌≡◌, [], OnOk};
 ghost use Rattle.std.specs.List.{flat_map};
 ghost use Rattle.shop_model.specs.pages.PageText.{block_line};
 ghost use Rattle.shop_draft.specs.Pages.{Shows};
@@ -6,10 +6,9 @@ ghost use Rattle.shop_draft.specs.Templates.{Says};
 ghost use Rattle.shop_attempt.specs.Marks.{Looks};
 ghost use Rattle.shop_browse.specs.Attempts.{AttemptedAs, Suits, asking_of};
 ghost use Rattle.shop_browse.specs.Lists.{found_page, head_of};
-ghost use Rattle.shop_browse.specs.SearchResults.{FollowsSearch};
 
-use crate::driver::{Interaction, ItemIds, Next, attempt_by};
-use crate::lines::lines_read;
+use crate::driver::{Interaction, Next, attempt_by};
+use crate::lines::lines_of;
 use crate::lists::finish;
 use crate::{Ask, Attempted};
 use shop_attempt::{ReadOf, Store};
@@ -51,7 +50,7 @@ impl<'a> Interaction for &'a SearchResults {
 
     ghost request = { λ asked. request_kinds.SearchResults asked.now };
 
-    ghost follows = { λ asked. FollowsSearch asked.now };
+    ghost follows = { λ asked ask round reads. reads ≡ [] };
 
     fn next(
         &mut self,
@@ -62,11 +61,10 @@ impl<'a> Interaction for &'a SearchResults {
         draft: &mut Draft,
     ) -> Result<Next, Memory> {
         let asked: &SearchResults = self;
-        if round == 0 {
-            let found = ask.index.search(asked.kind, asked.text.bytes())?;
-            return Ok(Next::ReadLabels(ItemIds::Owned(found)));
-        }
-        match lines_read(alloc, reads)? {
+        let _ = round;
+        let _ = reads;
+        let found = ask.index.search(asked.kind, asked.text.bytes())?;
+        match lines_of(alloc, ask.index, found.as_slice())? {
             Some(lines) => {
                 write_page(draft, asked, &lines)?;
                 Ok(Next::ShowList(lines))

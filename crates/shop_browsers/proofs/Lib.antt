@@ -11,5 +11,6 @@ mod Carts
 mod Taking
 mod Decimals
 mod ReplyLinks
+mod Fronts
 mod Graphic
 mod Head

@@ -39,7 +39,7 @@ has_none (byte ∷ bytes) none rest =
 has_text : (text : List ℕ) → Has (escape text) []
 has_text text = has_none (escape text) (none_less text)
 
-has_both : (a b : List ℕ) (xs ys : List (List ℕ)) → Has a xs → Has b ys → Has (a ++ b) (xs ++ ys)
+pub has_both : (a b : List ℕ) (xs ys : List (List ℕ)) → Has a xs → Has b ys → Has (a ++ b) (xs ++ ys)
 has_both a b xs ys first second rest =
     ap links_in (append_assoc a b rest) ∙ first (b ++ rest) ∙ ap (λ zs. xs ++ zs) (second rest) ∙ sym (append_assoc xs ys (links_in rest))
 
@@ -121,14 +121,22 @@ shown_all [] = refl
 shown_all (block ∷ blocks) =
     ap (λ links. shown_in block ++ links) (shown_all blocks) ∙ sym (map_append (link_target block) (flat_map link_target blocks))
 
+-- what stands before the blocks of a page
+abbrev pub page_front : List ℕ → List ℕ
+page_front title = codes "<html><head><title>" ++ escape title ++ codes "</title></head><body>\n"
+
+pub has_front : (title : List ℕ) → Has (page_front title) []
+unfolding links_in
+has_front title = has_tagged (codes "<html><head><title>") title (codes "</title></head><body>\n") (λ rest. refl) (λ rest. refl)
+
 pub page_links : (page : Page) → links_in (page_text page) ≡ map escape (targets_of page)
 unfolding links_in page_text
 page_links page =
-    let head = codes "<html><head><title>" ++ escape page.title ++ codes "</title></head><body>\n" in
+    let head = page_front page.title in
     let lines = flat_map block_line page.blocks in
     let links = flat_map shown_in page.blocks in
     ap links_in (sym (append-nil (page_text page)))
     ∙ has_both (head ++ lines) (codes "</body></html>\n") links []
-    (has_both head lines [] links (has_tagged (codes "<html><head><title>") page.title (codes "</title></head><body>\n") (λ rest. refl) (λ rest. refl)) (has_lines page.blocks))
+    (has_both head lines [] links (has_front page.title) (has_lines page.blocks))
     (λ rest. refl) []
     ∙ append-nil (links ++ []) ∙ append-nil links ∙ shown_all page.blocks

@@ -16,8 +16,8 @@ use Rattle.shop_browsers.proofs.Escaped.{none_of, none_append}
 use Rattle.shop_browsers.proofs.PageLinks.{has_none, page_links}
 
 -- no byte opens a tag
-record IsOpen (bytes : List ℕ) : Type 0 where
-  none : none_of (λ byte. byte == 60) bytes ≡ true
+pub record IsOpen (bytes : List ℕ) : Type 0 where
+  pub none : none_of (λ byte. byte == 60) bytes ≡ true
 
 fixed : (bytes : List ℕ) → none_of (λ byte. byte == 60) bytes ≡ true → IsOpen bytes
 fixed bytes none = record { none = none }
@@ -52,7 +52,7 @@ allows status = cond_both (status == 405) _ _ IsOpen (λ _. fixed _ refl) (λ _.
 closes : (form : Form) → IsOpen (close_line form)
 closes form = cond_both form.close _ _ IsOpen (λ _. fixed _ refl) (λ _. fixed _ refl)
 
-head : (status len : ℕ) (form : Form) → IsOpen (reply_head status len form)
+pub head : (status len : ℕ) (form : Form) → IsOpen (reply_head status len form)
 unfolding reply_head
 head status len form = search (both, number, first_line, allows, closes, fixed) depth 9
 

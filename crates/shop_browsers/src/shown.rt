@@ -15,6 +15,9 @@ use shop_text::unescaped;
 /// The opening of a link.
 const LINK: &[u8] = b"<a href=\"";
 
+/// The bytes that each reply has in front of its page's blocks, whatever its numbers, its phrase and the page's title.
+const REPLY_FRONT: usize = 113;
+
 /// The first customer and the first cart that the links of the page that is shown name.
 pub(crate) fn ids_shown(shown: &[u8]) -> IdsAsked
     ensures { (p : Page) → spec.Shows shown.now p → result ≡ spec.ids_in p }
@@ -24,7 +27,7 @@ pub(crate) fn ids_shown(shown: &[u8]) -> IdsAsked
         c: None,
         cart: None,
     };
-    let mut rest = shown;
+    let mut rest = behind_front(shown);
     while let Some(after) = behind_link(&links, rest) {
         let looked = ids.c.is_some();
         ids = with_target(ids, after);
@@ -34,6 +37,17 @@ pub(crate) fn ids_shown(shown: &[u8]) -> IdsAsked
         rest = after;
     }
     ids
+}
+
+/// What is left of a reply behind bytes in front that open no link; a page's text is left whole.
+fn behind_front(shown: &[u8]) -> &[u8]
+    ensures { (p : Page) → spec.Shows shown.now p → scanned.links_in result.now ≡ scanned.links_in shown.now }
+{
+    if shown.len() >= REPLY_FRONT && shown[0] == b'H' {
+        &shown[REPLY_FRONT..]
+    } else {
+        shown
+    }
 }
 
 /// Whether the links that are left are known to name nothing that these ids lack. A cart is looked for once, where the

@@ -1,7 +1,7 @@
 -- Bytes that are written over others, and a head that is written right before a text.
-use Rattle.std.proofs.Common.{◌≡◌, ℕ, ◌+◌, ◌≤◌, List, [], ◌++◌, length, take, drop, arith, refl, sym, ◌∙◌, append_assoc, length-append, length-take, length-drop}
-use Rattle.std.proofs.lemmas.List.{length-take-le, take-append-le, drop-append-le, take-append-drop, drop_all}
-use Rattle.std.proofs.Math.Seq.{take-append_seam, drop-append_seam}
+use Rattle.std.proofs.Common.{◌≡◌, ℕ, ◌+◌, ◌-◌, ◌≤◌, List, [], ◌∷◌, ◌++◌, length, take, drop, arith, refl, sym, ◌∙◌, append_assoc, length-append, length-take, length-drop}
+use Rattle.std.proofs.lemmas.List.{length-take-le, take-append-le, drop-append-le, take-append-drop, drop-take, drop_all}
+use Rattle.std.proofs.Math.Seq.{take-append_seam, take-append-add, drop-append_seam}
 
 -- the bytes with others in place of those from a place on
 abbrev pub over : List ℕ → List ℕ → ℕ → List ℕ
@@ -38,6 +38,31 @@ front_len : (bytes head : List ℕ) (start room : ℕ) → start + length head �
     → length (take start bytes ++ head) ≡ room
 front_len bytes head start room ends fits =
     omega (arith, length-append (take start bytes) head, length-take-le start bytes (omega arith))
+
+-- what is written behind a place, and the first bytes of it
+pub laid : (bytes more : List ℕ) (at len : ℕ) → at ≤ length bytes → len ≤ length more
+    → take (at + len) (over bytes more at) ≡ take at bytes ++ take len more
+laid bytes more at len fits within =
+    let long = length-take-le at bytes fits in
+    rw (take-append-le (at + len) (take at bytes ++ more) (drop (at + length more) bytes) (omega (arith, long, length-append (take at bytes) more)))
+    (rw long at (take-append-add (take at bytes) more len))
+
+-- a byte behind a place, and behind it bytes without the first of them
+pub behind : (bytes more : List ℕ) (byte at skip len : ℕ) → at + 1 ≤ length bytes → skip ≤ len → len ≤ length more
+    → take (at + 1 + len - skip) (over (over bytes (byte ∷ []) at) (drop skip more) (at + 1)) ≡ take at bytes ++ (byte ∷ drop skip (take len more))
+behind bytes more byte at skip len fits le within =
+    let one = over bytes (byte ∷ []) at in
+    let rest : skip + (len - skip) ≡ len = omega arith in
+    let end : at + 1 + len - skip ≡ at + 1 + (len - skip) = omega arith in
+    let cut : drop skip (take len more) ≡ take (len - skip) (drop skip more) = rw rest at (drop-take skip (len - skip) more) in
+    let long : at + 1 ≤ length one = omega (arith, length-over bytes (byte ∷ []) at fits) in
+    rw (
+      end,
+      cut,
+      laid one (drop skip more) (at + 1) (len - skip) long (omega (arith, length-drop skip more)),
+      laid bytes (byte ∷ []) at 1 (omega arith) (omega arith),
+    )
+    (append_assoc (take at bytes) (byte ∷ []) (take (len - skip) (drop skip more)))
 
 -- a head that ends where the text begins
 pub head_is : (bytes head : List ℕ) (start room : ℕ) → start + length head ≡ room → room ≤ length bytes

@@ -1,53 +1,50 @@
 -- Ids behind a sign.
-use Rattle.std.proofs.Common.{◌≡◌, ℕ, ◌<◌, ◌^◌, List, ◌++◌, Some, None, codes, decimal, refl, append-nil, append_assoc}
+use Rattle.std.proofs.Common.{◌≡◌, ℕ, ◌≤◌, List, [], ◌++◌, Option, Some, None, length, drop, codes, decimal, arith, refl, sym, ◌∙◌, append-nil}
 use Rattle.shop_text.specs.Escape.{escape}
-use Rattle.shop_text.proofs.cited.Plain.{escape_append, plain_decimal}
+use Rattle.shop_text.proofs.cited.Plain.{escape_append}
 use Rattle.shop_model.specs.pages.Targets.{pairs, id_fields}
-use Rattle.shop_model.specs.declared.requests.IdsAsked.{IdsAsked}
-use Rattle.shop_draft.specs.declared.tail.Sign.{Sign}
-use Rattle.shop_draft.specs.declared.tail.Sign.TheVariants.{First, More}
-use Rattle.shop_draft.specs.Links.{IsBehind, ids_behind, sign_text, text_behind}
+use Rattle.shop_history.specs.declared.acts.Drawn.{Drawn}
+use Rattle.shop_draft.specs.Drawing.{ids_at}
+use Rattle.shop_draft.specs.Links.{HasIds, known_ids, marked, ids_behind}
 
--- a number behind its name, where this is plain
-pair : (sign name : List ℕ) (id : ℕ) → escape name ≡ name → id < 2 ^ 64
-    → escape (sign ++ name ++ codes "=" ++ decimal id) ≡ escape sign ++ (name ++ codes "=" ++ decimal id)
-pair sign name id plain fits =
-    rw (
-      escape_append (sign ++ name ++ codes "=") (decimal id),
-      escape_append (sign ++ name) (codes "="),
-      escape_append sign name,
-      plain,
-      plain_decimal id fits,
-    )
-    (simp append_assoc)
+first_id : (mark : List ℕ) (id : ℕ) → escape (mark ++ decimal id ++ []) ≡ escape mark ++ escape (decimal id)
+first_id mark id = rw (append-nil (mark ++ decimal id)) (escape_append mark (decimal id))
 
-pub customer_tail : (c : ℕ) (sign : List ℕ) → c < 2 ^ 64
-    → ids_behind sign (record { c = Some c; cart = None }) ≡ escape sign ++ (codes "c=" ++ decimal c)
+both_ids : (mark second : List ℕ) (id other : ℕ)
+    → escape (mark ++ decimal id ++ (second ++ decimal other ++ [])) ≡ escape mark ++ escape (decimal id) ++ (escape second ++ escape (decimal other))
+both_ids mark second id other =
+    rw (append-nil (second ++ decimal other), escape_append (mark ++ decimal id) (second ++ decimal other), escape_append mark (decimal id), escape_append second (decimal other)) refl
+
+-- the text of an id behind its mark, where there is one
+abbrev pub in_turn : Option ℕ → Option ℕ → List ℕ
+in_turn c cart = marked (codes "&amp;c=") c ++ marked (codes "&amp;cart=") cart
+
+-- ids behind `&`, one after another
+pub one_by_one : (c cart : Option ℕ) → ids_behind (codes "&") (record { c = c; cart = cart }) ≡ in_turn c cart
 unfolding pairs id_fields
-customer_tail c sign fits = rw (append-nil (sign ++ codes "c" ++ codes "=" ++ decimal c)) (pair sign (codes "c") c refl fits)
+one_by_one None None = refl
+one_by_one (Some c) None = first_id (codes "&c=") c ∙ sym (append-nil (codes "&amp;c=" ++ escape (decimal c)))
+one_by_one None (Some cart) = first_id (codes "&cart=") cart
+one_by_one (Some c) (Some cart) = both_ids (codes "&c=") (codes "&cart=") c cart
 
-pub cart_tail : (cart : ℕ) (sign : List ℕ) → cart < 2 ^ 64
-    → ids_behind sign (record { c = None; cart = Some cart }) ≡ escape sign ++ (codes "cart=" ++ decimal cart)
+-- the ids of a page that are known
+pub at_known : (drawn : Drawn) (c cart : Option ℕ) → ids_at drawn (known_ids (record { c = c; cart = cart })) ≡ record { c = c; cart = cart }
+at_known drawn None None = refl
+at_known drawn (Some c) None = refl
+at_known drawn None (Some cart) = refl
+at_known drawn (Some c) (Some cart) = refl
+
+-- ids behind `?` are those behind `&`, but for the sign
+pub as_first : (c cart : Option ℕ) → HasIds (known_ids (record { c = c; cart = cart }))
+    → ids_behind (codes "?") (record { c = c; cart = cart }) ≡ codes "?" ++ drop 5 (ids_behind (codes "&") (record { c = c; cart = cart }))
 unfolding pairs id_fields
-cart_tail cart sign fits =
-    rw (append-nil (sign ++ codes "cart" ++ codes "=" ++ decimal cart)) (pair sign (codes "cart") cart refl fits)
+as_first None None some = absurd (some refl refl)
+as_first (Some c) cart some = refl
+as_first None (Some cart) some = refl
 
-pub both_tail : (c cart : ℕ) (sign : List ℕ) → c < 2 ^ 64 → cart < 2 ^ 64
-    → ids_behind sign (record { c = Some c; cart = Some cart }) ≡ escape sign ++ (codes "c=" ++ decimal c ++ codes "&amp;cart=" ++ decimal cart)
+-- the sign of those behind `&` is there
+pub long : (c cart : Option ℕ) → HasIds (known_ids (record { c = c; cart = cart })) → 5 ≤ length (ids_behind (codes "&") (record { c = c; cart = cart }))
 unfolding pairs id_fields
-both_tail c cart sign fits_c fits_cart =
-    let first = sign ++ codes "c" ++ codes "=" ++ decimal c in
-    let second = codes "&" ++ codes "cart" ++ codes "=" ++ decimal cart in
-    rw (
-      append-nil second,
-      escape_append first second,
-      pair sign (codes "c") c refl fits_c,
-      pair (codes "&") (codes "cart") cart refl fits_cart,
-    )
-    (simp append_assoc)
-
--- what stands behind any sign, behind each
-pub each_sign : (ids : IdsAsked) (text : List ℕ) → IsBehind ids text → (sign : Sign)
-    → ids_behind (sign_text sign) ids ≡ text_behind sign (record { first = codes "?" ++ text; more = codes "&amp;" ++ text })
-each_sign ids text is First = is (codes "?")
-each_sign ids text is More = is (codes "&")
+long None None some = absurd (some refl refl)
+long (Some c) cart some = omega arith
+long None (Some cart) some = omega arith

@@ -1,9 +1,9 @@
 -- Parts of links as they stand in a page.
-use Rattle.std.specs.Prelude.{◌≡◌, ℕ, ◌≤◌, List, [], ◌∷◌, ◌++◌, length, take, drop, sum_by, Option, Some, None, codes, decimal}
+use Rattle.std.specs.Prelude.{◌≡◌, ℕ, ◌≤◌, List, [], ◌∷◌, ◌++◌, length, take, drop, sum_by, Option, Some, None, option_map, codes, decimal}
 use Rattle.shop_text.specs.Texts.{escape}
 use Rattle.shop_model.specs.declared.requests.IdsAsked.{IdsAsked}
 use Rattle.shop_model.specs.pages.Targets.{pairs, id_fields}
-use Rattle.shop_history.specs.declared.acts.Drawn.{Drawn}
+use Rattle.shop_draft.specs.declared.ids.Id.TheVariants.{Known}
 use Rattle.shop_draft.specs.declared.ids.PageIds.{PageIds}
 use Rattle.shop_draft.specs.declared.tail.Sign.{Sign}
 use Rattle.shop_draft.specs.declared.tail.Sign.TheVariants.{First, More}
@@ -23,28 +23,18 @@ link_front target = codes "<a href=\"" ++ escape target ++ codes "\">"
 abbrev pub ids_behind : List ℕ → IdsAsked → List ℕ
 ids_behind sign ids = escape (pairs sign (id_fields ids))
 
--- this stands behind the sign
-abbrev pub IsBehind : IdsAsked → List ℕ → Type 0
-IsBehind ids text = (sign : List ℕ) → ids_behind sign ids ≡ escape sign ++ text
-
 -- a sign
 abbrev pub sign_text : Sign → List ℕ
 sign_text First = codes "?"
 sign_text More = codes "&"
 
--- the ids of a page behind each sign
-pub record TailTexts : Type 0 where
-  pub first : List ℕ
-  pub more : List ℕ
+-- the ids of a page that are known to be these
+abbrev pub known_ids : IdsAsked → PageIds
+known_ids ids = record { c = option_map Known ids.c; cart = option_map Known ids.cart }
 
--- what stands behind a sign, and the sign
-abbrev pub text_behind : Sign → TailTexts → List ℕ
-text_behind First tail = tail.first
-text_behind More tail = tail.more
-
--- whatever is drawn, these are the ids
-abbrev pub IsTail : PageIds → TailTexts → Type 0
-IsTail ids tail = (drawn : Drawn) (sign : Sign) → ids_behind (sign_text sign) (ids_at drawn ids) ≡ text_behind sign tail
+-- a page has ids to hand on
+abbrev pub HasIds : PageIds → Type 0
+HasIds ids = ids.c ≡ None → ids.cart ≡ None → ⊥
 
 -- the ids came to a text behind a sign
 abbrev pub AddsIds : TemplateState → TemplateState → Sign → PageIds → Type 0

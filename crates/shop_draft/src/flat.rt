@@ -1,5 +1,7 @@
-use crate::short::Short;
-use shop_text::{Memory, Text};
+use crate::digits::{digit, digits};
+use crate::short::{SHORT_ROOM, Short};
+use itoa::Buffer;
+use shop_text::{Caption, Memory, Text, entity};
 use std::alloc::Global;
 use std::marker::Model;
 
@@ -21,13 +23,19 @@ impl Model for Flat {
     ghost invariant = { λ f. f.at ≤ length f.bytes.items };
 }
 
-ghost use Rattle.std.specs.Prelude.{◌≡◌, ◌≤◌, ◌+◌, ◌++◌, [], length, take, drop, IfOk, OnOk, OnErr, IfSome};
+ghost use Rattle.std.specs.Prelude.{◌≡◌, ◌≤◌, ◌+◌, ◌++◌, ◌∷◌, [], length, take, drop, decimal, IfOk, OnOk, OnErr, IfSome};
+ghost use Rattle.shop_text.specs.Texts.{escape};
 
-/// The length of a buffer of this one that is made for so many bytes more: at least twice this.
-fn grown(len: usize, more: usize) -> Option<usize>
+/// By how many bytes more than it must a buffer grows: a few wide moves fill so many.
+const STEP: usize = 1024;
+
+/// The length of a buffer of this one that is made for so many bytes more: no more than the memory that it has, where
+/// that is enough.
+fn grown(len: usize, more: usize, capacity: usize) -> Option<usize>
     ensures { IfSome result (λ room. len + more ≤ room) }
 {
-    len.checked_mul(2)?.checked_add(more)
+    let least = len.checked_add(more)?;
+    Some(least.saturating_add(STEP).min(capacity.max(least)))
 }
 
 /// Makes room for so many bytes more.
@@ -37,14 +45,29 @@ fn grow(bytes: &mut Vec<u8>, more: usize) -> Result<(), Memory>
     ensures front { take (length bytes.old.items) bytes.new.items ≡ bytes.old.items }
     ensures room { OnOk result (length bytes.old.items + more ≤ length bytes.new.items) }
 {
-    let Some(len) = grown(bytes.len(), more) else {
+    let Some(len) = grown(bytes.len(), more, bytes.capacity()) else {
         return Err(Memory);
     };
     bytes.resize(len, 0)?;
     Ok(())
 }
 
+/// Makes room for so many bytes more behind a place.
+#[inline(always)]
+fn make_room(bytes: &mut Vec<u8>, at: usize, more: usize) -> Result<(), Memory>
+    requires { at ≤ length bytes.old.items }
+    ensures front { take at bytes.new.items ≡ take at bytes.old.items }
+    ensures kept { at ≤ length bytes.new.items }
+    ensures room { OnOk result (at + more ≤ length bytes.new.items) }
+{
+    if bytes.len() - at < more {
+        grow(bytes, more)?;
+    }
+    Ok(())
+}
+
 /// Writes the bytes over those from a place on.
+#[inline(always)]
 fn write_over(bytes: &mut Vec<u8>, start: usize, more: &[u8])
     requires { start + length more.now ≤ length bytes.old.items }
     ensures { bytes.new.items ≡ take start bytes.old.items ++ more.now ++ drop (start + length more.now) bytes.old.items }
@@ -69,6 +92,16 @@ impl Flat {
     {
         Ok(Flat {
             bytes: vec![in alloc; 0u8; room]?,
+            at: 0,
+        })
+    }
+
+    /// No bytes, with memory for so many; it becomes room in steps.
+    pub(crate) fn with_capacity(alloc: Global, capacity: usize) -> Result<Flat, Memory>
+        ensures { IfOk result (λ flat. flat ≡ []) }
+    {
+        Ok(Flat {
+            bytes: Vec::with_capacity(alloc, capacity)?,
             at: 0,
         })
     }
@@ -103,26 +136,112 @@ impl Flat {
         ensures ok { OnOk result (self.new ≡ self.old ++ bytes.now) }
         ensures err { OnErr result (self.new ≡ self.old) }
     {
-        if self.bytes.len() - self.at < bytes.len() {
-            grow(&mut self.bytes, bytes.len())?;
-        }
+        make_room(&mut self.bytes, self.at, bytes.len())?;
         let end = self.at + bytes.len();
         self.bytes[self.at..end].copy_from_slice(bytes);
         self.at = end;
         Ok(())
     }
 
-    /// Adds a short text at the end. The room behind it is copied with it, to be written over by what comes next.
+    /// Adds a short text at the end, and writes over the room behind it. It is read once there is room, so that it
+    /// goes straight to its place.
     #[inline(always)]
     pub(crate) fn put_short(&mut self, text: &Short) -> Result<(), Memory>
         ensures ok { OnOk result (self.new ≡ self.old ++ text.now) }
         ensures err { OnErr result (self.new ≡ self.old) }
     {
+        make_room(&mut self.bytes, self.at, SHORT_ROOM)?;
         let (bytes, len) = text.parts();
-        let end = self.at + len;
-        self.put(bytes)?;
-        self.truncate(end);
+        write_over(&mut self.bytes, self.at, &bytes);
+        self.at += len;
         Ok(())
+    }
+
+    /// Adds a byte, and behind it a short text without its first bytes, so many.
+    #[inline(always)]
+    pub(crate) fn put_behind(
+        &mut self,
+        byte: u8,
+        text: &Short,
+        skipped: usize,
+    ) -> Result<(), Memory>
+        requires { skipped ≤ length text.now }
+        ensures ok { OnOk result (self.new ≡ self.old ++ byte ∷ drop skipped text.now) }
+        ensures err { OnErr result (self.new ≡ self.old) }
+    {
+        make_room(&mut self.bytes, self.at, 1 + SHORT_ROOM)?;
+        let start = self.at + 1;
+        write_over(&mut self.bytes, self.at, &[byte]);
+        let (bytes, len) = text.parts();
+        let end = start + len - skipped;
+        write_over(&mut self.bytes, start, &bytes[skipped..]);
+        self.at = end;
+        Ok(())
+    }
+
+    /// Adds the digits of a number; up to four need no buffer.
+    #[tactic(auto, using(crate::proofs::cited::FewDigits::decimal_one, crate::proofs::cited::FewDigits::decimal_two, crate::proofs::cited::FewDigits::decimal_three, crate::proofs::cited::FewDigits::decimal_four))]
+    #[inline(never)]
+    pub(crate) fn put_number(&mut self, number: u64) -> Result<(), Memory>
+        ensures ok { OnOk result (self.new ≡ self.old ++ decimal number) }
+        ensures err { OnErr result (self.new ≡ self.old) }
+    {
+        if number < 10 {
+            self.put(&[digit(number)])
+        } else if number < 100 {
+            let (tens, ones) = digits(number);
+            self.put(&[tens, ones])
+        } else if number < 1_000 {
+            let (tens, ones) = digits(number % 100);
+            self.put(&[digit(number / 100), tens, ones])
+        } else if number < 10_000 {
+            let (thousands, hundreds) = digits(number / 100);
+            let (tens, ones) = digits(number % 100);
+            self.put(&[thousands, hundreds, tens, ones])
+        } else {
+            self.put_long_number(number)
+        }
+    }
+
+    /// Adds the digits of a number through a buffer.
+    #[cold]
+    #[inline(never)]
+    fn put_long_number(&mut self, number: u64) -> Result<(), Memory>
+        ensures ok { OnOk result (self.new ≡ self.old ++ decimal number) }
+        ensures err { OnErr result (self.new ≡ self.old) }
+    {
+        let mut buffer = Buffer::new();
+        self.put(buffer.format(number).as_bytes())
+    }
+
+    /// Adds bytes as they stand in a page: whole runs of plain bytes, and an entity for each other byte.
+    #[inline(never)]
+    pub(crate) fn put_escaped(&mut self, bytes: &[u8]) -> Result<(), Memory>
+        ensures ok { OnOk result (self.new ≡ self.old ++ escape bytes.now) }
+        ensures longer { length self.old ≤ length self.new }
+    {
+        let mut start = 0;
+        for (at, byte) in bytes.iter().enumerate() {
+            if let Some(name) = entity(*byte) {
+                self.put(&bytes[start..at])?;
+                self.put(name)?;
+                start = at + 1;
+            }
+        }
+        self.put(&bytes[start..])
+    }
+
+    /// Adds a text as it stands in a page.
+    #[inline(always)]
+    pub(crate) fn put_caption(&mut self, caption: &Caption) -> Result<(), Memory>
+        ensures ok { OnOk result (self.new ≡ self.old ++ escape caption.now) }
+        ensures longer { length self.old ≤ length self.new }
+    {
+        if caption.is_plain() {
+            self.put(caption.bytes())
+        } else {
+            self.put_escaped(caption.bytes())
+        }
     }
 
     /// Writes the bytes over those from a place on.

@@ -1,6 +1,7 @@
-ghost use Rattle.std.specs.Prelude.{◌≡◌};
+ghost use Rattle.std.specs.Prelude.{◌≡◌, ℕ, List, [], false, IsTrue};
 ghost use Rattle.shop_history.specs.declared.acts.Drawn.{Drawn};
 ghost use Rattle.shop_draft.specs.Drawing as spec;
+ghost use Rattle.shop_draft.specs.Links.{HasIds, ids_behind};
 
 use shop_model::IdsAsked;
 
@@ -37,6 +38,19 @@ impl PageIds {
         PageIds {
             c: known(ids.c),
             cart: known(ids.cart),
+        }
+    }
+
+    /// Whether there are none.
+    #[tactic(auto, unfolding(shop_model::specs::pages::Targets::pairs, shop_model::specs::pages::Targets::id_fields))]
+    #[inline(always)]
+    pub(crate) fn is_empty(self) -> bool
+        ensures none { IsTrue result → (drawn : Drawn) (sign : List ℕ) → ids_behind sign (spec.ids_at drawn self) ≡ [] }
+        ensures some { result ≡ false → HasIds self }
+    {
+        match (self.c, self.cart) {
+            (None, None) => true,
+            _ => false,
         }
     }
 }

@@ -5,9 +5,11 @@ ghost use Rattle.shop_model.specs.declared.requests.IdsAsked.{IdsAsked};
 ghost use Rattle.shop_model.specs.pages.Lists.{line_label};
 ghost use Rattle.shop_model.specs.pages.PageText.{block_line};
 ghost use Rattle.shop_model.specs.pages.Targets.{item_link};
-ghost use Rattle.shop_draft.specs.Links.{AreWithin, gaps_sum, links_with};
+ghost use Rattle.shop_draft.specs.Links.{links_with, woven};
 
-use shop_text::{Caption, Memory, Text};
+use crate::flat::Flat;
+use crate::short::Short;
+use shop_text::{Caption, Memory};
 use std::alloc::Global;
 use std::marker::Model;
 
@@ -17,7 +19,7 @@ const LENGTH: usize = 96;
 /// Links to the pages of items, but for the ids that they hand on.
 #[derive(Debug, Drop)]
 pub struct ItemLinks {
-    text: Text,
+    text: Flat,
     /// How many bytes stand before the first place of the ids, and from each place to the next.
     gaps: Vec<usize>,
     /// The bytes before the last place.
@@ -37,7 +39,7 @@ impl Model for ItemLinks {
 /// Adds what stands in a link behind the ids.
 #[tactic(auto, using(shop_text::proofs::cited::Plain::escape_append), unfolding(shop_model::specs::pages::Lists::line_label))]
 fn push_label(
-    text: &mut Text,
+    text: &mut Flat,
     title: &Caption,
     first: &Caption,
     last: &Caption,
@@ -45,13 +47,13 @@ fn push_label(
     ensures text { OnOk result (text.new ≡ text.old ++ (codes "\">" ++ escape (line_label title.now first.now last.now) ++ codes "</a>\n")) }
     ensures longer { length text.old ≤ length text.new }
 {
-    text.push(b"\">")?;
-    text.push_caption(title)?;
-    text.push(b" by ")?;
-    text.push_caption(first)?;
-    text.push(b" ")?;
-    text.push_caption(last)?;
-    text.push(b"</a>\n")?;
+    text.put(b"\">")?;
+    text.put_caption(title)?;
+    text.put(b" by ")?;
+    text.put_caption(first)?;
+    text.put(b" ")?;
+    text.put_caption(last)?;
+    text.put(b"</a>\n")?;
     Ok(())
 }
 
@@ -61,7 +63,7 @@ impl ItemLinks {
         ensures { IfOk result (λ none. (ids : IdsAsked) → links_with ids none ≡ []) }
     {
         Ok(ItemLinks {
-            text: Text::with_capacity(alloc, links.saturating_mul(LENGTH))?,
+            text: Flat::with_capacity(alloc, links.saturating_mul(LENGTH))?,
             gaps: Vec::with_capacity(alloc, links)?,
             front: 0,
         })
@@ -79,8 +81,8 @@ impl ItemLinks {
         ensures { OnOk result ((ids : IdsAsked) → links_with ids self.new
             ≡ links_with ids self.old ++ block_line (item_link (codes "/product_detail") item ids (line_label title.now first.now last.now))) }
     {
-        self.text.push(b"<a href=\"/product_detail?item=")?;
-        self.text.push_decimal(u64::from(item))?;
+        self.text.put(b"<a href=\"/product_detail?item=")?;
+        self.text.put_number(u64::from(item))?;
         let end = self.text.len();
         push_label(&mut self.text, title, first, last)?;
         self.gaps.push(end - self.front)?;
@@ -91,17 +93,23 @@ impl ItemLinks {
     /// The text without ids.
     #[inline(always)]
     pub(crate) fn text(&self) -> &[u8]
-        ensures text { result.now ≡ self.now.text }
-        ensures within { AreWithin result.now self.now.gaps (gaps_sum self.now.gaps) }
+        ensures { result.now ≡ self.now.text }
     {
         self.text.bytes()
     }
 
-    /// How many bytes of it stand before the first place of the ids, and from each to the next.
-    #[inline(always)]
-    pub(crate) fn gaps(&self) -> &[usize]
-        ensures { result.now ≡ self.now.gaps }
+    /// Adds them with this text at the places of the ids.
+    pub(crate) fn put_to(&self, bytes: &mut Flat, ids: &Short) -> Result<(), Memory>
+        ensures text { OnOk result (bytes.new ≡ bytes.old ++ woven ids.now self.now.gaps self.now.text) }
+        ensures longer { length bytes.old ≤ length bytes.new }
     {
-        &self.gaps
+        let mut rest = self.text.bytes();
+        for gap in &self.gaps {
+            let (front, behind) = rest.split_at(*gap);
+            bytes.put(front)?;
+            bytes.put_short(ids)?;
+            rest = behind;
+        }
+        bytes.put(rest)
     }
 }

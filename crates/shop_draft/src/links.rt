@@ -5,11 +5,10 @@ ghost use Rattle.shop_text.specs.Texts.{escape};
 ghost use Rattle.shop_model.specs.pages.PageText.{block_line};
 ghost use Rattle.shop_model.specs.pages.Targets as spec;
 ghost use Rattle.shop_draft.specs.Drawing.{ids_at, maybe_at};
-ghost use Rattle.shop_draft.specs.Links.{AddsIds, links_with, marked, link_front, ids_behind, woven};
+ghost use Rattle.shop_draft.specs.Links.{AddsIds, links_with, marked, link_front, ids_behind};
 ghost use Rattle.shop_draft.specs.Templates.{Adds, Says};
 
-use crate::short::Short;
-use crate::tail::{Sign, Tail, text_of};
+use crate::tail::Sign;
 use crate::{Id, ItemLinks, PageIds, Template};
 use shop_model::{IdsAsked, Subject};
 use shop_text::{Caption, Memory};
@@ -29,6 +28,7 @@ impl Template {
 
     /// Adds ids behind a sign, one after another.
     #[tactic(auto, using(shop_text::proofs::cited::Plain::escape_append), unfolding(shop_model::specs::pages::Targets::pairs, shop_model::specs::pages::Targets::id_fields))]
+    #[inline(never)]
     fn put_each_id(&mut self, sign: Sign, ids: PageIds) -> Result<(), Memory>
         ensures { OnOk result (AddsIds self.old self.new sign ids) }
     {
@@ -49,34 +49,19 @@ impl Template {
         Ok(())
     }
 
-    /// Adds ids behind a sign, and keeps them where they are known.
-    #[inline(never)]
-    fn put_new_ids(&mut self, sign: Sign, ids: PageIds) -> Result<(), Memory>
-        ensures { OnOk result (AddsIds self.old self.new sign ids) }
-    {
-        match Tail::of(ids) {
-            Some(tail) => {
-                self.put_short(tail.text(sign))?;
-                self.keep_ids(tail);
-            }
-            None => self.put_each_id(sign, ids)?,
-        }
-        Ok(())
-    }
-
     /// Adds ids behind a sign. Where there are none nothing is looked up.
     #[tactic(auto, unfolding(shop_model::specs::pages::Targets::pairs, shop_model::specs::pages::Targets::id_fields))]
     #[inline(always)]
     fn put_ids(&mut self, sign: Sign, ids: PageIds) -> Result<(), Memory>
         ensures { OnOk result (AddsIds self.old self.new sign ids) }
     {
-        if let (None, None) = (ids.c, ids.cart) {
+        if ids.is_empty() {
             return Ok(());
         }
-        if self.put_kept_ids(sign, ids)? {
+        if self.put_known_ids(sign, ids)? {
             return Ok(());
         }
-        self.put_new_ids(sign, ids)
+        self.put_each_id(sign, ids)
     }
 
     /// Adds the ids as the first parameters of a target.
@@ -95,29 +80,14 @@ impl Template {
         self.put_ids(Sign::More, ids)
     }
 
-    /// Adds links that were written before, with this text at the places of the ids.
-    fn put_woven(&mut self, links: &ItemLinks, ids: &Short) -> Result<(), Memory>
-        ensures { OnOk result (Says self.old self.new (woven ids.now links.now.gaps links.now.text)) }
-    {
-        let mut rest = links.text();
-        for gap in links.gaps() {
-            let (front, behind) = rest.split_at(*gap);
-            self.put(front)?;
-            self.put_short(ids)?;
-            rest = behind;
-        }
-        self.put(rest)?;
-        Ok(())
-    }
-
     /// Adds links that were written before, with the ids of a request. Where it has none the text stands as it is.
     #[tactic(auto, unfolding(shop_model::specs::pages::Targets::pairs, shop_model::specs::pages::Targets::id_fields))]
     pub fn put_links(&mut self, links: &ItemLinks, ids: IdsAsked) -> Result<(), Memory>
         ensures { OnOk result (Says self.old self.new (links_with ids links.now)) }
     {
-        match text_of(ids.c, ids.cart) {
-            None => self.put(links.text())?,
-            Some(text) => self.put_woven(links, &Short::behind(b"&amp;", &text))?,
+        match (ids.c, ids.cart) {
+            (None, None) => self.put(links.text())?,
+            _ => self.put_woven(links, ids)?,
         }
         Ok(())
     }

@@ -1,6 +1,8 @@
 //! Short texts on the stack.
 ghost use Rattle.std.specs.Prelude.{◌≡◌, ◌≤◌, ◌+◌, ◌++◌, [], length, take, decimal};
+ghost use Rattle.shop_draft.specs.Links.{marked};
 
+use crate::digits::{digit, digits};
 use itoa::Buffer;
 use std::marker::Model;
 
@@ -34,22 +36,12 @@ impl Short {
         }
     }
 
-    /// A text behind a mark.
+    /// Drops all bytes.
     #[inline(always)]
-    pub(crate) fn behind(mark: &[u8], text: &Short) -> Short
-        requires { length mark.now + length text.now ≤ 40 }
-        ensures { result ≡ mark.now ++ text.now }
+    pub(crate) fn clear(&mut self)
+        ensures { self.new ≡ [] }
     {
-        let mut marked = Short::new();
-        marked.put(mark);
-        marked.put(text.bytes());
-        marked
-    }
-
-    fn bytes(&self) -> &[u8]
-        ensures { result.now ≡ self.now }
-    {
-        &self.bytes[..self.len]
+        self.len = 0;
     }
 
     /// Adds the bytes at the end.
@@ -63,24 +55,53 @@ impl Short {
         self.len = end;
     }
 
-    /// Adds a number behind its mark.
+    /// Adds the digits of a number; up to four need no buffer.
+    #[tactic(auto, using(crate::proofs::cited::FewDigits::decimal_one, crate::proofs::cited::FewDigits::decimal_two, crate::proofs::cited::FewDigits::decimal_three, crate::proofs::cited::FewDigits::decimal_four))]
     #[inline(always)]
-    pub(crate) fn put_id(&mut self, mark: &[u8], id: u32)
+    fn put_number(&mut self, id: u32)
+        requires { length self.old ≤ 30 }
+        ensures text { self.new ≡ self.old ++ decimal id }
+        ensures short { length self.new ≤ length self.old + 10 }
+    {
+        let number = u64::from(id);
+        if number < 10 {
+            self.put(&[digit(number)])
+        } else if number < 100 {
+            let (tens, ones) = digits(number);
+            self.put(&[tens, ones])
+        } else if number < 1_000 {
+            let (tens, ones) = digits(number % 100);
+            self.put(&[digit(number / 100), tens, ones])
+        } else if number < 10_000 {
+            let (thousands, hundreds) = digits(number / 100);
+            let (tens, ones) = digits(number % 100);
+            self.put(&[thousands, hundreds, tens, ones])
+        } else {
+            let mut buffer = Buffer::new();
+            self.put(buffer.format(id).as_bytes())
+        }
+    }
+
+    /// Adds an id behind its mark, where there is one.
+    #[tactic(auto, using(shop_text::proofs::cited::Plain::plain_decimal))]
+    #[inline(always)]
+    pub(crate) fn put_id(&mut self, mark: &[u8], id: Option<u32>)
         requires { length self.old + length mark.now ≤ 30 }
-        ensures text { self.new ≡ self.old ++ mark.now ++ decimal id }
+        ensures text { self.new ≡ self.old ++ marked mark.now id }
         ensures short { length self.new ≤ length self.old + length mark.now + 10 }
     {
-        let mut buffer = Buffer::new();
-        self.put(mark);
-        self.put(buffer.format(id).as_bytes());
+        if let Some(id) = id {
+            self.put(mark);
+            self.put_number(id);
+        }
     }
 
     /// The bytes and the room behind them, and how many are the text's.
     #[inline(always)]
-    pub(crate) fn parts(&self) -> (&[u8; SHORT_ROOM], usize)
-        ensures text { take result.1 result.0.now ≡ self.now }
+    pub(crate) fn parts(&self) -> ([u8; SHORT_ROOM], usize)
+        ensures text { take result.1 result.0 ≡ self.now }
         ensures fits { result.1 ≤ 40 }
     {
-        (&self.bytes, self.len)
+        (self.bytes, self.len)
     }
 }

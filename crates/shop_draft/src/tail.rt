@@ -1,13 +1,18 @@
 //! The ids that the links of a page hand on, written once.
-ghost use Rattle.std.specs.Prelude.{◌≡◌, ◌≤◌, length, Some, None, IsTrue, IfSome, MatchOption};
+ghost use Rattle.std.specs.Prelude.{◌≡◌, ◌++◌, None, option_map, codes, IsTrue, IfSome, OnOk, OnErr};
 ghost use Rattle.shop_text.specs.Texts.{escape};
-ghost use Rattle.shop_history.specs.declared.acts.Drawn.{Drawn};
-ghost use Rattle.shop_draft.specs.Drawing.{maybe_at};
-ghost use Rattle.shop_draft.specs.Links.{IsBehind, IsTail, sign_text, text_behind};
+ghost use Rattle.shop_draft.specs.declared.ids.Id.TheVariants.{Known};
+ghost use Rattle.shop_draft.specs.Links.{HasIds, ids_behind, known_ids, sign_text};
 
+use crate::flat::Flat;
 use crate::short::Short;
 use crate::{Id, PageIds};
+use shop_model::IdsAsked;
+use shop_text::Memory;
 use std::marker::Model;
+
+/// The bytes of `&` in a page.
+const MORE_LENGTH: usize = 5;
 
 /// What stands in front of ids.
 #[derive(Clone, Copy, Debug, PartialEq, Eq)]
@@ -31,71 +36,28 @@ impl Sign {
     }
 }
 
-/// Ids that are known behind each sign.
+/// Ids whose text is known, as it stands behind `&`.
 #[derive(Debug, Drop)]
 pub(crate) struct Tail {
-    ids: PageIds,
-    first: Short,
-    more: Short,
+    ids: IdsAsked,
+    text: Short,
 }
 
 impl Model for Tail {
-    ghost use Rattle.shop_draft.specs.Links.{TailTexts, IsTail};
+    ghost use Rattle.std.specs.Prelude.{◌≡◌, codes};
+    ghost use Rattle.shop_model.specs.declared.requests.IdsAsked.{IdsAsked};
+    ghost use Rattle.shop_draft.specs.Links.{ids_behind};
 
-    ghost Value = { TailTexts };
+    ghost Value = { IdsAsked };
 
-    ghost view = { λ t. record { first = t.first; more = t.more } };
+    ghost view = { λ t. t.ids };
 
-    ghost invariant = { λ t. IsTail t.ids (record { first = t.first; more = t.more }) };
-}
-
-/// The text of a customer's id.
-fn customer_text(c: u32) -> Short
-    ensures text { IsBehind (record { c = Some c; cart = None }) result }
-    ensures short { length result ≤ 35 }
-{
-    let mut text = Short::new();
-    text.put_id(b"c=", c);
-    text
-}
-
-/// The text of a cart's id.
-fn cart_text(cart: u32) -> Short
-    ensures text { IsBehind (record { c = None; cart = Some cart }) result }
-    ensures short { length result ≤ 35 }
-{
-    let mut text = Short::new();
-    text.put_id(b"cart=", cart);
-    text
-}
-
-/// The text of both.
-fn both_text(c: u32, cart: u32) -> Short
-    ensures text { IsBehind (record { c = Some c; cart = Some cart }) result }
-    ensures short { length result ≤ 35 }
-{
-    let mut text = Short::new();
-    text.put_id(b"c=", c);
-    text.put_id(b"&amp;cart=", cart);
-    text
-}
-
-/// The text of ids; none where there are none.
-pub(crate) fn text_of(c: Option<u32>, cart: Option<u32>) -> Option<Short>
-    ensures text { MatchOption result ((c ≡ None) × (cart ≡ None)) (IsBehind (record { c = c; cart = cart })) }
-    ensures short { IfSome result (λ text. length text ≤ 35) }
-{
-    match (c, cart) {
-        (None, None) => None,
-        (Some(c), None) => Some(customer_text(c)),
-        (None, Some(cart)) => Some(cart_text(cart)),
-        (Some(c), Some(cart)) => Some(both_text(c, cart)),
-    }
+    ghost invariant = { λ t. t.text ≡ ids_behind (codes "&") t.ids };
 }
 
 /// The number of an id, where it is known.
 fn number_of(id: Option<Id>) -> Option<Option<u32>>
-    ensures { IfSome result (λ number. (drawn : Drawn) → maybe_at drawn id ≡ number) }
+    ensures { IfSome result (λ number. id ≡ option_map Known number) }
 {
     match id {
         None => Some(None),
@@ -106,47 +68,91 @@ fn number_of(id: Option<Id>) -> Option<Option<u32>>
     }
 }
 
-/// Whether both are none, or the same number.
+/// Whether an id is known to be this one, or there is none.
 #[inline(always)]
-fn is_same_id(one: Option<Id>, other: Option<Id>) -> bool
-    ensures { IsTrue result → one ≡ other }
+fn is_known_as(id: Option<Id>, number: Option<u32>) -> bool
+    ensures { IsTrue result → id ≡ option_map Known number }
 {
-    match (one, other) {
+    match (id, number) {
         (None, None) => true,
-        (Some(Id::Known(one)), Some(Id::Known(other))) => one == other,
+        (Some(Id::Known(id)), Some(number)) => id == number,
         _ => false,
     }
 }
 
 impl Tail {
-    /// That of these ids, where they are known and there is one.
-    pub(crate) fn of(ids: PageIds) -> Option<Tail>
-        ensures { IfSome result (IsTail ids) }
+    /// That of no ids.
+    #[tactic(auto, unfolding(shop_model::specs::pages::Targets::pairs, shop_model::specs::pages::Targets::id_fields))]
+    pub(crate) fn new() -> Tail
+        ensures { result ≡ record { c = None; cart = None } }
     {
-        let text = text_of(number_of(ids.c)?, number_of(ids.cart)?)?;
-        Some(Tail {
-            ids,
-            first: Short::behind(b"?", &text),
-            more: Short::behind(b"&amp;", &text),
-        })
+        Tail {
+            ids: IdsAsked {
+                c: None,
+                cart: None,
+            },
+            text: Short::new(),
+        }
     }
 
-    /// Whether it is that of these ids.
-    #[inline(always)]
-    pub(crate) fn is_of(&self, ids: PageIds) -> bool
-        ensures { IsTrue result → IsTail ids self.now }
+    /// Takes these ids in place of the last.
+    pub(crate) fn write(&mut self, ids: IdsAsked)
+        ensures { self.new ≡ ids }
     {
-        is_same_id(self.ids.c, ids.c) && is_same_id(self.ids.cart, ids.cart)
+        self.ids = ids;
+        self.text.clear();
+        self.text.put_id(b"&amp;c=", ids.c);
+        self.text.put_id(b"&amp;cart=", ids.cart);
     }
 
-    /// The ids behind a sign.
+    /// Whether these are its ids.
     #[inline(always)]
-    pub(crate) fn text(&self, sign: Sign) -> &Short
-        ensures { result.now ≡ text_behind sign self.now }
+    fn is_of(&self, ids: PageIds) -> bool
+        ensures { IsTrue result → ids ≡ known_ids self.now }
+    {
+        is_known_as(ids.c, self.ids.c) && is_known_as(ids.cart, self.ids.cart)
+    }
+
+    /// Takes the ids of a page in place of the last, where they are known; answers whether they are.
+    #[inline(never)]
+    fn write_known(&mut self, ids: PageIds) -> bool
+        ensures { IsTrue result → ids ≡ known_ids self.new }
+    {
+        match (number_of(ids.c), number_of(ids.cart)) {
+            (Some(c), Some(cart)) => {
+                self.write(IdsAsked { c, cart });
+                true
+            }
+            _ => false,
+        }
+    }
+
+    /// Takes the ids of a page where they are known and others than the last; answers whether they are known.
+    #[inline(always)]
+    pub(crate) fn keep(&mut self, ids: PageIds) -> bool
+        ensures { IsTrue result → ids ≡ known_ids self.new }
+    {
+        self.is_of(ids) || self.write_known(ids)
+    }
+
+    /// The text behind `&`.
+    #[inline(always)]
+    pub(crate) fn text(&self) -> &Short
+        ensures { result.now ≡ ids_behind (codes "&") self.now }
+    {
+        &self.text
+    }
+
+    /// Adds the ids behind a sign.
+    #[inline(always)]
+    pub(crate) fn put_to(&self, bytes: &mut Flat, sign: Sign) -> Result<(), Memory>
+        requires { HasIds (known_ids self.now) }
+        ensures ok { OnOk result (bytes.new ≡ bytes.old ++ ids_behind (sign_text sign) self.now) }
+        ensures err { OnErr result (bytes.new ≡ bytes.old) }
     {
         match sign {
-            Sign::First => &self.first,
-            Sign::More => &self.more,
+            Sign::First => bytes.put_behind(b'?', &self.text, MORE_LENGTH),
+            Sign::More => bytes.put_short(&self.text),
         }
     }
 }

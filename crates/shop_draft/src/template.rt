@@ -1,18 +1,19 @@
-ghost use Rattle.std.specs.Prelude.{◌≡◌, ℕ, ◌≤◌, ◌<◌, ◌^◌, ◌+◌, ◌++◌, [], length, false, IsTrue, IfOk, OnOk, IfSome};
+ghost use Rattle.std.specs.Prelude.{◌≡◌, ℕ, ◌≤◌, ◌<◌, ◌^◌, ◌+◌, ◌++◌, [], length, false, decimal, IsTrue, IfOk, OnOk, IfSome};
 ghost use Rattle.shop_history.specs.declared.acts.Drawn.{Drawn};
+ghost use Rattle.shop_text.specs.Texts.{escape};
 ghost use Rattle.shop_draft.specs.Drawing.{hole_text};
-ghost use Rattle.shop_draft.specs.Links.{AddsIds};
+ghost use Rattle.shop_draft.specs.Links.{AddsIds, HasIds, links_with};
 ghost use Rattle.shop_draft.specs.Templates as spec;
 ghost use Rattle.shop_draft.specs.Templates.{Adds, Says, IsText, filled};
 
-use crate::PageIds;
 use crate::flat::Flat;
 use crate::holes::{HOLE_ROOM, Hole, hole_len, put_hole};
 use crate::out::Out;
-use crate::short::Short;
 use crate::tail::{Sign, Tail};
+use crate::{ItemLinks, PageIds};
 use shop_history::Drawn;
-use shop_text::{Memory, Text};
+use shop_model::IdsAsked;
+use shop_text::{Caption, Memory, Text};
 use std::alloc::Global;
 use std::marker::Model;
 
@@ -37,8 +38,8 @@ pub struct Template {
     gaps: Vec<Gap>,
     /// The bytes of the text before the last hole.
     front: usize,
-    /// The ids that its links hand on, once they were written.
-    tail: Option<Tail>,
+    /// The ids that its links hand on, or those of a page before.
+    tail: Tail,
 }
 
 impl Model for Template {
@@ -63,7 +64,7 @@ impl Template {
             start: HEAD_ROOM,
             gaps: Vec::new(alloc),
             front: 0,
-            tail: None,
+            tail: Tail::new(),
         };
         template.clear();
         Ok(template)
@@ -77,7 +78,6 @@ impl Template {
         self.start = HEAD_ROOM;
         self.gaps.clear();
         self.front = 0;
-        self.tail = None;
     }
 
     /// Adds markup as it stands.
@@ -89,35 +89,55 @@ impl Template {
         Ok(())
     }
 
-    /// Adds ids behind a sign, where they are those that are kept; answers whether they are.
+    /// Adds the digits of a number.
+    #[tactic(auto, using(shop_text::proofs::cited::Plain::plain_decimal))]
     #[inline(always)]
-    pub(crate) fn put_kept_ids(&mut self, sign: Sign, ids: PageIds) -> Result<bool, Memory>
-        ensures added { IfOk result (λ kept. IsTrue kept → AddsIds self.old self.new sign ids) }
-        ensures same { IfOk result (λ kept. kept ≡ false → self.new ≡ self.old) }
+    pub(crate) fn put_number(&mut self, number: u64) -> Result<(), Memory>
+        ensures { OnOk result (Says self.old self.new (escape (decimal number))) }
     {
-        match &self.tail {
-            Some(tail) if tail.is_of(ids) => {
-                self.bytes.put_short(tail.text(sign))?;
-                Ok(true)
-            }
-            _ => Ok(false),
-        }
-    }
-
-    /// Adds a short text.
-    #[inline(always)]
-    pub(crate) fn put_short(&mut self, text: &Short) -> Result<(), Memory>
-        ensures { OnOk result (Says self.old self.new text.now) }
-    {
-        self.bytes.put_short(text)?;
+        self.bytes.put_number(number)?;
         Ok(())
     }
 
-    /// Keeps ids, to be added behind further signs.
-    pub(crate) fn keep_ids(&mut self, tail: Tail)
-        ensures { self.new ≡ self.old }
+    /// Adds bytes as they stand in a page.
+    #[inline(always)]
+    pub(crate) fn put_escaped(&mut self, bytes: &[u8]) -> Result<(), Memory>
+        ensures { OnOk result (Says self.old self.new (escape bytes.now)) }
     {
-        self.tail = Some(tail);
+        self.bytes.put_escaped(bytes)?;
+        Ok(())
+    }
+
+    /// Adds a text as it stands in a page.
+    #[inline(always)]
+    pub(crate) fn put_caption(&mut self, caption: &Caption) -> Result<(), Memory>
+        ensures { OnOk result (Says self.old self.new (escape caption.now)) }
+    {
+        self.bytes.put_caption(caption)?;
+        Ok(())
+    }
+
+    /// Adds ids behind a sign, where they are known; answers whether they are. They are kept for further signs.
+    #[inline(always)]
+    pub(crate) fn put_known_ids(&mut self, sign: Sign, ids: PageIds) -> Result<bool, Memory>
+        requires { HasIds ids }
+        ensures added { IfOk result (λ known. IsTrue known → AddsIds self.old self.new sign ids) }
+        ensures same { IfOk result (λ known. known ≡ false → self.new ≡ self.old) }
+    {
+        if !self.tail.keep(ids) {
+            return Ok(false);
+        }
+        self.tail.put_to(&mut self.bytes, sign)?;
+        Ok(true)
+    }
+
+    /// Adds links that were written before, with these ids.
+    pub(crate) fn put_woven(&mut self, links: &ItemLinks, ids: IdsAsked) -> Result<(), Memory>
+        ensures { OnOk result (Says self.old self.new (links_with ids links.now)) }
+    {
+        self.tail.write(ids);
+        links.put_to(&mut self.bytes, self.tail.text())?;
+        Ok(())
     }
 
     /// Adds a hole.

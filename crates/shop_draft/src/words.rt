@@ -8,75 +8,9 @@ ghost use Rattle.shop_draft.specs.Templates.{Adds, Says};
 use crate::digits::{digit, digits};
 use crate::{Hole, Id, Template};
 use itoa::Buffer;
-use shop_text::{Caption, Memory, day_bytes, entity, syllable};
+use shop_text::{Caption, Memory, day_bytes, syllable};
 
 impl Template {
-    /// Adds bytes as they stand in a page: whole runs of plain bytes, and an entity for each other byte.
-    #[inline(never)]
-    fn put_escaped(&mut self, bytes: &[u8]) -> Result<(), Memory>
-        ensures { OnOk result (Says self.old self.new (escape bytes.now)) }
-    {
-        let mut start = 0;
-        for (at, byte) in bytes.iter().enumerate() {
-            if let Some(name) = entity(*byte) {
-                self.put(&bytes[start..at])?;
-                self.put(name)?;
-                start = at + 1;
-            }
-        }
-        self.put(&bytes[start..])?;
-        Ok(())
-    }
-
-    /// Adds a text as it stands in a page.
-    #[inline(always)]
-    fn put_caption(&mut self, caption: &Caption) -> Result<(), Memory>
-        ensures { OnOk result (Says self.old self.new (escape caption.now)) }
-    {
-        if caption.is_plain() {
-            self.put(caption.bytes())?;
-        } else {
-            self.put_escaped(caption.bytes())?;
-        }
-        Ok(())
-    }
-
-    /// Adds the digits of a number; up to four need no buffer.
-    #[tactic(auto, using(shop_text::proofs::cited::Plain::plain_decimal, crate::proofs::cited::FewDigits::decimal_one, crate::proofs::cited::FewDigits::decimal_two, crate::proofs::cited::FewDigits::decimal_three, crate::proofs::cited::FewDigits::decimal_four))]
-    #[inline(never)]
-    fn put_number(&mut self, number: u64) -> Result<(), Memory>
-        ensures { OnOk result (Says self.old self.new (escape (decimal number))) }
-    {
-        if number < 10 {
-            self.put(&[digit(number)])?;
-        } else if number < 100 {
-            let (tens, ones) = digits(number);
-            self.put(&[tens, ones])?;
-        } else if number < 1_000 {
-            let (tens, ones) = digits(number % 100);
-            self.put(&[digit(number / 100), tens, ones])?;
-        } else if number < 10_000 {
-            let (thousands, hundreds) = digits(number / 100);
-            let (tens, ones) = digits(number % 100);
-            self.put(&[thousands, hundreds, tens, ones])?;
-        } else {
-            self.put_long_number(number)?;
-        }
-        Ok(())
-    }
-
-    /// Adds the digits of a number through a buffer.
-    #[tactic(auto, using(shop_text::proofs::cited::Plain::plain_decimal))]
-    #[cold]
-    #[inline(never)]
-    fn put_long_number(&mut self, number: u64) -> Result<(), Memory>
-        ensures { OnOk result (Says self.old self.new (escape (decimal number))) }
-    {
-        let mut buffer = Buffer::new();
-        self.put(buffer.format(number).as_bytes())?;
-        Ok(())
-    }
-
     /// Adds an amount in cents. Most are below a hundred units.
     #[inline(never)]
     fn put_cents(&mut self, cents: u64) -> Result<(), Memory>

@@ -1,8 +1,6 @@
-ghost use Rattle.std.specs.Prelude.{◌≡◌, ◌↔◌, IfOk, IsTrue};
+ghost use Rattle.std.specs.Prelude.{◌≡◌, ◌↔◌, IsTrue};
 
-use shop_model::CardType;
-use shop_text::{Memory, Text};
-use std::alloc::Global;
+use shop_model::{CardNumber, CardType, Month};
 use std::marker::Model;
 
 /// What a gateway is to take from a card. Caller, call and cents together are its key.
@@ -14,10 +12,9 @@ pub struct Charge {
     pub call: u64,
     pub cents: u64,
     pub card: CardType,
-    /// The number on the card: 12 to 19 digits.
-    pub number: Text,
-    /// The month in which the card expires, as `YYYY-MM`.
-    pub expiry: Text,
+    pub number: CardNumber,
+    /// When the card expires.
+    pub expiry: Month,
 }
 
 impl Model for Charge {
@@ -33,17 +30,18 @@ impl Model for Charge {
 }
 
 impl Charge {
-    pub fn copy(&self, alloc: Global) -> Result<Charge, Memory>
-        ensures { IfOk result (λ copy. copy ≡ self.now) }
+    /// The same charge again; takes no memory.
+    pub fn copy(&self) -> Charge
+        ensures { result ≡ self.now }
     {
-        Ok(Charge {
+        Charge {
             caller: self.caller,
             call: self.call,
             cents: self.cents,
             card: self.card,
-            number: Text::copy(alloc, self.number.bytes())?,
-            expiry: Text::copy(alloc, self.expiry.bytes())?,
-        })
+            number: self.number,
+            expiry: self.expiry,
+        }
     }
 
     /// Whether the two are equal in all.

@@ -8,7 +8,6 @@ use Rattle.shop_edges.specs.Charges.{ChargeValue}
 use Rattle.shop_edges.specs.declared.gateway.Answer.{Answer}
 use Rattle.shop_gateway.specs.Verdicts.{same_charge}
 use Rattle.shop_gateway.specs.declared.charge_key.ChargeKey.{ChargeKey}
-use Rattle.shop_gateway.specs.declared.notes.Blank.{Blank}
 
 -- the answer is to another charge
 abbrev pub is_other : ChargeValue → Answer → Bool
@@ -47,9 +46,6 @@ charge_key charge = record {
 abbrev pub alike : ChargeKey → ChargeKey → Bool
 alike a b =
     a.caller == b.caller && (a.call == b.call && (a.cents == b.cents && (a.card == b.card && (bytes_eq a.number b.number && bytes_eq a.expiry b.expiry))))
-
-abbrev pub blank_of : ChargeValue → Blank
-blank_of charge = record { key = charge_key charge; first = charge; again = charge }
 
 -- what contracts see of notes: all answers, and how many more come without memory
 pub record NotesValue : Type 0 where

@@ -1,11 +1,9 @@
 //! What tells charges apart.
-ghost use Rattle.std.specs.Prelude.{◌≡◌, IfOk};
+ghost use Rattle.std.specs.Prelude.{◌≡◌};
 ghost use Rattle.shop_gateway.specs.Notes as spec;
 
 use shop_edges::Charge;
-use shop_model::CardType;
-use shop_text::{Memory, Text};
-use std::alloc::Global;
+use shop_model::{CardNumber, CardType, Month};
 
 /// All of a charge, to find it by.
 #[derive(Debug, PartialEq, Eq, Hash, Drop)]
@@ -14,8 +12,8 @@ pub(crate) struct ChargeKey {
     call: u64,
     cents: u64,
     card: u8,
-    number: Text,
-    expiry: Text,
+    number: CardNumber,
+    expiry: Month,
 }
 
 /// The number of a card's type.
@@ -33,16 +31,16 @@ fn card_code(card: &CardType) -> u8
 
 impl ChargeKey {
     /// The key of a charge.
-    pub(crate) fn of(alloc: Global, charge: &Charge) -> Result<ChargeKey, Memory>
-        ensures { IfOk result (λ key. key ≡ spec.charge_key charge.now) }
+    pub(crate) fn of(charge: &Charge) -> ChargeKey
+        ensures { result ≡ spec.charge_key charge.now }
     {
-        Ok(ChargeKey {
+        ChargeKey {
             caller: charge.caller,
             call: charge.call,
             cents: charge.cents,
             card: card_code(&charge.card),
-            number: Text::copy(alloc, charge.number.bytes())?,
-            expiry: Text::copy(alloc, charge.expiry.bytes())?,
-        })
+            number: charge.number,
+            expiry: charge.expiry,
+        }
     }
 }

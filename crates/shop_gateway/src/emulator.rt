@@ -50,7 +50,7 @@ fn next_answer(
         return entry.share();
     }
     let answer = Answer {
-        charge: charge.copy(alloc)?,
+        charge: charge.copy(),
         verdict: Verdict::Denied(Reason::Reused),
     };
     Shared::new(alloc, answer)
@@ -62,7 +62,7 @@ fn first_answer(alloc: Global, charge: &Charge) -> Result<Shared<Answer>, Memory
     ensures said { IfOk result (λ answer. IsSaid answer.verdict) }
 {
     let answer = Answer {
-        charge: charge.copy(alloc)?,
+        charge: charge.copy(),
         verdict: first_verdict(charge),
     };
     Shared::new(alloc, answer)

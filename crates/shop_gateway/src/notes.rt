@@ -1,4 +1,4 @@
-ghost use Rattle.std.specs.Prelude.{◌≡◌, ◌<◌, ◌++◌, ◌∷◌, [], IfOk, IsTrue, ◌↔◌, OnOk, if◌then◌else◌, vec_len, vec_capacity};
+ghost use Rattle.std.specs.Prelude.{◌≡◌, ◌<◌, ◌++◌, ◌∷◌, [], IsTrue, ◌↔◌, OnOk, if◌then◌else◌, vec_len, vec_capacity};
 ghost use Rattle.shop_edges.specs.Gateways.{Answered, GatewayCause, answers_of};
 ghost use Rattle.shop_gateway.specs.Emulators.{IsSaid};
 ghost use Rattle.shop_gateway.specs.Notes as spec;
@@ -30,24 +30,6 @@ impl Model for Notes {
     ghost invariant = { λ n. AreNoted n.all.items n.firsts.items (contains alike n.charges) };
 }
 
-/// Memory for what will be answered to a charge.
-#[derive(Debug, Drop)]
-struct Blank {
-    key: ChargeKey,
-    first: Charge,
-    again: Charge,
-}
-
-fn blank_of(alloc: Global, charge: &Charge) -> Result<Blank, Memory>
-    ensures { IfOk result (λ blank. blank ≡ spec.blank_of charge.now) }
-{
-    Ok(Blank {
-        key: ChargeKey::of(alloc, charge)?,
-        first: charge.copy(alloc)?,
-        again: charge.copy(alloc)?,
-    })
-}
-
 /// Whether it is an approval or a denial.
 fn is_said(verdict: &Verdict) -> bool
     ensures { IsTrue result ↔ IsSaid verdict.now }
@@ -55,6 +37,16 @@ fn is_said(verdict: &Verdict) -> bool
     match verdict {
         Verdict::Approved(_) | Verdict::Denied(_) => true,
         Verdict::Failed | Verdict::Memory => false,
+    }
+}
+
+/// The answer to a charge.
+fn answer_to(charge: &Charge, verdict: &Verdict) -> Answer
+    ensures { result ≡ record { charge = charge.now; verdict = verdict.now } }
+{
+    Answer {
+        charge: charge.copy(),
+        verdict: *verdict,
     }
 }
 
@@ -100,47 +92,39 @@ impl Notes {
         ensures cause { GatewayCause (G.faults gateway.old) (G.faults gateway.new) result }
         ensures noted { self.new.all ≡ self.old.all ++ answers_of charge.now result }
     {
-        let Ok(blank) = self.make_room(charge) else {
+        if self.make_room().is_err() {
             return Verdict::Memory;
-        };
+        }
         let verdict = gateway.authorize(charge);
-        self.note(blank, &verdict);
+        self.note(charge, &verdict);
         verdict
     }
 
     /// Makes room for what will be answered to a charge.
-    fn make_room(&mut self, charge: &Charge) -> Result<Blank, Memory>
+    fn make_room(&mut self) -> Result<(), Memory>
         ensures all { self.new.all ≡ self.old.all }
         ensures room { OnOk result (0 < self.new.room) }
-        ensures blank { IfOk result (λ blank. blank ≡ spec.blank_of charge.now) }
     {
-        let blank = blank_of(*self.all.allocator(), charge)?;
         self.firsts.reserve(1)?;
         self.charges.reserve(1)?;
         self.all.reserve(1)?;
-        Ok(blank)
+        Ok(())
     }
 
     /// Notes an approval or a denial; takes no memory.
-    fn note(&mut self, blank: Blank, verdict: &Verdict)
-        requires room { 0 < self.old.room }
-        requires blank { blank ≡ spec.blank_of blank.again }
-        ensures { self.new.all ≡ self.old.all ++ answers_of blank.again verdict.now }
+    fn note(&mut self, charge: &Charge, verdict: &Verdict)
+        requires { 0 < self.old.room }
+        ensures { self.new.all ≡ self.old.all ++ answers_of charge.now verdict.now }
     {
         if !is_said(verdict) {
             return;
         }
-        match self.charges.insert(blank.key) {
+        match self.charges.insert(ChargeKey::of(charge)) {
             Ok(is_first) => {
-                let answer = Answer {
-                    charge: blank.first,
-                    verdict: *verdict,
-                };
-                push_first(&mut self.firsts, is_first, answer);
-                self.all.push_reserved(Answer {
-                    charge: blank.again,
-                    verdict: *verdict,
-                });
+                let first = answer_to(charge, verdict);
+                let again = answer_to(charge, verdict);
+                push_first(&mut self.firsts, is_first, first);
+                self.all.push_reserved(again);
             }
             Err(_) => unreachable!(),
         }

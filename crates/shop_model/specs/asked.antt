@@ -5,6 +5,8 @@ pub mod CartAsked
 pub mod CartRequestView
 pub mod CustomersAsked
 pub mod Cards
+pub mod Padded
+pub mod CardNumberView
 pub mod PurchaseAsked
 pub mod CardView
 pub mod PurchaseView

@@ -1,5 +1,5 @@
 //! What is asked for by customers, and by those who become one.
-use crate::{AddressText, CardType, IdsAsked, ShipType};
+use crate::{AddressText, CardNumber, CardType, IdsAsked, Month, ShipType};
 use shop_text::{Boxed, Text};
 use std::marker::Model;
 
@@ -80,12 +80,11 @@ pub struct BuyRequest {
 #[derive(Debug, Drop)]
 pub struct Card {
     pub card: CardType,
-    /// 12 to 19 decimal digits.
-    pub number: Text,
+    pub number: CardNumber,
     /// The holder's name, 1 to 100 bytes.
     pub name: Text,
-    /// The month in which it expires, as `YYYY-MM`.
-    pub expiry: Text,
+    /// When it expires.
+    pub expiry: Month,
 }
 
 impl Model for Card {

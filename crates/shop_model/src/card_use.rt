@@ -1,6 +1,6 @@
 ghost use Rattle.std.specs.Prelude.{◌≡◌, IfOk};
 
-use crate::{AuthId, CardType};
+use crate::{AuthId, CardNumber, CardType, Month};
 use shop_text::{Memory, Text};
 use std::alloc::Global;
 use std::marker::Model;
@@ -9,12 +9,11 @@ use std::marker::Model;
 #[derive(Debug, Drop)]
 pub struct CardUse {
     pub card: CardType,
-    /// The number on the card, as decimal digits.
-    pub number: Text,
+    pub number: CardNumber,
     /// The holder's name.
     pub name: Text,
-    /// The month in which the card expires, as `YYYY-MM`.
-    pub expiry: Text,
+    /// When the card expires.
+    pub expiry: Month,
     pub auth: AuthId,
     /// What was paid, in cents.
     pub total: u64,
@@ -43,9 +42,9 @@ impl CardUse {
     {
         Ok(CardUse {
             card: self.card,
-            number: Text::copy(alloc, self.number.bytes())?,
+            number: self.number,
             name: Text::copy(alloc, self.name.bytes())?,
-            expiry: Text::copy(alloc, self.expiry.bytes())?,
+            expiry: self.expiry,
             auth: self.auth,
             total: self.total,
             stamp: self.stamp,

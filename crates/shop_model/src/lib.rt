@@ -41,7 +41,7 @@ pub use buying::{
 };
 pub use card_type::CardType;
 pub use card_use::CardUse;
-pub use cards::{is_card_number, is_month};
+pub use cards::{CardNumber, Month};
 pub use cart::Cart;
 pub use country::Country;
 pub use customer::{Customer, CustomerDetails};

@@ -1,5 +1,5 @@
 -- Admin Confirm: what it may read, and the change that it makes by what it has read.
-use Rattle.std.proofs.Common.{◌≡◌, ℕ, zero, suc, ◌-◌, ◌≤◌, List, [], ◌∷◌, ◌++◌, length, length-drop, take, drop, map, get_or, All, Option, Some, refl, sym, ◌∙◌, ap, subst, inl, inr, arith}
+use Rattle.std.proofs.Common.{◌≡◌, ℕ, zero, suc, ◌-◌, ◌≤◌, List, [], ◌∷◌, ◌++◌, length, length-drop, take, drop, map, get_or, All, refl, sym, ◌∙◌, ap, subst, inl, inr, arith}
 use Rattle.std.specs.List.{Contains, sum_by}
 use Rattle.std.proofs.lemmas.List.{length-map, take_all}
 use Rattle.std.proofs.lemmas.List.Elements.{All-nil, All-cons, All-map, Contains-get_or}
@@ -9,12 +9,11 @@ use Rattle.shop_model.specs.declared.refusal.Refusal.TheVariants.{NoItem}
 use Rattle.shop_model.specs.declared.tables.Tables.{Tables}
 use Rattle.shop_model.specs.asked.AdminAsked.{AdminAsked}
 use Rattle.shop_model.specs.lists.Catalogues.{Catalogue}
-use Rattle.shop_model.specs.lists.Related.{buyers, bought, five_of}
+use Rattle.shop_model.specs.lists.Related.{buyers, bought}
 use Rattle.shop_model.specs.pages.Show.{check_there}
 use Rattle.shop_model.specs.rows.Limits.{recent_orders}
 use Rattle.shop_model.specs.rows.Lookups.{row_numbered}
 use Rattle.shop_model.specs.rows.Sound.{Sound, Has}
-use Rattle.shop_model.proofs.cited.RelatedFive.{related_there}
 use Rattle.shop_history.specs.declared.acts.Entry.{Entry}
 use Rattle.shop_history.specs.declared.keys.Key.{Key}
 use Rattle.shop_history.specs.declared.keys.Key.TheVariants as key
@@ -28,11 +27,10 @@ use Rattle.shop_attempt.specs.Reads.{Shows, AreTrue}
 use Rattle.shop_browse.specs.declared.attempted.Ask.{Ask}
 use Rattle.shop_browse.specs.Driver.{keys_of, Fits, AreSeen, IsWhole, AsksFor}
 use Rattle.shop_browse.specs.Footprints.{IsBoughtBeside, InFootprint}
-use Rattle.shop_browse.proofs.cited.Labels.{labels_may}
 use Rattle.shop_browse.proofs.cited.Sizes.{size_of}
 use Rattle.shop_order.specs.declared.stops.Stop.{Stop}
 use Rattle.shop_order.specs.declared.stops.Stop.TheVariants.{Refused, Never}
-use Rattle.shop_order.specs.AdminConfirm.{customers_in, totals_in, lists_in, first_keys, HasFirst, HasSecond, HasItem, HasAll, FollowsAdmin, MayRelate}
+use Rattle.shop_order.specs.AdminConfirm.{customers_in, totals_in, lists_in, first_keys, HasFirst, HasSecond, HasItem, FollowsAdmin, MayRelate}
 use Rattle.shop_order.specs.Stops.{StopsBy, IsStop}
 use Rattle.shop_order.proofs.RelatedLemmas.{few_buyers, named_bought, few_bought}
 use Rattle.shop_order.proofs.ShownLemmas.{item_found}
@@ -44,24 +42,15 @@ two_reads item [] are = absurd cc
 two_reads item (book ∷ []) are = absurd cc
 two_reads item (book ∷ buyers ∷ more) are = record { book = book; buyers = buyers; more = more; reads_are = refl; book_is = cc; buyers_is = cc }
 
-pub has_first : (asked : AdminAsked) (kept : Option (List ℕ)) (ask : Ask) (round : ℕ) (reads : List ReadOf) → (round ≡ 0 → ⊥) → FollowsAdmin asked kept ask round reads → HasFirst asked.item reads
-has_first asked kept ask zero reads later follows = absurd (later refl)
-has_first asked kept ask (suc zero) reads later follows = two_reads asked.item reads follows
-has_first asked kept ask (suc (suc zero)) reads later follows = follows.first
-has_first asked kept ask (suc (suc (suc more))) reads later follows = follows.first
+pub has_first : (asked : AdminAsked) (round : ℕ) (reads : List ReadOf) → (round ≡ 0 → ⊥) → FollowsAdmin asked round reads → HasFirst asked.item reads
+has_first asked zero reads later follows = absurd (later refl)
+has_first asked (suc zero) reads later follows = two_reads asked.item reads follows
+has_first asked (suc (suc more)) reads later follows = follows.first
 
-pub has_second : (asked : AdminAsked) (kept : Option (List ℕ)) (ask : Ask) (round : ℕ) (reads : List ReadOf) → round ≡ 2 → FollowsAdmin asked kept ask round reads → HasSecond asked.item reads
-has_second asked kept ask zero reads is follows = absurd (omega (arith, is))
-has_second asked kept ask (suc zero) reads is follows = absurd (omega (arith, is))
-has_second asked kept ask (suc (suc zero)) reads is follows = follows
-has_second asked kept ask (suc (suc (suc more))) reads is follows = absurd (omega (arith, is))
-
-pub has_all : (asked : AdminAsked) (kept : Option (List ℕ)) (ask : Ask) (round : ℕ) (reads : List ReadOf) → (round ≡ 0 → ⊥) → (round ≡ 1 → ⊥) → (round ≡ 2 → ⊥) → FollowsAdmin asked kept ask round reads
-    → HasAll asked.item ask.scale.now.items kept reads
-has_all asked kept ask zero reads some more last follows = absurd (some refl)
-has_all asked kept ask (suc zero) reads some more last follows = absurd (more refl)
-has_all asked kept ask (suc (suc zero)) reads some more last follows = absurd (last refl)
-has_all asked kept ask (suc (suc (suc round))) reads some more last follows = follows
+pub has_second : (asked : AdminAsked) (round : ℕ) (reads : List ReadOf) → (round ≡ 0 → ⊥) → (round ≡ 1 → ⊥) → FollowsAdmin asked round reads → HasSecond asked.item reads
+has_second asked zero reads some more follows = absurd (some refl)
+has_second asked (suc zero) reads some more follows = absurd (more refl)
+has_second asked (suc (suc round)) reads some more follows = follows
 
 -- by their places
 
@@ -100,11 +89,11 @@ none_more : (item : ℕ) (book buyers : ReadOf) (more : List ReadOf) → keys_of
 none_more item book buyers [] are = refl
 none_more item book buyers (other ∷ more) are = absurd cc
 
-pub asks_bought : (asked : AdminAsked) (kept : Option (List ℕ)) (ask : Ask) (round : ℕ) (reads : List ReadOf) (keys : List Key) → round ≡ 1 → FollowsAdmin asked kept ask round reads → (has : HasFirst asked.item reads)
-    → keys ≡ map key.Bought (customers_in has.buyers.row) → AsksFor (FollowsAdmin asked kept ask) (AdminConfirm asked) ask round reads keys
-asks_bought asked kept ask zero reads keys is follows has are = absurd (omega (arith, is))
-asks_bought asked kept ask (suc (suc round)) reads keys is follows has are = absurd (omega (arith, is))
-asks_bought asked kept ask (suc zero) reads keys is follows has are =
+pub asks_bought : (asked : AdminAsked) (ask : Ask) (round : ℕ) (reads : List ReadOf) (keys : List Key) → round ≡ 1 → FollowsAdmin asked round reads → (has : HasFirst asked.item reads)
+    → keys ≡ map key.Bought (customers_in has.buyers.row) → AsksFor (FollowsAdmin asked) (AdminConfirm asked) ask round reads keys
+asks_bought asked ask zero reads keys is follows has are = absurd (omega (arith, is))
+asks_bought asked ask (suc (suc round)) reads keys is follows has are = absurd (omega (arith, is))
+asks_bought asked ask (suc zero) reads keys is follows has are =
     let none : has.more ≡ [] = none_more asked.item has.book has.buyers has.more (ap keys_of (sym has.reads_are) ∙ follows) in
     let two : reads ≡ has.book ∷ has.buyers ∷ [] = has.reads_are ∙ ap (λ (l : List ReadOf). has.book ∷ has.buyers ∷ l) none in
     record {
@@ -177,28 +166,4 @@ may_relate asked ask reads whole has seen =
             length-map customers key.Bought,
             customers_seen asked.item c first.buyers first.buyers_is (all.1.0, tt),
           );
-    }
-
--- the labels of the five are asked for
-pub asks_labels : (asked : AdminAsked) (kept : Option (List ℕ)) (ask : Ask) (reads : List ReadOf) (five : List ℕ) (keys : List Key) → IsWhole ask → (has : HasItem asked.item reads) → AreSeen ask.index.now reads
-    → kept ≡ Some five → five ≡ five_of (lists_in has.second.first.more) asked.item ask.scale.now.items → keys ≡ map key.Label five → AsksFor (FollowsAdmin asked kept ask) (AdminConfirm asked) ask 2 reads keys
-asks_labels asked kept ask reads five keys whole has seen is five_are are =
-    let first : HasFirst asked.item reads = has.second.first in
-    let may = may_relate asked ask reads whole has seen in
-    let within : All (Has (length ask.index.now.items)) five
-    = subst (λ n. All (Has n) five) whole (subst (All (Has ask.scale.now.items)) (sym five_are) (related_there (lists_in first.more) asked.item ask.scale.now.items may.there may.six)) in
-    record {
-      few = omega arith;
-      goes_on = λ more of. record {
-        first = record { book = first.book; buyers = first.buyers; more = first.more ++ more; reads_are = ap (λ (l : List ReadOf). l ++ more) first.reads_are; book_is = first.book_is; buyers_is = first.buyers_is };
-        bought = first.more;
-        labels = more;
-        five = five;
-        more_are = refl;
-        bought_are = has.second.more_are;
-        kept_is = is;
-        five_are = five_are;
-        labels_are = of ∙ are;
-      };
-      may = λ opening log were. subst (All (InFootprint opening log (AdminConfirm asked) ask.draw)) (sym are) (labels_may ask.index.now opening log (AdminConfirm asked) ask.draw five were.named within);
     }

@@ -1,7 +1,6 @@
 -- The change that Admin Confirm makes by what it has read, in whichever tables fit that.
-use Rattle.std.proofs.Common.{◌≡◌, ℕ, ◌+◌, ◌-◌, ◌≤◌, List, [], ◌∷◌, length, drop, map, Option, Some, slice_set, refl, sym, ◌∙◌, ap, subst, arith}
+use Rattle.std.proofs.Common.{◌≡◌, ℕ, ◌-◌, ◌≤◌, List, [], ◌∷◌, length, map, Some, slice_set, refl, sym, ◌∙◌, ap, subst, arith}
 use Rattle.std.proofs.lemmas.Bool.{cond-false, ne_eqb}
-use Rattle.std.proofs.lemmas.List.{drop_at, length-map}
 use Rattle.shop_model.specs.declared.requests.Request.TheVariants.{AdminConfirm}
 use Rattle.shop_model.specs.declared.refusal.Refusal.TheVariants.{NoItem}
 use Rattle.shop_model.specs.declared.tables.Tables.{Tables}
@@ -15,7 +14,6 @@ use Rattle.shop_model.specs.rows.Rows.{ItemRow}
 use Rattle.shop_model.specs.trade.Mending.{mended_item, with_mended}
 use Rattle.shop_history.specs.declared.acts.Act.TheVariants.{Admin}
 use Rattle.shop_history.specs.declared.acts.Drawn.{Drawn}
-use Rattle.shop_history.specs.declared.keys.Key.{Key}
 use Rattle.shop_history.specs.declared.keys.Key.TheVariants as key
 use Rattle.shop_history.specs.declared.keys.Row.TheVariants as row
 use Rattle.shop_history.specs.Acts.{play, administered_page}
@@ -35,9 +33,8 @@ use Rattle.shop_browse.specs.declared.driver.Next.{Next}
 use Rattle.shop_browse.specs.Attempts.{Becomes}
 use Rattle.shop_browse.specs.Driver.{keys_of, Fits, IsWhole, IsNext}
 use Rattle.shop_browse.proofs.cited.Sizes.{size_of}
-use Rattle.shop_order.specs.AdminConfirm.{customers_in, totals_in, lists_in, HasAll, FollowsAdmin, mended_row, published_at, AreLabelled, IsChangeTo}
+use Rattle.shop_order.specs.AdminConfirm.{customers_in, totals_in, lists_in, five_by, HasSecond, FollowsAdmin, mended_row, published_at, IsChangeTo}
 use Rattle.shop_order.proofs.AdminConfirmLemmas.{book_shown}
-use Rattle.shop_order.proofs.ShoppingCartLemmas.{shows_append}
 use Rattle.shop_order.proofs.ShownLemmas.{item_found}
 
 -- tables show what their customers bought
@@ -52,40 +49,30 @@ lists_shown t (customer ∷ customers) (read ∷ reads) are shows =
     let rest : lists_in reads ≡ map (bought t) customers = lists_shown t customers reads tail shows.1 in
     cc (first, rest)
 
--- the labels stand behind what the buyers bought
-pub at_labels : (item items n : ℕ) (kept : Option (List ℕ)) (reads : List ReadOf) → (has : HasAll item items kept reads) → n ≡ 2 + length (customers_in has.first.buyers.row) → drop n reads ≡ has.labels
-at_labels item items n kept reads has is =
-    let customers : List ℕ = customers_in has.first.buyers.row in
-    let before : List ReadOf = has.first.book ∷ has.first.buyers ∷ has.bought in
-    let many : length before ≡ n
-    = omega (arith, is, length-map has.bought (λ (r : ReadOf). r.key), ap (λ (l : List Key). length l) has.bought_are, length-map customers key.Bought) in
-    ap (λ (l : List ReadOf). drop n l) (has.first.reads_are ∙ ap (λ (l : List ReadOf). has.first.book ∷ has.first.buyers ∷ l) has.more_are) ∙ drop_at before has.labels n many
-
--- the item is there, those that were kept are related to it, and their labels are shown
-record IsMended (t : Tables) (asked : AdminAsked) (five : List ℕ) (book : ItemRow) (labels : List ReadOf) : Type 0 where
+-- the item is there, and these are related to it
+record IsMended (t : Tables) (asked : AdminAsked) (five : List ℕ) (book : ItemRow) : Type 0 where
   there : row_numbered t.items asked.item ≡ Some book
   id_is : book.id ≡ asked.item
   five_are : five ≡ related t asked.item
-  labelled : AreLabelled t (mended_row asked five book) labels
 
-is_mended : (asked : AdminAsked) (kept : Option (List ℕ)) (ask : Ask) (reads : List ReadOf) (book : ItemRow) (t : Tables) → IsWhole ask → (has : HasAll asked.item ask.scale.now.items kept reads) → has.first.book.row ≡ row.Item book
-    → Fits ask.index.now t reads → IsMended t asked has.five book has.labels
-is_mended asked kept ask reads book t whole has is fits =
+is_mended : (asked : AdminAsked) (ask : Ask) (reads : List ReadOf) (book : ItemRow) (t : Tables) → IsWhole ask → (has : HasSecond asked.item reads) → has.first.book.row ≡ row.Item book
+    → Fits ask.index.now t reads → IsMended t asked (five_by asked.item ask.scale.now.items reads) book
+is_mended asked ask reads book t whole has is fits =
     let first = has.first in
     let all = subst (Shows t) first.reads_are fits.shows in
-    let more = shows_append t has.bought has.labels (subst (Shows t) has.more_are all.1.1) in
     let there = item_found (row_numbered t.items asked.item) book (book_shown asked.item reads t first fits.shows ∙ is) in
     let customers : customers_in first.buyers.row ≡ buyers t asked.item = ap customers_in (sym all.1.0 ∙ ap (row_of t) first.buyers_is) in
-    let lists : lists_in has.bought ≡ map (bought t) (buyers t asked.item) = lists_shown t (buyers t asked.item) has.bought (has.bought_are ∙ ap (map key.Bought) customers) more.0 in
+    let lists : lists_in first.more ≡ map (bought t) (buyers t asked.item) = lists_shown t (buyers t asked.item) first.more (has.more_are ∙ ap (map key.Bought) customers) all.1.1 in
     let size : length t.items ≡ ask.scale.now.items = size_of ask.index.now t fits.named ∙ sym whole in
     record {
       there = there;
       id_is = id_numbered (λ (i : ItemRow). i.id) t.items asked.item book fits.sound.ids.items there;
-      five_are = has.five_are ∙ ap (λ l. five_of l asked.item ask.scale.now.items) lists ∙ ap (five_of (map (bought t) (buyers t asked.item)) asked.item) (sym size);
-      labelled = record { keys_are = has.labels_are; shows = more.1 };
+      five_are =
+          ap (λ (l : List ReadOf). five_by asked.item ask.scale.now.items l) first.reads_are
+          ∙ ap (λ l. five_of l asked.item ask.scale.now.items) lists ∙ ap (five_of (map (bought t) (buyers t asked.item)) asked.item) (sym size);
     }
 
-module _ (t : Tables) (asked : AdminAsked) (five : List ℕ) (book : ItemRow) (labels : List ReadOf) (is : IsMended t asked five book labels) where
+module _ (t : Tables) (asked : AdminAsked) (five : List ℕ) (book : ItemRow) (is : IsMended t asked five book) where
   -- the item as it is written is the one that the act makes
   abbrev mended : ℕ → ℕ → List ℕ → ItemRow
   mended id day list = record book {
@@ -121,14 +108,15 @@ module _ (t : Tables) (asked : AdminAsked) (five : List ℕ) (book : ItemRow) (l
       (subst (λ list. IsPage draft drawn (mended_page t asked.ids (mended book.id (day_of stamp) list))) is.five_are
       (subst (λ day. IsPage draft drawn (mended_page t asked.ids (mended book.id day five))) (day_is stamp bound) (written drawn)))
 
-pub changed : (asked : AdminAsked) (before kept : Option (List ℕ)) (ask : Ask) (round : ℕ) (reads : List ReadOf) (book : ItemRow) (draft : Draft) (next : Next) → IsWhole ask
-    → (has : HasAll asked.item ask.scale.now.items before reads) → has.first.book.row ≡ row.Item book → IsChangeTo asked (mended_row asked has.five book) has.labels draft next
-    → IsNext (FollowsAdmin asked kept ask) (AdminConfirm asked) ask round reads draft next
-changed asked before kept ask round reads book draft next whole has is change =
-    let here : (t : Tables) → Fits ask.index.now t reads → IsMended t asked has.five book has.labels = λ t fits. is_mended asked before ask reads book t whole has is fits in
-    subst (IsNext (FollowsAdmin asked kept ask) (AdminConfirm asked) ask round reads draft) (sym change.is) (record {
+pub changed : (asked : AdminAsked) (ask : Ask) (round : ℕ) (reads : List ReadOf) (book : ItemRow) (draft : Draft) (next : Next) → IsWhole ask
+    → (has : HasSecond asked.item reads) → has.first.book.row ≡ row.Item book → IsChangeTo ask asked (mended_row asked (five_by asked.item ask.scale.now.items reads) book) draft next
+    → IsNext (FollowsAdmin asked) (AdminConfirm asked) ask round reads draft next
+changed asked ask round reads book draft next whole has is change =
+    let five : List ℕ = five_by asked.item ask.scale.now.items reads in
+    let here : (t : Tables) → Fits ask.index.now t reads → IsMended t asked five book = λ t fits. is_mended asked ask reads book t whole has is fits in
+    subst (IsNext (FollowsAdmin asked) (AdminConfirm asked) ask round reads draft) (sym change.is) (record {
       does = record { does = refl; drew = tt };
       free = tt;
-      makes = λ t stamp fits bound. makes_mended t asked has.five book has.labels (here t fits) stamp;
-      becomes = λ t stamp fits bound. becomes_mended t asked has.five book has.labels (here t fits) stamp draft bound (change.written t (here t fits).labelled);
+      makes = λ t stamp fits bound. makes_mended t asked five book (here t fits) stamp;
+      becomes = λ t stamp fits bound. becomes_mended t asked five book (here t fits) stamp draft bound (change.written t fits.named);
     })

@@ -1,7 +1,8 @@
 -- Admin Confirm: what it reads, round by round, and the change that it makes.
-use Rattle.std.specs.Prelude.{◌≡◌, ℕ, zero, suc, ◌^◌, ◌<◌, ◌≤◌, List, [], ◌∷◌, ◌++◌, map, sum_by, All, Option, Some}
+use Rattle.std.specs.Prelude.{◌≡◌, ℕ, zero, suc, ◌^◌, ◌<◌, ◌≤◌, List, [], ◌∷◌, drop, map, sum_by, All}
 use Rattle.shop_model.specs.declared.tables.Tables.{Tables}
 use Rattle.shop_model.specs.asked.AdminAsked.{AdminAsked}
+use Rattle.shop_model.specs.lists.Catalogues.{catalogue}
 use Rattle.shop_model.specs.lists.Related.{five_of}
 use Rattle.shop_model.specs.pages.AdminConfirm.{mended_page}
 use Rattle.shop_model.specs.rows.Rows.{ItemRow}
@@ -17,7 +18,6 @@ use Rattle.shop_draft.specs.Drawing.{day_after}
 use Rattle.shop_draft.specs.Pages.{IsPage}
 use Rattle.shop_attempt.specs.declared.attempts.ReadOf.{ReadOf}
 use Rattle.shop_attempt.specs.declared.attempts.Write.TheVariants.{PutItem}
-use Rattle.shop_attempt.specs.Reads.{Shows}
 use Rattle.shop_browse.specs.declared.attempted.Ask.{Ask}
 use Rattle.shop_browse.specs.declared.driver.Next.{Next}
 use Rattle.shop_browse.specs.declared.driver.Next.TheVariants.{Change}
@@ -61,24 +61,15 @@ pub record HasItem (item : ℕ) (reads : List ReadOf) : Type 0 where
   pub book : ItemRow
   pub row_is : second.first.book.row ≡ rows.Item book
 
--- and then those of the labels of the five items that are related by what was read, of so many, which are kept
-pub record HasAll (item items : ℕ) (kept : Option (List ℕ)) (reads : List ReadOf) : Type 0 where
-  pub first : HasFirst item reads
-  pub bought : List ReadOf
-  pub labels : List ReadOf
-  pub five : List ℕ
-  pub more_are : first.more ≡ bought ++ labels
-  pub bought_are : keys_of bought ≡ map key.Bought (customers_in first.buyers.row)
-  pub kept_is : kept ≡ Some five
-  pub five_are : five ≡ five_of (lists_in bought) item items
-  pub labels_are : keys_of labels ≡ map key.Label five
-
 -- the reads by the rounds
-abbrev pub FollowsAdmin : AdminAsked → Option (List ℕ) → Ask → ℕ → List ReadOf → Type 0
-FollowsAdmin asked kept ask zero reads = reads ≡ []
-FollowsAdmin asked kept ask (suc zero) reads = keys_of reads ≡ first_keys asked.item
-FollowsAdmin asked kept ask (suc (suc zero)) reads = HasSecond asked.item reads
-FollowsAdmin asked kept ask (suc (suc (suc more))) reads = HasAll asked.item ask.scale.now.items kept reads
+abbrev pub FollowsAdmin : AdminAsked → ℕ → List ReadOf → Type 0
+FollowsAdmin asked zero reads = reads ≡ []
+FollowsAdmin asked (suc zero) reads = keys_of reads ≡ first_keys asked.item
+FollowsAdmin asked (suc (suc more)) reads = HasSecond asked.item reads
+
+-- the five items, of so many, that are related to one by what was read of its buyers
+abbrev pub five_by : ℕ → ℕ → List ReadOf → List ℕ
+five_by item items reads = five_of (lists_in (drop 2 reads)) item items
 
 -- of so many items this one is there, and so are those that were bought, whose units can be added
 pub record MayRelate (item items : ℕ) (bought : List ReadOf) : Type 0 where
@@ -100,12 +91,7 @@ mended_row asked five item = record item {
 abbrev pub published_at : ℕ → ItemRow → ItemRow
 published_at stamp item = record item { published = day_after stamp 0 }
 
--- tables show these reads, which are of the labels of the items that are related to one
-pub record AreLabelled (t : Tables) (item : ItemRow) (labels : List ReadOf) : Type 0 where
-  pub keys_are : keys_of labels ≡ map key.Label item.related
-  pub shows : Shows t labels
-
--- the change that leaves this item, with the draft of its page in whichever tables show the labels
-pub record IsChangeTo (asked : AdminAsked) (item : ItemRow) (labels : List ReadOf) (draft : Draft) (next : Next) : Type 0 where
-  pub written : (t : Tables) → AreLabelled t item labels → (drawn : Drawn) → IsPage draft drawn (mended_page t asked.ids (published_at drawn.stamp item))
+-- the change that leaves this item, with the draft of its page in whichever tables have the catalogue
+pub record IsChangeTo (ask : Ask) (asked : AdminAsked) (item : ItemRow) (draft : Draft) (next : Next) : Type 0 where
+  pub written : (t : Tables) → catalogue t ≡ ask.index.now → (drawn : Drawn) → IsPage draft drawn (mended_page t asked.ids (published_at drawn.stamp item))
   pub is : next ≡ Change (Admin asked) (PutItem item ∷ [])

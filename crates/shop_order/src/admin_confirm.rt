@@ -3,10 +3,9 @@ ghost use Rattle.std.specs.Prelude.{◌≡◌, IfOk, IfErr};
 ghost use Rattle.shop_model.specs.declared.refusal.Refusal.TheVariants.{NoItem};
 ghost use Rattle.shop_model.specs.pages.Show.{check_there};
 ghost use Rattle.shop_history.specs.declared.keys.Row.TheVariants as row_kinds;
-ghost use Rattle.shop_draft.specs.declared.draft.Draft.{Draft};
 ghost use Rattle.shop_attempt.specs.Marks.{Looks};
 ghost use Rattle.shop_browse.specs.Attempts.{AttemptedAs, Suits, asking_of};
-ghost use Rattle.shop_browse.specs.Driver.{AreSeen, IsNext, IsWhole};
+ghost use Rattle.shop_browse.specs.Driver.{AreSeen, IsWhole};
 ghost use Rattle.shop_order.specs.AdminConfirm as spec;
 ghost use Rattle.shop_order.specs.Stops.{StopsBy};
 
@@ -15,7 +14,7 @@ use crate::mending::mended;
 use crate::related::{bought_keys, customers_in, related};
 use crate::stops::{Stop, stopped};
 use shop_attempt::{ReadOf, Store, Write};
-use shop_browse::{Ask, Attempted, Interaction, ItemIds, Next, attempt_by};
+use shop_browse::{Ask, Attempted, Interaction, Next, attempt_by};
 use shop_draft::Draft;
 use shop_history::{Act, Key, Row};
 use shop_model::{AdminConfirm, Item, Refusal, Request};
@@ -43,40 +42,35 @@ fn item_in(row: &Row) -> Result<&Item, Stop>
     }
 }
 
-/// Asks for the labels of the items that are related to one by what was read of its buyers; those are
-/// kept.
+/// The items that are related to one by what was read of its buyers.
 fn relate(
     alloc: Global,
     ask: &Ask,
     asked: &AdminConfirm,
     reads: &[ReadOf],
-    kept: &mut Option<[u32; 5]>,
-) -> Result<Next, Memory>
+) -> Result<[u32; 5], Memory>
     requires whole { IsWhole ask.now }
-    requires second { spec.HasItem asked.now.item reads.now }
+    requires item { spec.HasItem asked.now.item reads.now }
     requires seen { AreSeen ask.now.index.now reads.now }
-    ensures { IfOk result (λ next. (draft : Draft) → IsNext (spec.FollowsAdmin asked.now kept.new ask.now) (Request.AdminConfirm asked.now) ask.now 2 reads.now draft next) }
+    ensures { IfOk result (λ five. five ≡ spec.five_by asked.now.item ask.now.scale.now.items reads.now) }
 {
     let scale = ask.scale;
-    let five = related(alloc, asked.item, scale.items, &reads[2..])?;
-    *kept = Some(five);
-    Ok(Next::ReadLabels(ItemIds::Five(five)))
+    related(alloc, asked.item, scale.items, &reads[2..])
 }
 
-/// The change of an item, whose page it writes by what was read of the labels of those that are related
-/// to it.
+/// The change of an item, by those that are related to it, whose page it writes.
 fn change(
     alloc: Global,
+    ask: &Ask,
     asked: &Shared<AdminConfirm>,
     item: &Item,
     related: [u32; 5],
-    labels: &[ReadOf],
     draft: &mut Draft,
 ) -> Result<Next, Memory>
-    ensures { IfOk result (spec.IsChangeTo asked.now (spec.mended_row asked.now related item.now) labels.now draft.new) }
+    ensures { IfOk result (spec.IsChangeTo ask.now asked.now (spec.mended_row asked.now related item.now) draft.new) }
 {
     let item = mended(alloc, item, asked.get(), related)?;
-    write_page(draft, &item, asked.get().ids, labels)?;
+    write_page(draft, ask.index, &item, asked.get().ids)?;
     let mut writes = Listed::with_capacity(alloc, 1)?;
     writes.push(Write::PutItem(item))?;
     Ok(Next::Change(Act::Admin(asked.share()?), writes))
@@ -86,8 +80,6 @@ fn change(
 #[derive(Drop)]
 struct Mending<'a> {
     asked: &'a Shared<AdminConfirm>,
-    /// The items that are related to it, once it was read what its buyers bought.
-    related: Option<[u32; 5]>,
 }
 
 impl<'a> Interaction for Mending<'a> {
@@ -95,7 +87,7 @@ impl<'a> Interaction for Mending<'a> {
 
     ghost request = { λ mending. request_kinds.AdminConfirm mending.asked.now };
 
-    ghost follows = { λ mending. spec.FollowsAdmin mending.asked.now mending.related };
+    ghost follows = { λ mending ask. spec.FollowsAdmin mending.asked.now };
 
     fn next(
         &mut self,
@@ -113,18 +105,11 @@ impl<'a> Interaction for Mending<'a> {
             Ok(item) => item,
             Err(stop) => return stopped(draft, stop),
         };
-        let buyers = customers_in(&reads[1].row);
         if round == 1 {
-            return Ok(Next::Read(bought_keys(alloc, buyers)?));
+            return Ok(Next::Read(bought_keys(alloc, customers_in(&reads[1].row))?));
         }
-        if round == 2 {
-            return relate(alloc, ask, asked, reads, &mut self.related);
-        }
-        let (_, labels) = reads.split_at(2 + buyers.len());
-        match self.related {
-            Some(related) => change(alloc, self.asked, item, related, labels, draft),
-            None => unreachable!(),
-        }
+        let related = relate(alloc, ask, asked, reads)?;
+        change(alloc, ask, self.asked, item, related, draft)
     }
 }
 
@@ -141,14 +126,5 @@ pub fn admin_confirm<St: Store>(
     ensures looks { Looks St.seat St.marked store.old store.new }
     ensures attempted { AttemptedAs (St.seat store.old) (St.seat store.new) (asking_of ask.now (Request.AdminConfirm asked.now)) draft.new result }
 {
-    attempt_by(
-        alloc,
-        store,
-        ask,
-        Mending {
-            asked,
-            related: None,
-        },
-        draft,
-    )
+    attempt_by(alloc, store, ask, Mending { asked }, draft)
 }

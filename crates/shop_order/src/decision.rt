@@ -77,7 +77,7 @@ pub(crate) fn decide<G: Gateway>(
 {
     let purchase = Purchase::of(asked, reads);
     let bill = Bill::of(alloc, &purchase)?;
-    let charge = charge_of(alloc, asked.get(), caller, call, bill.totals.total)?;
+    let charge = charge_of(asked.get(), caller, call, bill.totals.total);
     match ask_gateway(charge, kept, gateway) {
         Verdict::Approved(auth) => approved(alloc, &purchase, &bill, &auth, draw, draft),
         Verdict::Denied(reason) => denied(reason, draft),

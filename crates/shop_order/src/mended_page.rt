@@ -1,7 +1,8 @@
 //! The page of an item that was just administered.
-ghost use Rattle.std.specs.Prelude.{◌++◌, OnOk, codes, decimal};
+ghost use Rattle.std.specs.Prelude.{◌≡◌, ◌++◌, OnOk, codes, decimal};
 ghost use Rattle.shop_model.specs.declared.page.Block.TheVariants as block;
 ghost use Rattle.shop_model.specs.declared.tables.Tables.{Tables};
+ghost use Rattle.shop_model.specs.lists.Catalogues.{catalogue};
 ghost use Rattle.shop_model.specs.pages.AdminConfirm.{mended_page, mended_text};
 ghost use Rattle.shop_model.specs.pages.PageText.{block_line};
 ghost use Rattle.shop_history.specs.declared.acts.Drawn.{Drawn};
@@ -10,10 +11,10 @@ ghost use Rattle.shop_draft.specs.Pages.{IsPage};
 ghost use Rattle.shop_draft.specs.Templates.{Adds, Says};
 ghost use Rattle.shop_order.specs.AdminConfirm as spec;
 
-use shop_attempt::ReadOf;
 use shop_browse::promotion;
 use shop_draft::{Draft, PageIds, Template};
 use shop_model::{IdsAsked, Item};
+use shop_search::Index;
 use shop_text::Memory;
 
 #[tactic(auto, unfolding(shop_model::specs::pages::PageText::block_text))]
@@ -49,14 +50,14 @@ fn thumb(page: &mut Template, item: &Item) -> Result<(), Memory>
     Ok(())
 }
 
-/// Writes the page of an item, by what was read of the labels of the items that are related to it.
+/// Writes the page of an item, with the titles of the related ones that an index knows.
 pub(crate) fn write_page(
     draft: &mut Draft,
+    index: &Index,
     item: &Item,
     ids: IdsAsked,
-    labels: &[ReadOf],
 ) -> Result<(), Memory>
-    ensures { OnOk result ((t : Tables) → spec.AreLabelled t item.now labels.now → (drawn : Drawn)
+    ensures { OnOk result ((t : Tables) → catalogue t ≡ index.now → (drawn : Drawn)
         → IsPage draft.new drawn (mended_page t ids (spec.published_at drawn.stamp item.now))) }
 {
     let ids = PageIds::of(ids);
@@ -67,7 +68,7 @@ pub(crate) fn write_page(
     cost(page, item)?;
     image(page, item)?;
     thumb(page, item)?;
-    promotion(page, ids, labels)?;
+    promotion(page, ids, index, &item.details.get().related)?;
     page.nav(ids)?;
     page.end()?;
     Ok(())

@@ -73,9 +73,9 @@ fn card_use(
 {
     Ok(CardUse {
         card: payment.card,
-        number: Text::copy(alloc, payment.number.bytes())?,
+        number: payment.number,
         name: Text::copy(alloc, payment.name.bytes())?,
-        expiry: Text::copy(alloc, payment.expiry.bytes())?,
+        expiry: payment.expiry,
         auth,
         total,
         stamp: 0,

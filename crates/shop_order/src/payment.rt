@@ -1,33 +1,25 @@
 //! The charge of a purchase, and what a gateway says to it.
-ghost use Rattle.std.specs.Prelude.{◌≡◌, ◌≤◌, IfOk};
+ghost use Rattle.std.specs.Prelude.{◌≡◌, ◌≤◌};
 ghost use Rattle.shop_edges.specs.Causes.{Rose};
 ghost use Rattle.shop_edges.specs.Charges.{charge_to};
 ghost use Rattle.shop_order.specs.Charging as spec;
 
 use shop_edges::{Answer, Charge, Gateway, Verdict};
 use shop_model::BuyConfirm;
-use shop_text::{Memory, Text};
-use std::alloc::Global;
 
 /// The charge of so many cents to the card of a purchase, which a caller asks for in a call.
-pub(crate) fn charge_of(
-    alloc: Global,
-    asked: &BuyConfirm,
-    caller: u32,
-    call: u64,
-    cents: u64,
-) -> Result<Charge, Memory>
-    ensures { IfOk result (λ charge. charge ≡ charge_to asked.now caller call cents) }
+pub(crate) fn charge_of(asked: &BuyConfirm, caller: u32, call: u64, cents: u64) -> Charge
+    ensures { result ≡ charge_to asked.now caller call cents }
 {
     let payment = &asked.payment;
-    Ok(Charge {
+    Charge {
         caller,
         call,
         cents,
         card: payment.card,
-        number: Text::copy(alloc, payment.number.bytes())?,
-        expiry: Text::copy(alloc, payment.expiry.bytes())?,
-    })
+        number: payment.number,
+        expiry: payment.expiry,
+    }
 }
 
 /// The verdict that is kept on a charge, if one is.

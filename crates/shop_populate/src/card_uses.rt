@@ -1,12 +1,10 @@
-ghost use Rattle.std.specs.Prelude.{◌≡◌, ◌≤◌, ◌++◌, IfOk, decimal};
+ghost use Rattle.std.specs.Prelude.{◌≡◌, ◌≤◌, ◌++◌, IfOk, codes};
 ghost use Rattle.shop_model.specs.rows.AuthIds as ids;
 ghost use Rattle.shop_model.specs.population.Population as spec;
 
-use shop_model::{Address, AuthId, CardType, CardUse, Customer, DAY_LENGTH};
+use shop_model::{Address, AuthId, CardNumber, CardType, CardUse, Customer, DAY_LENGTH, Month};
 use shop_text::{Memory, Text};
 use std::alloc::Global;
-
-const NUMBER: usize = 16;
 
 const LONGEST_NAME: usize = b"Hugo Parker".len();
 
@@ -34,13 +32,12 @@ fn card_name(alloc: Global, customer: &Customer) -> Result<Text, Memory>
     Ok(text)
 }
 
-/// The number of a card, in decimal.
-fn number_text(alloc: Global, number: u64) -> Result<Text, Memory>
-    ensures { IfOk result (λ text. text ≡ decimal number) }
+/// The month in which each card expires.
+#[tactic(auto, unfolding(shop_model::specs::asked::Cards::is_month, shop_text::specs::Numbers::number_of))]
+fn expiry() -> Month
+    ensures { result ≡ codes "2030-01" }
 {
-    let mut text = Text::with_capacity(alloc, NUMBER)?;
-    text.push_decimal(number)?;
-    Ok(text)
+    Month::new(*b"2030-01")
 }
 
 /// The moment at which an order is placed, in milliseconds since 1970-01-01.
@@ -69,9 +66,9 @@ pub(crate) fn card_of(
     let number = 4_000_000_000_000_000 + id as u64;
     Ok(CardUse {
         card: CardType::picked(card),
-        number: number_text(alloc, number)?,
+        number: CardNumber::of_number(number),
         name: card_name(alloc, customer)?,
-        expiry: Text::copy(alloc, b"2030-01")?,
+        expiry: expiry(),
         auth: auth_id(number, total, id),
         total,
         stamp: placed(day),

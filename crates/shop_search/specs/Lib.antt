@@ -1,3 +1,4 @@
 pub mod Order
 pub mod Keys
 pub mod Lists
+pub mod Namings

@@ -1,12 +1,15 @@
-ghost use Rattle.std.specs.Prelude.{◌≡◌, IfOk};
+ghost use Rattle.std.specs.Prelude.{◌≡◌, IfOk, None, MatchOption};
+ghost use Rattle.std.specs.Option.{option_map};
 ghost use Rattle.shop_model.specs.declared.requests.SearchKind.TheVariants as kinds;
 ghost use Rattle.shop_model.specs.lists.Catalogues.{catalogue, found};
+ghost use Rattle.shop_model.specs.rows.Lookups as lookups;
+ghost use Rattle.shop_search.specs.Namings.{IsNamedBy};
 
 use crate::keys::key_of;
 use crate::lists::{at, lists_of};
 use crate::naming::{Named, namings, share_authors};
 use crate::order::in_list_order;
-use shop_model::{Author, SearchKind, Tables};
+use shop_model::{Author, ItemDetails, SearchKind, Tables, row_numbered};
 use shop_text::{Listed, Memory, Shared, Text};
 use std::alloc::Global;
 use std::collections::HashMap;
@@ -93,5 +96,22 @@ impl Index {
             SearchKind::Author => self.by_author(text),
             SearchKind::Subject => self.by_subject(text),
         }
+    }
+
+    /// Details of the item with an id, which tell what never changes of it.
+    pub fn details(&self, item: u32) -> Option<&Shared<ItemDetails>>
+        ensures { MatchOption result (lookups.row_numbered self.now.items item ≡ None) (λ details. IsNamedBy (lookups.row_numbered self.now.items item) details.now) }
+    {
+        match row_numbered(self.items.as_slice(), item) {
+            None => None,
+            Some(named) => Some(named.details()),
+        }
+    }
+
+    /// The author with an id.
+    pub fn author(&self, id: u32) -> Option<&Shared<Author>>
+        ensures { option_map (λ author. author.now) result ≡ lookups.row_numbered self.now.authors id }
+    {
+        row_numbered(self.authors.as_slice(), id)
     }
 }

@@ -1,5 +1,6 @@
-ghost use Rattle.std.specs.Prelude.{◌≡◌, IfOk, map};
+ghost use Rattle.std.specs.Prelude.{◌≡◌, Some, IfOk, map};
 ghost use Rattle.shop_model.specs.lists.Catalogues.{naming};
+ghost use Rattle.shop_search.specs.Namings.{IsNamedBy};
 
 use shop_model::{Author, Item, ItemDetails};
 use shop_text::{Listed, Memory, Shared};
@@ -30,6 +31,13 @@ impl Named {
             id: item.id,
             details: item.details.share()?,
         })
+    }
+
+    /// Details of the item, which tell what never changes of it.
+    pub(crate) fn details(&self) -> &Shared<ItemDetails>
+        ensures { IsNamedBy (Some self.now) result.now }
+    {
+        &self.details
     }
 }
 

@@ -1,8 +1,7 @@
 use shop_edges::{Charge, Gateway, Reason, Verdict};
 use shop_gateway::{Emulator, ScriptGateway};
-use shop_model::{AuthId, CardType, is_card_number, is_month};
-use shop_text::{Listed, Text};
-use std::alloc::Global;
+use shop_model::{AuthId, CardNumber, CardType, Month};
+use shop_text::Listed;
 use std::test::Fail;
 
 /// A card that is approved of, up to the limit.
@@ -12,20 +11,13 @@ const NUMBER: &str = "4111222233334444";
 const STOLEN: &str = "4111222233330000";
 
 /// What caller 1 asks for in a call.
-fn charge(
-    alloc: Global,
-    call: u64,
-    cents: u64,
-    card: CardType,
-    number: &str,
-) -> Result<Charge, Fail> {
-    let number = number.as_bytes();
-    let expiry = b"2027-05".as_slice();
-    if !is_card_number(number) || !is_month(expiry) {
+fn charge(call: u64, cents: u64, card: CardType, number: &str) -> Result<Charge, Fail> {
+    let Some(number) = CardNumber::of(number.as_bytes()) else {
         return Err("not in its form")?;
-    }
-    let number = Text::copy(alloc, number).map_err(|_| "memory")?;
-    let expiry = Text::copy(alloc, expiry).map_err(|_| "memory")?;
+    };
+    let Some(expiry) = Month::of(b"2027-05") else {
+        return Err("not in its form")?;
+    };
     Ok(Charge {
         caller: 1,
         call,
@@ -99,7 +91,7 @@ fn a_key_has_one_entry(rt: HostRuntime) -> Result<(), Fail> {
         ),
     ];
     for (call, cents, card, number, verdict, entries) in cases {
-        let charge = charge(alloc, call, cents, card, number)?;
+        let charge = charge(call, cents, card, number)?;
         assert_eq!(rt; gateway.authorize(&charge), verdict);
         assert_eq!(rt; gateway.ledger().len(), entries);
         match gateway.answers().last() {
@@ -120,7 +112,7 @@ fn a_listed_call_fails(rt: HostRuntime) -> Result<(), Fail> {
     let fails = Listed::from_vec(vec![in alloc; 2]?);
     let mut gateway = ScriptGateway::new(Emulator::new(alloc), fails);
     let approved = Verdict::Approved(AuthId::of(111_225_009_362_787));
-    let charge = charge(alloc, 2, 2776, CardType::Visa, NUMBER)?;
+    let charge = charge(2, 2776, CardType::Visa, NUMBER)?;
     for (verdict, answers, faults) in [
         (approved, 1, 0),
         (Verdict::Failed, 1, 1),
@@ -152,7 +144,7 @@ fn forms_of_cards(rt: HostRuntime) {
         ("2027-+5", false, false),
         ("", false, false),
     ] {
-        assert_eq!(rt; is_card_number(text.as_bytes()), number, "{text}");
-        assert_eq!(rt; is_month(text.as_bytes()), month, "{text}");
+        assert_eq!(rt; CardNumber::of(text.as_bytes()).is_some(), number, "{text}");
+        assert_eq!(rt; Month::of(text.as_bytes()).is_some(), month, "{text}");
     }
 }

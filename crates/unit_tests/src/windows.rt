@@ -2,19 +2,27 @@ ghost use Rattle.std.specs.Prelude.{◌≡◌, ◌≤◌, All, length, IfOk};
 ghost use Rattle.shop_model.specs.rows.Limits.{lines_limit, recent_orders};
 ghost use Rattle.shop_model.specs.rows.Sound.{Has};
 
-use shop_model::{AuthId, CardType, CardUse, Line, Order, OrderState, QUANTITY_LIMIT, ShipType};
+use shop_model::{
+    AuthId, CardNumber, CardType, CardUse, Line, Month, Order, OrderState, QUANTITY_LIMIT, ShipType,
+};
 use shop_text::{Listed, Memory, Text};
 use shop_window::{OrderWindow, five_related};
 use std::alloc::Global;
 use std::test::Fail;
 
+/// May 2027.
+#[tactic(auto, unfolding(shop_model::specs::asked::Cards::is_month, shop_text::specs::Numbers::number_of))]
+fn month() -> Month {
+    Month::new(*b"2027-05")
+}
+
 /// A payment of nothing.
 fn paid(alloc: Global) -> CardUse {
     CardUse {
         card: CardType::Visa,
-        number: Text::new(alloc),
+        number: CardNumber::of_number(4_111_222_233_334_444),
         name: Text::new(alloc),
-        expiry: Text::new(alloc),
+        expiry: month(),
         auth: AuthId::of(0),
         total: 0,
         stamp: 0,

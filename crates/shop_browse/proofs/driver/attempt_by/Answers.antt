@@ -1,22 +1,17 @@
-use Rattle.std.proofs.Common.{◌+◌, [], ◌∷◌, map, Some, sym, ◌∙◌, subst}
-use Rattle.shop_history.specs.declared.keys.Key.TheVariants.{Label}
+use Rattle.std.proofs.Common.{◌+◌, [], ◌∷◌, Some, sym, ◌∙◌, subst}
 use Rattle.shop_attempt.specs.declared.attempts.Attempt.{Attempt}
 use Rattle.shop_attempt.proofs.cited.Marks.{looks_then}
-use Rattle.shop_browse.specs.declared.driver.Next.TheVariants.{ReadOne, Read, ReadLabels, Show, ShowList, Change, Pay, Never}
-use Rattle.shop_browse.specs.Driver.{ids_of}
+use Rattle.shop_browse.specs.declared.driver.Next.TheVariants.{ReadOne, Read, Show, ShowList, Change, Pay, Never}
 use Rattle.shop_browse.specs.Attempts.{IsPlain, IsList, IsPayable, IsContradiction, asking_of}
 use Rattle.shop_browse.proofs.DriverLemmas.{HasGone, one_round, next_is, showed, listed, changed, payable, never_shown}
 use Rattle.shop_browse.proofs.driver.attempt_by.Goals as goal
-use Rattle.shop_browse.proofs.driver.attempt_by.Goals.{in-ReadOne+in-Ok-read_one, in-Read+in-Ok-read_all, in-ReadLabels+in-Ok-read_labels}
+use Rattle.shop_browse.proofs.driver.attempt_by.Goals.{in-ReadOne+in-Ok-read_one, in-Read+in-Ok-read_all}
 
 pub returns-in_default-read_one-clause-looks : goal.returns-in_default-read_one-clause-looks
 returns-in_default-read_one-clause-looks g c = looks_then c.loop-round.invariant.gone.looks c.read_one.ensures.looks
 
 pub returns-in_default-read_all-clause-looks : goal.returns-in_default-read_all-clause-looks
 returns-in_default-read_all-clause-looks g c = looks_then c.loop-round.invariant.gone.looks c.read_all.ensures.looks
-
-pub returns-in_default-read_labels-clause-looks : goal.returns-in_default-read_labels-clause-looks
-returns-in_default-read_labels-clause-looks g c = looks_then c.loop-round.invariant.gone.looks c.read_labels.ensures.looks
 
 pub returns-in-Show-clause-attempted : goal.returns-in-Show-clause-attempted
 returns-in-Show-clause-attempted g c =
@@ -108,11 +103,6 @@ loop-round-preserved g c =
             rw (w.store-is, w.reads-is)
             (one_round seat marked first old w.read_all.new.store _ follows request ask round reads w.read_all.new.reads.items w.in-Read.keys c.loop-round.invariant.gone next
             w.read_all.ensures.looks w.in-Ok-read_all.ensures.reads)
-        | in-ReadLabels+in-Ok-read_labels w ↦
-            let next = next_is follows _ request ask round reads _ draft _ (ReadLabels w.in-ReadLabels.items) same c.deref.ensures.value w.in-ReadLabels.is c.in-Ok-next.ensures.next in
-            rw (w.store-is, w.reads-is)
-            (one_round seat marked first old w.read_labels.new.store _ follows request ask round reads w.read_labels.new.reads.items (map Label (ids_of w.in-ReadLabels.items)) c.loop-round.invariant.gone next
-            w.read_labels.ensures.looks w.in-Ok-read_labels.ensures.reads)
       ];
       same = same;
     }

@@ -6,7 +6,7 @@ use Rattle.shop_model.specs.pages.Targets.{nav}
 use Rattle.shop_draft.specs.Drawing.{ids_at}
 use Rattle.shop_draft.proofs.cited.PageTexts.{two, written}
 use Rattle.shop_browse.specs.Home.{home_in}
-use Rattle.shop_browse.specs.Labels.{promoted_in}
+use Rattle.shop_browse.specs.Related.{promoted_in}
 use Rattle.shop_browse.proofs.HomeLemmas.{four_parts}
 use Rattle.shop_browse.proofs.home.write_page.Goals as goal
 
@@ -14,12 +14,13 @@ pub returns : goal.returns
 unfolding home_in
 returns c drawn =
     let ids = ids_at drawn c.args.ids in
-    let labels = c.args.labels.now in
+    let ask = c.args.ask.now in
+    let items = c.args.items.now in
     record {
       status = refl;
-      text = written (home_in ids c.args.draw (option_copied c.args.customer) labels) _ _ _ (c.in_ok-begin.ensures drawn)
+      text = written (home_in ask ids (option_copied c.args.customer) items) _ _ _ (c.in_ok-begin.ensures drawn)
           (two _ _ _ _ _ (c.in_ok-heading.ensures drawn)
-          (four_parts block_line (greetings (option_copied c.args.customer)) (map (promoted_in ids) labels) _ (nav ids) _ _ _ _ _
+          (four_parts block_line (greetings (option_copied c.args.customer)) (map (promoted_in ask.index.now ids) items) _ (nav ids) _ _ _ _ _
           (c.in_ok-greetings.ensures drawn) (c.in_ok-promotion.ensures drawn)
           (rw c.picked.ensures at (c.in_ok-subject_links.ensures drawn)) (c.in_ok-nav.ensures drawn)))
           (c.in_ok-end.ensures drawn);

@@ -7,12 +7,8 @@ use Rattle.shop_browse.proofs.OrderDisplayLemmas.{has_user, user_missing}
 use Rattle.shop_browse.proofs.OrderReads.{asks_customer}
 use Rattle.shop_browse.proofs.order_display.by_name.Goals as goal
 
-pub returns-in_ok-customer_keys-in-Id : goal.returns-in_ok-customer_keys-in-Id
-returns-in_ok-customer_keys-in-Id c ask =
-    let asked = c.args.asked.now in
-    let reads = c.args.reads.now in
-    asks_customer asked ask reads c.in-Id.id c.in_ok-customer_keys-in-Id.field-0
-    (has_user asked reads _ c.requires c.in-Id.id c.in-Id.is) c.in_ok-customer_keys-in-Id.ensures
+pub returns-in-Id : goal.returns-in-Id
+returns-in-Id c ask = asks_customer c.args.asked.now ask c.args.reads.now c.in-Id.id (has_user c.args.asked.now c.args.reads.now _ c.requires c.in-Id.id c.in-Id.is)
 
 pub returns-in_ok-refusal-in-Absent : goal.returns-in_ok-refusal-in-Absent
 returns-in_ok-refusal-in-Absent c ask = (

@@ -14,7 +14,7 @@ returns-in-Order c draft ask =
     let reads = c.args.reads.now in
     let order = c.in-Order.order in
     let same : c.behind-order.inside.ship_address ≡ order.ship_address = ap (λ (o : OrderRow). o.ship_address) (c.behind-order.view_is ∙ c.get.ensures) in
-    subst (λ a. AsksFor (FollowsDisplay asked) (OrderDisplay asked) ask 3 reads (Address a ∷ [])) (sym same)
+    subst (λ a. AsksFor (FollowsDisplay asked) (OrderDisplay asked) ask 4 reads (Address a ∷ [])) (sym same)
     (asks_address asked ask reads order (has_order asked.login reads c.requires _ order c.in-Order.is))
 
 pub returns-in_default : goal.returns-in_default

@@ -1,18 +1,16 @@
-use Rattle.std.proofs.Common.{subst}
+use Rattle.std.proofs.Common.{subst, sym}
 use Rattle.std.proofs.lemmas.List.{take_all}
-use Rattle.shop_attempt.specs.declared.attempts.ReadOf.{ReadOf}
-use Rattle.shop_browse.specs.OrderDisplay.{IsLabelled}
+use Rattle.shop_browse.specs.OrderDisplay.{IsThere}
 use Rattle.shop_browse.proofs.OrderPageLemmas.{rows_more}
 use Rattle.shop_browse.proofs.order_page.rows.Goals as goal
 
-pub loop-place-preserved : goal.loop-place-preserved
-loop-place-preserved c t labelled drawn =
-    rows_more c.args.lines.now c.args.labels.now c.loop-place.place c.index-lines-place.result c.index-labels-place.result c.requires c.loop-place-test.true
-    c.index-lines-place.is c.index-labels-place.is _ _ _ t labelled
-    (λ is. c.in_ok-row.ensures t (subst (λ (r : ReadOf). IsLabelled t c.index-lines-place.result r.row) c.index-labels-place.is is) drawn)
-    (c.loop-place.invariant t labelled drawn)
+pub loop-line-preserved : goal.loop-line-preserved
+loop-line-preserved c t items drawn =
+    let here = subst (IsThere c.args.index.now) (sym c.line-item.is) (items.there c.loop-line.line-index c.line-item.result c.loop-line-test.true) in
+    rows_more t c.args.lines.now c.loop-line.line-index c.line-item.result _ _ _ c.loop-line-test.true c.line-item.is
+    (c.in_ok-row.ensures t items.named here drawn) (c.loop-line.invariant t items drawn)
 
 pub returns : goal.returns
-returns c t labelled drawn =
-    let all = take_all c.loop-place.place c.args.lines.now c.loop-place-test.false in
-    rw all at (c.loop-place.invariant t labelled drawn)
+returns c t items drawn =
+    let all = take_all c.loop-line.line-index c.args.lines.now c.loop-line-test.false in
+    rw all at (c.loop-line.invariant t items drawn)

@@ -5,5 +5,5 @@ use Rattle.shop_browse.proofs.order_page.table.Goals as goal
 
 pub returns : goal.returns
 unfolding block_text lines_table
-returns c t labelled drawn =
-    rw (c.in_ok-put-2.ensures drawn, c.in_ok-rows.ensures t labelled drawn, c.in_ok-put.ensures drawn) (simp append_assoc refl)
+returns c t items drawn =
+    rw (c.in_ok-put-2.ensures drawn, c.in_ok-rows.ensures t items drawn, c.in_ok-put.ensures drawn) (simp append_assoc refl)

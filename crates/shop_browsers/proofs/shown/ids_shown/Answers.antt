@@ -1,4 +1,4 @@
-use Rattle.std.proofs.Common.{◌==◌, refl}
+use Rattle.std.proofs.Common.{◌==◌, refl, ◌∙◌}
 use Rattle.std.specs.List.{before_first}
 use Rattle.shop_model.specs.pages.Targets.{targets_of}
 use Rattle.shop_browsers.proofs.ReplyLinks.{shown_links}
@@ -6,7 +6,7 @@ use Rattle.shop_browsers.proofs.Taking.{link_taken, nothing_more, nothing_left}
 use Rattle.shop_browsers.proofs.shown.ids_shown.Goals as goal
 
 pub loop-after-init : goal.loop-after-init
-loop-after-init c = λ p shows. (targets_of p, shown_links c.args.shown.now p shows, refl)
+loop-after-init c = λ p shows. (targets_of p, c.behind_front-rest.ensures p shows ∙ shown_links c.args.shown.now p shows, refl)
 
 pub returns-then-names_no_more : goal.returns-then-names_no_more
 returns-then-names_no_more c = λ p shows.

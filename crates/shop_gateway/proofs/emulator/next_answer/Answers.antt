@@ -19,6 +19,6 @@ returns-then-is_same c =
 pub returns : goal.returns
 returns c =
     let charge = ap (λ (a : Answer). a.charge) c.get.ensures in
-    let other = next_other c.args.entry.now c.args.charge.now _ c.in_ok-copy.ensures
+    let other = next_other c.args.entry.now c.args.charge.now _ c.copy.ensures
     (λ same. let yes = c.is_same.ensures.1 (charge ∙ same) in let no = c.if-is_same.false in cc) in
     ok_then c.new.result _ _ (λ answer is. is ∙ other) c.new.ensures

@@ -3,10 +3,8 @@ use Rattle.std.proofs.lemmas.Result.{IfOk-weaker}
 use Rattle.shop_model.specs.declared.requests.Request.TheVariants.{AdminRequest}
 use Rattle.shop_history.specs.declared.keys.Key.TheVariants.{Item}
 use Rattle.shop_attempt.specs.declared.attempts.ReadOf.{ReadOf}
-use Rattle.shop_browse.specs.AdminRequest.{FollowsItem}
-use Rattle.shop_browse.specs.Driver.{IsNext}
-use Rattle.shop_browse.proofs.cited.Reads.{one_read}
-use Rattle.shop_browse.proofs.AdminRequestLemmas.{item_follows}
+use Rattle.shop_browse.specs.Driver.{FollowsOne, IsNext}
+use Rattle.shop_browse.proofs.cited.Reads.{one_follows, one_read}
 use Rattle.shop_browse.proofs.admin_request.RefAdminRequestInteraction.next.Goals as goal
 
 pub returns-clause-next : goal.returns-clause-next
@@ -16,6 +14,6 @@ returns-clause-next c =
     let round = c.args.round in
     let reads = c.args.reads.now in
     let item = c.index-reads-0.result in
-    let one : reads ≡ item ∷ [] = (one_read (Item asked.item) reads item (item_follows asked.item round reads c.if-round-eq0.false c.requires.follows) c.index-reads-0.is).0 in
+    let one : reads ≡ item ∷ [] = (one_read (Item asked.item) reads item (one_follows (Item asked.item) round reads c.if-round-eq0.false c.requires.follows) c.index-reads-0.is).0 in
     IfOk-weaker c.by_item.result _ _
-    (λ next is. subst (λ (l : List ReadOf). IsNext (FollowsItem asked.item) (AdminRequest asked) ask round l c.by_item.new.draft next) (sym one) (is ask round)) c.by_item.ensures
+    (λ next is. subst (λ (l : List ReadOf). IsNext (FollowsOne (Item asked.item)) (AdminRequest asked) ask round l c.by_item.new.draft next) (sym one) (is ask round)) c.by_item.ensures

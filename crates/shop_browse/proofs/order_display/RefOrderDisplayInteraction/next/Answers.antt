@@ -1,4 +1,4 @@
-use Rattle.std.proofs.Common.{◌≡◌, ℕ, List, sym, subst}
+use Rattle.std.proofs.Common.{◌≡◌, ℕ, List, refl, sym, subst}
 use Rattle.std.proofs.lemmas.Result.{IfOk-weaker}
 use Rattle.shop_model.specs.declared.buying.OrderDisplay as asked_for
 use Rattle.shop_model.specs.declared.requests.Request.TheVariants.{OrderDisplay}
@@ -27,14 +27,18 @@ returns-in-2-clause-next c =
 
 pub returns-in-3-clause-next : goal.returns-in-3-clause-next
 returns-in-3-clause-next c =
-    let draft = c.args.draft.now in
-    in_round c.args.self.now.now c.args.ask.now 3 c.args.round c.args.reads.now draft c.by_order.result c.in-3.is (c.by_order.ensures draft c.args.ask.now)
+    let ask = c.args.ask.now in
+    IfOk-weaker c.by_last.result _ _ (λ next right. in_round c.args.self.now.now ask 3 c.args.round c.args.reads.now c.by_last.new.draft next c.in-3.is (right ask)) c.by_last.ensures
 
 pub returns-in-4-clause-next : goal.returns-in-4-clause-next
 returns-in-4-clause-next c =
-    let ask = c.args.ask.now in
     let draft = c.args.draft.now in
-    IfOk-weaker c.by_address.result _ _ (λ next right. in_round c.args.self.now.now ask 4 c.args.round c.args.reads.now draft next c.in-4.is (right ask draft c.requires.seen)) c.by_address.ensures
+    in_round c.args.self.now.now c.args.ask.now 4 c.args.round c.args.reads.now draft c.by_order.result c.in-4.is (c.by_order.ensures draft c.args.ask.now)
+
+pub returns-in-5-clause-next : goal.returns-in-5-clause-next
+returns-in-5-clause-next c =
+    let draft = c.args.draft.now in
+    in_round c.args.self.now.now c.args.ask.now 5 c.args.round c.args.reads.now draft c.by_address.result c.in-5.is (c.by_address.ensures draft c.args.ask.now)
 
 pub returns-in_default-clause-next : goal.returns-in_default-clause-next
-returns-in_default-clause-next c = IfOk-weaker c.by_all.result _ _ (λ next right. right c.args.round c.args.ask.now) c.by_all.ensures
+returns-in_default-clause-next c = IfOk-weaker c.by_all.result _ _ (λ next right. right c.args.ask.now c.args.round refl) c.by_all.ensures

@@ -8,13 +8,13 @@ returns c ids =
     let item = c.args.item in
     let text = c.self.inside.text in
     let as_one = append_assoc text (codes "<a href=\"/product_detail?item=") (decimal item) in
-    let end = rw (c.in_ok-push_decimal.ensures.ok, c.from.ensures, c.in_ok-push.ensures.ok, as_one) at c.len-end.ensures in
+    let end = rw (c.in_ok-put_number.ensures.ok, c.from.ensures, c.in_ok-put.ensures.ok, as_one) at c.len-end.ensures in
     rw (
       c.in_ok-push_label.ensures.text,
-      c.in_ok-push-2.ensures.items,
-      c.in_ok-push_decimal.ensures.ok,
+      c.in_ok-push.ensures.items,
+      c.in_ok-put_number.ensures.ok,
       c.from.ensures,
-      c.in_ok-push.ensures.ok,
+      c.in_ok-put.ensures.ok,
       as_one,
       ← c.self.view_is,
     )

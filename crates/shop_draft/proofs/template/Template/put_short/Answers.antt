@@ -1,5 +1,0 @@
-use Rattle.shop_draft.proofs.Splices.{adds_bytes}
-use Rattle.shop_draft.proofs.template.Template.put_short.Goals as goal
-
-pub returns : goal.returns
-returns c drawn = rw (← c.self.view_is) (adds_bytes _ _ _ _ _ _ c.self.invariant c.in_ok-put_short.ensures.ok drawn)
