@@ -1,38 +1,30 @@
 //! Serves the connections of standard input over one worker, writes the replies to standard output, and
 //! tells how many there were. Before the bytes of each connection stands their number, in eight digits
-//! and a line feed, so that nothing is searched. Its words are those of the shop's program.
+//! and a line feed, so that nothing is searched or held. Its words are those of the shop's program.
 #![tactic(auto)]
 
 use anyhow::{Context, Result, anyhow};
 use shop_app::first_worker;
 use shop_book::Solo;
-use shop_edges::{
-    BytesIn, Clock, Gateway, ReaderSource, Sink, StandardOutput, SystemClock, WriterSink,
-};
+use shop_edges::{Clock, Gateway, ReaderSource, Sink, StandardOutput, SystemClock, WriterSink};
 use shop_engine::{Worker, serve_connection};
 use shop_gateway::Emulator;
-use shop_text::{Listed, Text, number_of};
+use shop_text::{Text, number_of};
 use shop_words::{Command, Parsed, Session, command_of};
 use std::alloc::Global;
 use std::env::{self, Env};
 use std::io::Read;
 
-/// The most bytes of a read.
-const PIECE: usize = 32_768;
-
 /// The digits of a number of bytes.
 const DIGITS: usize = 8;
 
-/// The bytes of the next connection, where there is one.
-fn next_connection(alloc: Global, input: &mut impl Read) -> Result<Option<Text>> {
+/// The number of bytes of the next connection, where there is one.
+fn next_size(input: &mut impl Read) -> Result<Option<u32>> {
     let mut line = [0; DIGITS + 1];
     let Ok(()) = input.read_exact(&mut line) else {
         return Ok(None);
     };
-    let size = number_of(&line[..DIGITS]).context("no number of bytes")?;
-    let mut bytes = vec![in alloc; 0; size as usize]?;
-    input.read_exact(&mut bytes)?;
-    Ok(Some(Text::from_vec(bytes)))
+    Ok(Some(number_of(&line[..DIGITS]).context("no number of bytes")?))
 }
 
 /// Serves one connection after another, and counts the answers.
@@ -46,10 +38,10 @@ fn serve<K: Sink, C: Clock, G: Gateway>(
 ) -> Result<usize> {
     let mut answers = 0_usize;
     for _ in 0..u64::MAX {
-        let Some(bytes) = next_connection(alloc, input)? else {
+        let Some(size) = next_size(input)? else {
             break;
         };
-        let mut source = BytesIn::new(bytes, PIECE, Listed::new(alloc));
+        let mut source = ReaderSource::new(input.by_ref().take(u64::from(size)));
         let report = serve_connection(alloc, worker, &mut source, sink, clock, gateway);
         answers = answers.saturating_add(report.points.as_slice().len());
     }

@@ -47,8 +47,8 @@ fn subject_heading(page: &mut Template, word: &[u8], subject: Subject) -> Result
     requires { escape word.now ≡ word.now }
     ensures { OnOk result (Says page.old page.new (block_line (block.Heading (word.now ++ subject_name subject)))) }
 {
-    page.put(b"<h1>")?;
-    page.plain(word, subject.name())?;
+    page.plain(b"<h1>", word)?;
+    page.plain(b"", subject.name())?;
     page.put(b"</h1>\n")?;
     Ok(())
 }

@@ -1,6 +1,6 @@
 -- Bytes that are written over others, and a head that is written right before a text.
 use Rattle.std.proofs.Common.{◌≡◌, ℕ, ◌+◌, ◌-◌, ◌≤◌, List, [], ◌∷◌, ◌++◌, length, take, drop, arith, refl, sym, ◌∙◌, append_assoc, length-append, length-take, length-drop}
-use Rattle.std.proofs.lemmas.List.{length-take-le, take-append-le, drop-append-le, take-append-drop, drop-take, drop_all}
+use Rattle.std.proofs.lemmas.List.{length-take-le, take-append-le, drop-append-le, take-append-drop, drop-take, take_all, drop_all}
 use Rattle.std.proofs.Math.Seq.{take-append_seam, take-append-add, drop-append_seam}
 
 -- the bytes with others in place of those from a place on
@@ -46,6 +46,10 @@ laid bytes more at len fits within =
     let long = length-take-le at bytes fits in
     rw (take-append-le (at + len) (take at bytes ++ more) (drop (at + length more) bytes) (omega (arith, long, length-append (take at bytes) more)))
     (rw long at (take-append-add (take at bytes) more len))
+
+-- all that is written behind a place
+pub laid_all : (bytes more : List ℕ) (at : ℕ) → at ≤ length bytes → take (at + length more) (over bytes more at) ≡ take at bytes ++ more
+laid_all bytes more at fits = rw (take_all (length more) more (omega arith)) at (laid bytes more at (length more) fits (omega arith))
 
 -- a byte behind a place, and behind it bytes without the first of them
 pub behind : (bytes more : List ℕ) (byte at skip len : ℕ) → at + 1 ≤ length bytes → skip ≤ len → len ≤ length more

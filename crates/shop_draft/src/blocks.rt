@@ -18,7 +18,7 @@ impl Template {
     {
         self.clear();
         self.put(b"<html><head><title>")?;
-        self.put(title)?;
+        self.put_bytes(title)?;
         self.put(b"</title></head><body>\n")?;
         Ok(())
     }

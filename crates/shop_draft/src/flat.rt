@@ -1,4 +1,5 @@
-use crate::digits::{digit, digits};
+use crate::digits::digits;
+use crate::over::{FEW, write_array, write_few};
 use crate::short::{SHORT_ROOM, Short};
 use itoa::Buffer;
 use shop_text::{Caption, Memory, Text, entity};
@@ -23,8 +24,8 @@ impl Model for Flat {
     ghost invariant = { λ f. f.at ≤ length f.bytes.items };
 }
 
-ghost use Rattle.std.specs.Prelude.{◌≡◌, ◌≤◌, ◌+◌, ◌++◌, ◌∷◌, [], length, take, drop, decimal, IfOk, OnOk, OnErr, IfSome};
-ghost use Rattle.shop_text.specs.Texts.{escape};
+ghost use Rattle.std.specs.Prelude.{◌≡◌, ◌≤◌, ◌<◌, ◌+◌, ◌++◌, ◌∷◌, ◌↔◌, [], length, take, drop, decimal, IfOk, OnOk, OnErr, IfSome, IsTrue, MatchBool};
+ghost use Rattle.shop_text.specs.Texts.{cents_text, escape};
 
 /// By how many bytes more than it must a buffer grows: a few wide moves fill so many.
 const STEP: usize = 1024;
@@ -36,6 +37,15 @@ fn grown(len: usize, more: usize, capacity: usize) -> Option<usize>
 {
     let least = len.checked_add(more)?;
     Some(least.saturating_add(STEP).min(capacity.max(least)))
+}
+
+/// Whether there is room for so many bytes more behind a place.
+#[inline(always)]
+fn has_room(bytes: &Vec<u8>, at: usize, more: usize) -> bool
+    requires { at ≤ length bytes.now.items }
+    ensures { IsTrue result ↔ (at + more ≤ length bytes.now.items) }
+{
+    more <= bytes.len() - at
 }
 
 /// Makes room for so many bytes more.
@@ -60,7 +70,7 @@ fn make_room(bytes: &mut Vec<u8>, at: usize, more: usize) -> Result<(), Memory>
     ensures kept { at ≤ length bytes.new.items }
     ensures room { OnOk result (at + more ≤ length bytes.new.items) }
 {
-    if bytes.len() - at < more {
+    if !has_room(bytes, at, more) {
         grow(bytes, more)?;
     }
     Ok(())
@@ -73,6 +83,22 @@ fn write_over(bytes: &mut Vec<u8>, start: usize, more: &[u8])
     ensures { bytes.new.items ≡ take start bytes.old.items ++ more.now ++ drop (start + length more.now) bytes.old.items }
 {
     bytes[start..start + more.len()].copy_from_slice(more);
+}
+
+/// Writes bytes that stand for themselves in a page over others, as many; stops at one that does not.
+#[inline(always)]
+fn write_plain(place: &mut [u8], bytes: &[u8]) -> bool
+    requires { length place.old ≡ length bytes.now }
+    ensures plain { IsTrue result → escape bytes.now ≡ bytes.now }
+    ensures written { IsTrue result → place.new ≡ bytes.now }
+{
+    for (at, byte) in bytes.iter().enumerate() {
+        if entity(*byte).is_some() {
+            return false;
+        }
+        place[at] = *byte;
+    }
+    true
 }
 
 /// Drops the first bytes, so many.
@@ -143,6 +169,18 @@ impl Flat {
         Ok(())
     }
 
+    /// Adds the bytes of an array at the end: so many that few moves write them.
+    #[inline(always)]
+    pub(crate) fn put_array<const N: usize>(&mut self, bytes: &[u8; N]) -> Result<(), Memory>
+        ensures ok { OnOk result (self.new ≡ self.old ++ bytes.now) }
+        ensures err { OnErr result (self.new ≡ self.old) }
+    {
+        make_room(&mut self.bytes, self.at, N)?;
+        write_array(&mut self.bytes, self.at, bytes);
+        self.at += N;
+        Ok(())
+    }
+
     /// Adds a short text at the end, and writes over the room behind it. It is read once there is room, so that it
     /// goes straight to its place.
     #[inline(always)]
@@ -179,25 +217,15 @@ impl Flat {
         Ok(())
     }
 
-    /// Adds the digits of a number; up to four need no buffer.
-    #[tactic(auto, using(crate::proofs::cited::FewDigits::decimal_one, crate::proofs::cited::FewDigits::decimal_two, crate::proofs::cited::FewDigits::decimal_three, crate::proofs::cited::FewDigits::decimal_four))]
+    /// Adds the digits of a number. Up to four go straight to their place, where there is room.
     #[inline(never)]
     pub(crate) fn put_number(&mut self, number: u64) -> Result<(), Memory>
         ensures ok { OnOk result (self.new ≡ self.old ++ decimal number) }
         ensures err { OnErr result (self.new ≡ self.old) }
     {
-        if number < 10 {
-            self.put(&[digit(number)])
-        } else if number < 100 {
-            let (tens, ones) = digits(number);
-            self.put(&[tens, ones])
-        } else if number < 1_000 {
-            let (tens, ones) = digits(number % 100);
-            self.put(&[digit(number / 100), tens, ones])
-        } else if number < 10_000 {
-            let (thousands, hundreds) = digits(number / 100);
-            let (tens, ones) = digits(number % 100);
-            self.put(&[thousands, hundreds, tens, ones])
+        if number < FEW && has_room(&self.bytes, self.at, 4) {
+            self.at = write_few(&mut self.bytes, self.at, number);
+            Ok(())
         } else {
             self.put_long_number(number)
         }
@@ -214,9 +242,68 @@ impl Flat {
         self.put(buffer.format(number).as_bytes())
     }
 
-    /// Adds bytes as they stand in a page: whole runs of plain bytes, and an entity for each other byte.
+    /// Adds an amount in cents. One of few digits goes straight to its place, where there is room.
+    #[inline(never)]
+    pub(crate) fn put_cents(&mut self, cents: u64) -> Result<(), Memory>
+        ensures ok { OnOk result (self.new ≡ self.old ++ cents_text cents) }
+        ensures longer { length self.old ≤ length self.new }
+    {
+        if cents < 100 * FEW && has_room(&self.bytes, self.at, 7) {
+            let at = write_few(&mut self.bytes, self.at, cents / 100);
+            let (dimes, rest) = digits(cents % 100);
+            write_array(&mut self.bytes, at, &[b'.', dimes, rest]);
+            self.at = at + 3;
+            Ok(())
+        } else {
+            self.put_long_cents(cents)
+        }
+    }
+
+    /// Adds an amount in cents through a buffer.
+    #[cold]
+    #[inline(never)]
+    fn put_long_cents(&mut self, cents: u64) -> Result<(), Memory>
+        ensures ok { OnOk result (self.new ≡ self.old ++ cents_text cents) }
+        ensures longer { length self.old ≤ length self.new }
+    {
+        let (dimes, rest) = digits(cents % 100);
+        self.put_long_number(cents / 100)?;
+        self.put(&[b'.', dimes, rest])
+    }
+
+    /// Adds bytes that stand for themselves in a page, where there is room; says whether it did. Else it adds none.
+    #[inline(always)]
+    fn put_plain(&mut self, bytes: &[u8]) -> bool
+        ensures { MatchBool result (self.new ≡ self.old ++ escape bytes.now) (self.new ≡ self.old) }
+    {
+        if !has_room(&self.bytes, self.at, bytes.len()) {
+            return false;
+        }
+        let end = self.at + bytes.len();
+        if !write_plain(&mut self.bytes[self.at..end], bytes) {
+            return false;
+        }
+        self.at = end;
+        true
+    }
+
+    /// Adds bytes as they stand in a page. Most are plain.
     #[inline(never)]
     pub(crate) fn put_escaped(&mut self, bytes: &[u8]) -> Result<(), Memory>
+        ensures ok { OnOk result (self.new ≡ self.old ++ escape bytes.now) }
+        ensures longer { length self.old ≤ length self.new }
+    {
+        if self.put_plain(bytes) {
+            Ok(())
+        } else {
+            self.put_runs(bytes)
+        }
+    }
+
+    /// Adds bytes as they stand in a page: whole runs of plain bytes, and an entity for each other byte.
+    #[cold]
+    #[inline(never)]
+    fn put_runs(&mut self, bytes: &[u8]) -> Result<(), Memory>
         ensures ok { OnOk result (self.new ≡ self.old ++ escape bytes.now) }
         ensures longer { length self.old ≤ length self.new }
     {
@@ -240,7 +327,7 @@ impl Flat {
         if caption.is_plain() {
             self.put(caption.bytes())
         } else {
-            self.put_escaped(caption.bytes())
+            self.put_runs(caption.bytes())
         }
     }
 

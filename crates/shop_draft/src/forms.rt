@@ -24,7 +24,7 @@ impl Template {
         ensures { OnOk result (Adds self.old self.new (λ drawn. field_text (spec.number_field name.now (id_at drawn id)))) }
     {
         self.put(b"<input name=\"")?;
-        self.put(name)?;
+        self.put_bytes(name)?;
         self.id(b"\" value=\"", id)?;
         self.put(b"\">")?;
         Ok(())

@@ -17,6 +17,7 @@ mod item_links;
 mod links;
 mod orders;
 mod out;
+mod over;
 mod short;
 mod tables;
 mod tail;

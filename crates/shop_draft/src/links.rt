@@ -16,7 +16,7 @@ use shop_text::{Caption, Memory};
 impl Template {
     /// Adds an id behind its mark, where there is one.
     #[inline(always)]
-    fn marked(&mut self, mark: &[u8], id: Option<Id>) -> Result<(), Memory>
+    fn marked<const N: usize>(&mut self, mark: &[u8; N], id: Option<Id>) -> Result<(), Memory>
         ensures { OnOk result (Adds self.old self.new (λ drawn. marked mark.now (maybe_at drawn id))) }
     {
         match id {
@@ -36,12 +36,12 @@ impl Template {
             None => match ids.cart {
                 None => {}
                 Some(cart) => {
-                    self.put(sign.markup())?;
+                    self.put_bytes(sign.markup())?;
                     self.id(b"cart=", cart)?;
                 }
             },
             Some(c) => {
-                self.put(sign.markup())?;
+                self.put_bytes(sign.markup())?;
                 self.id(b"c=", c)?;
                 self.marked(b"&amp;cart=", ids.cart)?;
             }
@@ -86,7 +86,7 @@ impl Template {
         ensures { OnOk result (Says self.old self.new (links_with ids links.now)) }
     {
         match (ids.c, ids.cart) {
-            (None, None) => self.put(links.text())?,
+            (None, None) => self.put_bytes(links.text())?,
             _ => self.put_woven(links, ids)?,
         }
         Ok(())
@@ -101,10 +101,10 @@ impl Template {
         ensures { OnOk result (Adds self.old self.new (λ drawn. block_line (spec.plain_link path.now (ids_at drawn ids) label.now))) }
     {
         self.put(b"<a href=\"")?;
-        self.put(path)?;
+        self.put_bytes(path)?;
         self.first_ids(ids)?;
         self.put(b"\">")?;
-        self.put(label)?;
+        self.put_bytes(label)?;
         self.put(b"</a>\n")?;
         Ok(())
     }
@@ -117,7 +117,7 @@ impl Template {
         ensures { OnOk result (Adds self.old self.new (λ drawn. link_front (spec.item_target path.now item (ids_at drawn ids)))) }
     {
         self.put(b"<a href=\"")?;
-        self.put(path)?;
+        self.put_bytes(path)?;
         self.number(b"?item=", u64::from(item))?;
         self.more_ids(ids)?;
         self.put(b"\">")?;
@@ -139,7 +139,7 @@ impl Template {
         ensures { OnOk result (Adds self.old self.new (λ drawn. block_line (spec.item_link path.now item (ids_at drawn ids) label.now))) }
     {
         self.item_front(path, item, ids)?;
-        self.put(label)?;
+        self.put_bytes(label)?;
         self.put(b"</a>\n")?;
         Ok(())
     }
@@ -175,7 +175,7 @@ impl Template {
         ensures { OnOk result (Adds self.old self.new (λ drawn. link_front (spec.subject_target path.now subject (ids_at drawn ids)))) }
     {
         self.put(b"<a href=\"")?;
-        self.put(path)?;
+        self.put_bytes(path)?;
         self.plain(b"?subject=", subject.name())?;
         self.more_ids(ids)?;
         self.put(b"\">")?;
@@ -196,7 +196,8 @@ impl Template {
         ensures { OnOk result (Adds self.old self.new (λ drawn. block_line (spec.subject_link path.now subject (ids_at drawn ids) label.now))) }
     {
         self.subject_front(path, subject, ids)?;
-        self.plain(label, subject.name())?;
+        self.put_bytes(label)?;
+        self.put_bytes(subject.name())?;
         self.put(b"</a>\n")?;
         Ok(())
     }

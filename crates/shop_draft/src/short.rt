@@ -2,7 +2,7 @@
 ghost use Rattle.std.specs.Prelude.{◌≡◌, ◌≤◌, ◌+◌, ◌++◌, [], length, take, decimal};
 ghost use Rattle.shop_draft.specs.Links.{marked};
 
-use crate::digits::{digit, digits};
+use crate::over::{FEW, write_few};
 use itoa::Buffer;
 use std::marker::Model;
 
@@ -55,8 +55,7 @@ impl Short {
         self.len = end;
     }
 
-    /// Adds the digits of a number; up to four need no buffer.
-    #[tactic(auto, using(crate::proofs::cited::FewDigits::decimal_one, crate::proofs::cited::FewDigits::decimal_two, crate::proofs::cited::FewDigits::decimal_three, crate::proofs::cited::FewDigits::decimal_four))]
+    /// Adds the digits of an id. Up to four go straight to their place.
     #[inline(always)]
     fn put_number(&mut self, id: u32)
         requires { length self.old ≤ 30 }
@@ -64,21 +63,11 @@ impl Short {
         ensures short { length self.new ≤ length self.old + 10 }
     {
         let number = u64::from(id);
-        if number < 10 {
-            self.put(&[digit(number)])
-        } else if number < 100 {
-            let (tens, ones) = digits(number);
-            self.put(&[tens, ones])
-        } else if number < 1_000 {
-            let (tens, ones) = digits(number % 100);
-            self.put(&[digit(number / 100), tens, ones])
-        } else if number < 10_000 {
-            let (thousands, hundreds) = digits(number / 100);
-            let (tens, ones) = digits(number % 100);
-            self.put(&[thousands, hundreds, tens, ones])
+        if number < FEW {
+            self.len = write_few(&mut self.bytes, self.len, number);
         } else {
             let mut buffer = Buffer::new();
-            self.put(buffer.format(id).as_bytes())
+            self.put(buffer.format(id).as_bytes());
         }
     }
 

@@ -1,6 +1,6 @@
 ghost use Rattle.std.specs.Prelude.{◌≡◌, ℕ, ◌≤◌, ◌<◌, ◌^◌, ◌+◌, ◌++◌, [], length, false, decimal, IsTrue, IfOk, OnOk, IfSome};
 ghost use Rattle.shop_history.specs.declared.acts.Drawn.{Drawn};
-ghost use Rattle.shop_text.specs.Texts.{escape};
+ghost use Rattle.shop_text.specs.Texts.{cents_text, escape};
 ghost use Rattle.shop_draft.specs.Drawing.{hole_text};
 ghost use Rattle.shop_draft.specs.Links.{AddsIds, HasIds, links_with};
 ghost use Rattle.shop_draft.specs.Templates as spec;
@@ -82,10 +82,28 @@ impl Template {
 
     /// Adds markup as it stands.
     #[inline(always)]
-    pub fn put(&mut self, markup: &[u8]) -> Result<(), Memory>
+    pub fn put<const N: usize>(&mut self, markup: &[u8; N]) -> Result<(), Memory>
         ensures { OnOk result (Says self.old self.new markup.now) }
     {
-        self.bytes.put(markup)?;
+        self.bytes.put_array(markup)?;
+        Ok(())
+    }
+
+    /// Adds bytes that stand for themselves in a page.
+    #[inline(always)]
+    pub(crate) fn put_bytes(&mut self, bytes: &[u8]) -> Result<(), Memory>
+        ensures { OnOk result (Says self.old self.new bytes.now) }
+    {
+        self.bytes.put(bytes)?;
+        Ok(())
+    }
+
+    /// Adds an amount in cents.
+    #[inline(always)]
+    pub(crate) fn put_cents(&mut self, cents: u64) -> Result<(), Memory>
+        ensures { OnOk result (Says self.old self.new (escape (cents_text cents))) }
+    {
+        self.bytes.put_cents(cents)?;
         Ok(())
     }
 

@@ -1,41 +1,18 @@
 //! Markup, and behind it a value.
 ghost use Rattle.std.specs.Prelude.{◌≡◌, ◌≤◌, ◌++◌, OnOk, decimal};
-ghost use Rattle.shop_text.specs.Texts.{escape, cents_text, day_text, digsyl};
+ghost use Rattle.shop_text.specs.Texts.{cents_text, day_text, digsyl, escape};
 ghost use Rattle.shop_text.specs.Syllables.{spelled};
 ghost use Rattle.shop_draft.specs.Drawing.{id_at, user_at, hole_text};
 ghost use Rattle.shop_draft.specs.Templates.{Adds, Says};
 
-use crate::digits::{digit, digits};
 use crate::{Hole, Id, Template};
 use itoa::Buffer;
 use shop_text::{Caption, Memory, day_bytes, syllable};
 
 impl Template {
-    /// Adds an amount in cents. Most are below a hundred units.
-    #[inline(never)]
-    fn put_cents(&mut self, cents: u64) -> Result<(), Memory>
-        ensures { OnOk result (Says self.old self.new (escape (cents_text cents))) }
-    {
-        let units = cents / 100;
-        let (dimes, rest) = digits(cents % 100);
-        if units < 10 {
-            self.put(&[digit(units), b'.', dimes, rest])?;
-        } else if units < 100 {
-            let (tens, ones) = digits(units);
-            self.put(&[tens, ones, b'.', dimes, rest])?;
-        } else if units < 1_000 {
-            let (tens, ones) = digits(units % 100);
-            self.put(&[digit(units / 100), tens, ones, b'.', dimes, rest])?;
-        } else {
-            self.put_number(units)?;
-            self.put(&[b'.', dimes, rest])?;
-        }
-        Ok(())
-    }
-
     /// Markup as it stands, and behind it a text.
     #[inline(always)]
-    pub fn text(&mut self, front: &[u8], text: &Caption) -> Result<(), Memory>
+    pub fn text<const N: usize>(&mut self, front: &[u8; N], text: &Caption) -> Result<(), Memory>
         ensures { OnOk result (Says self.old self.new (front.now ++ escape text.now)) }
     {
         self.put(front)?;
@@ -45,7 +22,7 @@ impl Template {
 
     /// Markup as it stands, and behind it bytes.
     #[inline(always)]
-    pub fn escaped(&mut self, front: &[u8], bytes: &[u8]) -> Result<(), Memory>
+    pub fn escaped<const N: usize>(&mut self, front: &[u8; N], bytes: &[u8]) -> Result<(), Memory>
         ensures { OnOk result (Says self.old self.new (front.now ++ escape bytes.now)) }
     {
         self.put(front)?;
@@ -55,18 +32,18 @@ impl Template {
 
     /// Markup as it stands, and behind it plain bytes.
     #[inline(always)]
-    pub fn plain(&mut self, front: &[u8], bytes: &[u8]) -> Result<(), Memory>
+    pub fn plain<const N: usize>(&mut self, front: &[u8; N], bytes: &[u8]) -> Result<(), Memory>
         requires { escape bytes.now ≡ bytes.now }
         ensures { OnOk result (Says self.old self.new (front.now ++ escape bytes.now)) }
     {
         self.put(front)?;
-        self.put(bytes)?;
+        self.put_bytes(bytes)?;
         Ok(())
     }
 
     /// Markup as it stands, and behind it a number.
     #[inline(always)]
-    pub fn number(&mut self, front: &[u8], number: u64) -> Result<(), Memory>
+    pub fn number<const N: usize>(&mut self, front: &[u8; N], number: u64) -> Result<(), Memory>
         ensures { OnOk result (Says self.old self.new (front.now ++ escape (decimal number))) }
     {
         self.put(front)?;
@@ -76,7 +53,7 @@ impl Template {
 
     /// Markup as it stands, and behind it an amount in cents.
     #[inline(always)]
-    pub fn money(&mut self, front: &[u8], cents: u64) -> Result<(), Memory>
+    pub fn money<const N: usize>(&mut self, front: &[u8; N], cents: u64) -> Result<(), Memory>
         ensures { OnOk result (Says self.old self.new (front.now ++ escape (cents_text cents))) }
     {
         self.put(front)?;
@@ -86,7 +63,7 @@ impl Template {
 
     /// Markup as it stands, and behind it a day counted from 1970-01-01, up to 9999-12-31.
     #[inline(always)]
-    pub fn day(&mut self, front: &[u8], day: u32) -> Result<(), Memory>
+    pub fn day<const N: usize>(&mut self, front: &[u8; N], day: u32) -> Result<(), Memory>
         requires { day ≤ 2_932_896 }
         ensures { OnOk result (Says self.old self.new (front.now ++ escape (day_text day))) }
     {
@@ -97,7 +74,7 @@ impl Template {
 
     /// Markup as it stands, and behind it what a settle draws.
     #[inline(always)]
-    pub fn hole(&mut self, front: &[u8], hole: Hole) -> Result<(), Memory>
+    pub fn hole<const N: usize>(&mut self, front: &[u8; N], hole: Hole) -> Result<(), Memory>
         ensures { OnOk result (Adds self.old self.new (λ drawn. front.now ++ hole_text drawn hole)) }
     {
         self.put(front)?;
@@ -122,7 +99,7 @@ impl Template {
 
     /// Markup as it stands, and behind it an id, or a hole for it.
     #[inline(always)]
-    pub fn id(&mut self, front: &[u8], id: Id) -> Result<(), Memory>
+    pub fn id<const N: usize>(&mut self, front: &[u8; N], id: Id) -> Result<(), Memory>
         ensures { OnOk result (Adds self.old self.new (λ drawn. front.now ++ escape (decimal (id_at drawn id)))) }
     {
         self.put(front)?;
@@ -135,7 +112,7 @@ impl Template {
         ensures { OnOk result (Says self.old self.new (spelled digits.now)) }
     {
         for code in digits {
-            self.put(syllable(code.saturating_sub(b'0')))?;
+            self.put_bytes(syllable(code.saturating_sub(b'0')))?;
         }
         Ok(())
     }
@@ -165,7 +142,7 @@ impl Template {
 
     /// Markup as it stands, and behind it the user name of a customer, or a hole for it.
     #[inline(always)]
-    pub fn user(&mut self, front: &[u8], customer: Id) -> Result<(), Memory>
+    pub fn user<const N: usize>(&mut self, front: &[u8; N], customer: Id) -> Result<(), Memory>
         ensures { OnOk result (Adds self.old self.new (λ drawn. front.now ++ escape (user_at drawn customer))) }
     {
         self.put(front)?;

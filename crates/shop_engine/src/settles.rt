@@ -22,6 +22,7 @@ use shop_model::Refusal;
 use shop_pages::Reply;
 
 /// Settles an attempt whose page is written, in the room that is made before, and finishes its reply.
+#[inline(always)]
 pub(crate) fn settle_page<St: Store>(
     store: &mut St,
     job: &Job,

@@ -7,4 +7,4 @@ pub returns : goal.returns
 unfolding field_text
 returns c drawn =
     named_field (codes "<input name=\"") (codes "\" value=\"") (codes "\">") _ _ _ _ _ c.args.name.now _ c.requires
-    (c.in_ok-put.ensures drawn) (c.in_ok-put-2.ensures drawn) (c.in_ok-id.ensures drawn) (c.in_ok-put-3.ensures drawn)
+    (c.in_ok-put.ensures drawn) (c.in_ok-put_bytes.ensures drawn) (c.in_ok-id.ensures drawn) (c.in_ok-put-2.ensures drawn)

@@ -1,6 +1,6 @@
 use Rattle.std.proofs.Common.{◌≡◌, ◌++◌, ◌≤◌, length, take, drop}
 use Rattle.shop_text.specs.Escape.{escape}
-use Rattle.shop_draft.proofs.flat.Flat.put_escaped.Given as goal
+use Rattle.shop_draft.proofs.flat.Flat.put_runs.Given as goal
 
 -- what is written, and the run of plain bytes that is not yet
 abbrev pub invariant-loop-at : goal.invariant-loop-at

@@ -1,7 +1,7 @@
 use Rattle.std.proofs.Common.{◌≡◌, ◌≤◌, ◌∙◌, ◌++◌, List, ℕ, length, ap, arith, length-append}
 use Rattle.shop_text.proofs.cited.Escapes.{plain_step, entity_step}
-use Rattle.shop_draft.proofs.flat.Flat.put_escaped.Goals as goal
-use Rattle.shop_draft.proofs.flat.Flat.put_escaped.Goals.{in-Some+in_ok-put+in_ok-put-2, in_default}
+use Rattle.shop_draft.proofs.flat.Flat.put_runs.Goals as goal
+use Rattle.shop_draft.proofs.flat.Flat.put_runs.Goals.{in-Some+in_ok-put+in_ok-put-2, in_default}
 
 longer : (least : ℕ) (old first now a b : List ℕ) → least ≤ length old → first ≡ old ++ a → now ≡ first ++ b → least ≤ length now
 longer least old first now a b le is_first is = rw (is, is_first) (omega (arith, length-append (old ++ a) b, length-append old a))

@@ -1,0 +1,5 @@
+use Rattle.shop_draft.proofs.Splices.{adds_bytes}
+use Rattle.shop_draft.proofs.template.Template.put_bytes.Goals as goal
+
+pub returns : goal.returns
+returns c drawn = rw (← c.self.view_is) (adds_bytes _ _ _ _ _ _ c.self.invariant c.in_ok-put.ensures.ok drawn)
