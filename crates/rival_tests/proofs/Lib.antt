@@ -1,1 +1,2 @@
+mod Desks
 pub mod Rivals

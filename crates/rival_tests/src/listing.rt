@@ -1,10 +1,7 @@
 //! A list that caller 1 reads at the desk with seed 0, where caller 2 administers an item of it meanwhile.
 use crate::Deed;
-use crate::tests::worker_among;
-use shop_edges::{BytesIn, BytesOut, ListClock};
-use shop_engine::{Point, PointKind, Report, serve_connection};
-use shop_gateway::Emulator;
-use shop_text::{Listed, Text};
+use crate::tests::{Outcome, outcome_of};
+use shop_engine::{Point, PointKind, Report};
 use std::alloc::Global;
 use std::test::Fail;
 
@@ -15,20 +12,14 @@ GET /new_products?subject=NON-FICTION HTTP/1.1\r\nHost: shop\r\n\r\n";
 
 /// What comes of them within thirty seconds, and a millisecond later.
 fn lists(alloc: Global) -> Result<Report, Fail> {
-    let readings = Listed::from_vec(Vec::from_slice(alloc, &[1_000, 31_000, 31_001])?);
-    let mut clock = ListClock::new(alloc, readings)?;
-    let mut worker = worker_among(alloc, Deed::Reprice, 1)?;
-    let mut source = BytesIn::new(Text::copy(alloc, LISTS)?, 1_000_000, Listed::new(alloc));
-    let mut sink = BytesOut::new(alloc, 1_000_000, Listed::new(alloc));
-    let mut gateway = Emulator::new(alloc);
-    Ok(serve_connection(
-        alloc,
-        &mut worker,
-        &mut source,
-        &mut sink,
-        &mut clock,
-        &mut gateway,
-    ))
+    let readings = [1_000, 31_000, 31_001];
+    let Outcome {
+        report,
+        sink: _,
+        book: _,
+        gateway: _,
+    } = outcome_of(alloc, &readings, LISTS, Deed::Reprice, 1)?;
+    Ok(report)
 }
 
 /// The front and the tries of a list, and whether it was kept.

@@ -1,14 +1,12 @@
 //! A purchase, and the administration of an item, by caller 1 at the desk with seed 0, where caller 2 buys,
 //! adds to the cart or changes a cost meanwhile.
 use crate::Deed;
-use crate::tests::worker_among;
+use crate::tests::{Outcome, outcome_of};
 use shop_book::Book;
-use shop_edges::{BytesIn, BytesOut, ListClock};
-use shop_engine::{PointKind, Report, serve_connection};
+use shop_engine::{PointKind, Report};
 use shop_gateway::Emulator;
 use shop_history::{Key, Row};
 use shop_model::AuthId;
-use shop_text::{Listed, Text};
 use std::alloc::Global;
 use std::test::Fail;
 
@@ -20,38 +18,6 @@ Host: shop\r\n\r\n";
 const ADMINISTRATION: &[u8] =
     b"GET /admin_confirm?item=1&cost=3000&image=/i.gif&thumb=/t.gif HTTP/1.1\r\n\
 Host: shop\r\n\r\n";
-
-/// What comes of messages: the points, the book, and the gateway of caller 1.
-#[derive(Drop)]
-struct Outcome {
-    report: Report,
-    book: Book,
-    gateway: Emulator,
-}
-
-fn outcome_of(alloc: Global, input: &[u8], deed: Deed) -> Result<Outcome, Fail> {
-    let readings = Listed::from_vec(Vec::from_slice(alloc, &[1_000])?);
-    let mut clock = ListClock::new(alloc, readings)?;
-    let input = Text::copy(alloc, input)?;
-    let mut worker = worker_among(alloc, deed, 1)?;
-    let mut source = BytesIn::new(input, 1_000_000, Listed::new(alloc));
-    let mut sink = BytesOut::new(alloc, 1_000_000, Listed::new(alloc));
-    let mut gateway = Emulator::new(alloc);
-    let report = serve_connection(
-        alloc,
-        &mut worker,
-        &mut source,
-        &mut sink,
-        &mut clock,
-        &mut gateway,
-    );
-    let book = worker.into_store().into_book();
-    Ok(Outcome {
-        report,
-        book,
-        gateway,
-    })
-}
 
 /// The front and the tries of a point, where it is that of a change.
 fn change_at(report: &Report, at: usize) -> Option<(u64, u32)> {
@@ -109,7 +75,7 @@ fn seen_in(outcome: &mut Outcome) -> Seen {
 }
 
 fn seen_after(alloc: Global, input: &[u8], deed: Deed) -> Result<Seen, Fail> {
-    let mut outcome = outcome_of(alloc, input, deed)?;
+    let mut outcome = outcome_of(alloc, &[1_000], input, deed, 1)?;
     Ok(seen_in(&mut outcome))
 }
 

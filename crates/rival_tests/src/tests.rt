@@ -58,27 +58,52 @@ fn twin(index: &Arc<Index, Global>) -> Result<Arc<Index, Global>, Fail>
     }
 }
 
-/// A worker of caller 1, among whose settles caller 2 does a deed so often.
-pub(crate) fn worker_among(
+/// The same with two owners of the index. The book comes last, so that no refusal has it to let go.
+fn shared_desk(
     alloc: Global,
-    deed: Deed,
-    changes: u32,
-) -> Result<Worker<Rivalled>, Fail> {
-    let scale = Scale::desk();
-    let (book, index) = desk(alloc, &scale)?;
-    let index = Arc::new(alloc, index)?;
+    scale: &Scale,
+) -> Result<(Book, Arc<Index, Global>, Arc<Index, Global>), Fail>
+    ensures scale { IfOk result (λ desk. scale.now.items ≡ length desk.0.opening.tables.items) }
+    ensures index { IfOk result (λ desk. arc_value desk.1 ≡ catalogue desk.0.opening.tables) }
+    ensures shared { IfOk result (λ desk. arc_value desk.2 ≡ catalogue desk.0.opening.tables) }
+{
+    let tables = populate(alloc, 0, scale)?;
+    let index = Arc::new(alloc, Index::build(alloc, &tables)?)?;
     let shared = twin(&index)?;
+    Ok((Book::open(alloc, tables, 100)?, index, shared))
+}
+
+/// A worker of caller 1, among whose settles caller 2 does a deed so often.
+fn worker_among(alloc: Global, deed: Deed, changes: u32) -> Result<Worker<Rivalled>, Fail> {
     let draft = empty_draft(alloc)?;
+    let scale = Scale::desk();
+    let (book, index, shared) = shared_desk(alloc, &scale)?;
     let store = Rivalled::new(alloc, book, shared, scale, deed, changes, draft);
     Ok(Worker::new(alloc, store, 1, 0, scale, index)?)
 }
 
-/// What comes of the input while caller 2 makes so many changes.
-fn served(alloc: Global, changes: u32) -> Result<(Report, BytesOut), Fail> {
-    let readings = Listed::from_vec(Vec::from_slice(alloc, &[1_000])?);
+/// What comes of messages: the points, the replies, the book, and the gateway of caller 1.
+#[derive(Drop)]
+pub(crate) struct Outcome {
+    pub(crate) report: Report,
+    pub(crate) sink: BytesOut,
+    pub(crate) book: Book,
+    pub(crate) gateway: Emulator,
+}
+
+/// What comes of messages at these readings of the clock, among which caller 2 does a deed so often. The worker comes
+/// last, so that no refusal has it to let go.
+pub(crate) fn outcome_of(
+    alloc: Global,
+    readings: &[u64],
+    input: &[u8],
+    deed: Deed,
+    changes: u32,
+) -> Result<Outcome, Fail> {
+    let readings = Listed::from_vec(Vec::from_slice(alloc, readings)?);
     let mut clock = ListClock::new(alloc, readings)?;
-    let input = Text::copy(alloc, INPUT)?;
-    let mut worker = worker_among(alloc, Deed::AddUnit, changes)?;
+    let input = Text::copy(alloc, input)?;
+    let mut worker = worker_among(alloc, deed, changes)?;
     let mut source = BytesIn::new(input, 1_000_000, Listed::new(alloc));
     let mut sink = BytesOut::new(alloc, 1_000_000, Listed::new(alloc));
     let mut gateway = Emulator::new(alloc);
@@ -90,6 +115,23 @@ fn served(alloc: Global, changes: u32) -> Result<(Report, BytesOut), Fail> {
         &mut clock,
         &mut gateway,
     );
+    let book = worker.into_store().into_book();
+    Ok(Outcome {
+        report,
+        sink,
+        book,
+        gateway,
+    })
+}
+
+/// What comes of the input while caller 2 makes so many changes: the points and the replies.
+fn served(alloc: Global, changes: u32) -> Result<(Report, BytesOut), Fail> {
+    let Outcome {
+        report,
+        sink,
+        book: _,
+        gateway: _,
+    } = outcome_of(alloc, &[1_000], INPUT, Deed::AddUnit, changes)?;
     Ok((report, sink))
 }
 

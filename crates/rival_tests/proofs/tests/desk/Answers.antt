@@ -1,14 +1,9 @@
-use Rattle.std.proofs.Common.{◌≡◌, ℕ, length, sym, ◌∙◌, ap}
-use Rattle.std.proofs.lemmas.List.FromFn.{length-map-range_with_len}
+use Rattle.std.proofs.Common.{◌≡◌, length, sym, ◌∙◌, ap}
 use Rattle.shop_model.specs.declared.tables.Tables.{Tables}
-use Rattle.shop_model.specs.population.Population.{populated, items_table, item_row}
-use Rattle.shop_model.specs.population.Scales.{ScaleRow}
+use Rattle.shop_model.specs.population.Population.{populated}
 use Rattle.shop_book.specs.Books.{BookValue}
+use Rattle.rival_tests.proofs.Desks.{items_populated}
 use Rattle.rival_tests.proofs.tests.desk.Goals as goal
-
-items_populated : (seed : ℕ) (scale : ScaleRow) → length (populated seed scale).items ≡ scale.items
-unfolding populated items_table
-items_populated seed scale = length-map-range_with_len (item_row seed scale) 1 scale.items
 
 pub returns-clause-scale : goal.returns-clause-scale
 returns-clause-scale c =
