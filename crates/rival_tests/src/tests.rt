@@ -58,7 +58,8 @@ fn twin(index: &Arc<Index, Global>) -> Result<Arc<Index, Global>, Fail>
     }
 }
 
-/// The same with two owners of the index. The book comes last, so that no refusal has it to let go.
+/// The book and the index of the desk, with two owners of the index. The book comes last, so that no refusal has it to
+/// let go.
 fn shared_desk(
     alloc: Global,
     scale: &Scale,
