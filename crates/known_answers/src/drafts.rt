@@ -3,10 +3,11 @@ use crate::answers::{answer, heading, text_of};
 use crate::stop::Stop;
 use shop_draft::{Draft, Hole, Id, ItemLinks, Out, PageIds, Template, refusal};
 use shop_history::{Drawn, Ids};
-use shop_model::{IdsAsked, Item, Order, Refusal, Scale, Subject};
+use shop_model::{IdsAsked, Item, Order, Refusal, Scale, Subject, Tables};
 use shop_populate::populate;
 use shop_text::{Caption, Memory};
 use std::alloc::Global;
+use std::fmt::Debug;
 
 const NONE: Ids = Ids {
     cart: None,
@@ -40,10 +41,15 @@ fn filled(alloc: Global, page: &Template, drawn: &Drawn) -> Result<(Out, usize),
     Ok((out, page.len(drawn)))
 }
 
+/// Prints what is told of a text, and the text.
+fn print_text(rt: &impl Print, what: &str, told: &impl Debug, text: &[u8]) -> Result<(), Stop> {
+    answer(rt, &what, told)?;
+    heading(rt, text_of(text))
+}
+
 /// Prints a page, and whether no gap of it is to be filled.
 fn print_page(rt: &impl Print, what: &str, page: &Template) -> Result<(), Stop> {
-    answer(rt, &what, &page.is_whole())?;
-    heading(rt, text_of(page.bytes()))
+    print_text(rt, what, &page.is_whole(), page.bytes())
 }
 
 /// Prints a page that a settle filled, and whether it is as long as was told.
@@ -54,17 +60,26 @@ fn print_filled(
     ids: Ids,
 ) -> Result<(), Stop> {
     let (out, len) = filled(rt.alloc(), page, &drawn(ids))?;
-    answer(rt, &what, &(page.is_whole(), out.bytes().len() == len))?;
-    heading(rt, text_of(out.bytes()))
+    let told = (page.is_whole(), out.bytes().len() == len);
+    print_text(rt, what, &told, out.bytes())
 }
 
 fn put_item(page: &mut Template, title: &Caption, first: &Caption) -> Result<(), Memory> {
+    put_blocks(page, title, first)?;
+    put_published(page)
+}
+
+fn put_blocks(page: &mut Template, title: &Caption, first: &Caption) -> Result<(), Memory> {
     page.begin(b"Item")?;
     page.heading(title)?;
     page.text(b"<p>By ", first)?;
     page.put(b"</p>\n")?;
     page.para(title)?;
     page.picture(title, first)?;
+    Ok(())
+}
+
+fn put_published(page: &mut Template) -> Result<(), Memory> {
     page.day(b"<p>Published ", 11_016)?;
     page.money(b", our price ", 1_205)?;
     page.escaped(b" by ", b"\"A&B\"")?;
@@ -76,11 +91,21 @@ fn put_item(page: &mut Template, title: &Caption, first: &Caption) -> Result<(),
 fn print_item(rt: &(impl Print + AllocGlobal), page: &mut Template) -> Result<(), Stop> {
     let title = Caption::copy(rt.alloc(), b"fish & <chips>")?;
     let first = Caption::copy(rt.alloc(), b"ANN")?;
-    put_item(page, &title, &first)?;
+    print_items(rt, page, &title, &first)
+}
+
+/// Prints a page behind the second of two heads, and the page that comes next.
+fn print_items(
+    rt: &impl Print,
+    page: &mut Template,
+    title: &Caption,
+    first: &Caption,
+) -> Result<(), Stop> {
+    put_item(page, title, first)?;
     page.put_before(b"long head\n");
     page.put_before(b"head\n");
     print_page(rt, "texts and blocks behind a head", page)?;
-    put_item(page, &first, &first)?;
+    put_item(page, first, first)?;
     print_page(rt, "the next page", page)
 }
 
@@ -103,23 +128,46 @@ fn put_links(
 
 fn print_links(rt: &(impl Print + AllocGlobal), page: &mut Template) -> Result<(), Stop> {
     let caption = Caption::copy(rt.alloc(), b"a<b")?;
-    let mut links = ItemLinks::with_capacity(rt.alloc(), 1)?;
-    links.push(9, &caption, &caption, &caption)?;
+    print_each_links(rt, page, &caption, &one_link(rt.alloc(), &caption)?)
+}
+
+/// Links to item 9.
+fn one_link(alloc: Global, caption: &Caption) -> Result<ItemLinks, Memory> {
+    let mut links = ItemLinks::with_capacity(alloc, 1)?;
+    links.push(9, caption, caption, caption)?;
+    Ok(links)
+}
+
+/// Prints links that hand on no ids, and such that do.
+fn print_each_links(
+    rt: &impl Print,
+    page: &mut Template,
+    caption: &Caption,
+    links: &ItemLinks,
+) -> Result<(), Stop> {
     let mut asked = IdsAsked {
         c: None,
         cart: None,
     };
-    put_links(page, &caption, &links, asked)?;
+    put_links(page, caption, links, asked)?;
     print_page(rt, "links", page)?;
     asked.c = Some(5);
     asked.cart = Some(6);
-    put_links(page, &caption, &links, asked)?;
+    put_links(page, caption, links, asked)?;
     print_page(rt, "links that hand on ids", page)
 }
 
 fn put_cart(page: &mut Template, title: &Caption, ids: PageIds) -> Result<(), Memory> {
     page.begin(b"Cart")?;
     page.id(b"<h1>Cart ", Id::NewCart)?;
+    put_table(page, title)?;
+    page.cart_form(&[(3, 12), (4, 1)], ids)?;
+    page.nav(ids)?;
+    page.end()?;
+    Ok(())
+}
+
+fn put_table(page: &mut Template, title: &Caption) -> Result<(), Memory> {
     page.put(b"</h1>\n<table>")?;
     page.line_row(3, title, 12, 250)?;
     page.put(b"<tr>")?;
@@ -127,19 +175,23 @@ fn put_cart(page: &mut Template, title: &Caption, ids: PageIds) -> Result<(), Me
     page.number_cell(1)?;
     page.money_cell(5)?;
     page.put(b"</tr></table>\n")?;
-    page.cart_form(&[(3, 12), (4, 1)], ids)?;
-    page.nav(ids)?;
-    page.end()?;
     Ok(())
 }
 
 fn print_cart(rt: &(impl Print + AllocGlobal), page: &mut Template) -> Result<(), Stop> {
-    let title = Caption::copy(rt.alloc(), b"A&B")?;
+    print_waiting(rt, page, &Caption::copy(rt.alloc(), b"A&B")?)
+}
+
+fn print_waiting(
+    rt: &(impl Print + AllocGlobal),
+    page: &mut Template,
+    title: &Caption,
+) -> Result<(), Stop> {
     let waiting = PageIds {
         c: None,
         cart: Some(Id::NewCart),
     };
-    put_cart(page, &title, waiting)?;
+    put_cart(page, title, waiting)?;
     let ids = Ids {
         cart: Some(u32::MAX),
         ..NONE
@@ -150,11 +202,15 @@ fn print_cart(rt: &(impl Print + AllocGlobal), page: &mut Template) -> Result<()
 fn put_each_hole(page: &mut Template) -> Result<(), Memory> {
     page.clear();
     page.hole(b"", Hole::CartId)?;
-    page.hole(b" ", Hole::CustomerId)?;
-    page.hole(b" ", Hole::OrderId)?;
-    page.hole(b" ", Hole::User)?;
-    page.hole(b" ", Hole::Day(1))?;
-    page.hole(b" ", Hole::Day(u32::MAX))?;
+    for hole in [
+        Hole::CustomerId,
+        Hole::OrderId,
+        Hole::User,
+        Hole::Day(1),
+        Hole::Day(u32::MAX),
+    ] {
+        page.hole(b" ", hole)?;
+    }
     page.id(b" ", Id::NewCustomer)?;
     page.id(b" ", Id::NewOrder)?;
     page.put(b".")?;
@@ -210,7 +266,10 @@ fn put_order(page: &mut Template, order: &Order, item: &Item) -> Result<(), Memo
 
 /// The twentieth order and the first item of the smallest shop.
 fn print_order(rt: &(impl Print + AllocGlobal), page: &mut Template) -> Result<(), Stop> {
-    let tables = populate(rt.alloc(), 0, &Scale::desk())?;
+    print_rows(rt, page, &populate(rt.alloc(), 0, &Scale::desk())?)
+}
+
+fn print_rows(rt: &impl Print, page: &mut Template, tables: &Tables) -> Result<(), Stop> {
     let order = tables.orders.as_slice().get(19).ok_or(Stop::NoRow)?;
     let item = tables.items.as_slice().first().ok_or(Stop::NoRow)?;
     put_order(page, order.get(), item)?;
@@ -222,18 +281,25 @@ fn print_refusal(rt: &(impl Print + AllocGlobal)) -> Result<(), Stop> {
         status: 200,
         page: Template::with_room(rt.alloc(), 0)?,
     };
-    refusal(&mut draft, Refusal::NoCart)?;
-    answer(rt, &"a refusal", &draft.status)?;
-    heading(rt, text_of(draft.page.bytes()))
+    print_refused(rt, &mut draft)
+}
+
+fn print_refused(rt: &impl Print, draft: &mut Draft) -> Result<(), Stop> {
+    refusal(draft, Refusal::NoCart)?;
+    print_text(rt, "a refusal", &draft.status, draft.page.bytes())
 }
 
 pub fn print(rt: &(impl Print + AllocGlobal)) -> Result<(), Stop> {
-    let mut page = Template::with_room(rt.alloc(), 0)?;
-    print_item(rt, &mut page)?;
-    print_links(rt, &mut page)?;
-    print_cart(rt, &mut page)?;
-    print_holes(rt, &mut page)?;
-    print_customers(rt, &mut page)?;
-    print_order(rt, &mut page)?;
+    print_pages(rt, &mut Template::with_room(rt.alloc(), 0)?)?;
     print_refusal(rt)
+}
+
+/// Prints pages that are written one after another in the same place.
+fn print_pages(rt: &(impl Print + AllocGlobal), page: &mut Template) -> Result<(), Stop> {
+    print_item(rt, page)?;
+    print_links(rt, page)?;
+    print_cart(rt, page)?;
+    print_holes(rt, page)?;
+    print_customers(rt, page)?;
+    print_order(rt, page)
 }

@@ -60,30 +60,34 @@ fn source(alloc: Global, piece: usize, fails: &[u64]) -> Result<BytesIn, Memory>
 fn print_reads(rt: &(impl Print + AllocGlobal)) -> Result<(), Stop> {
     heading(rt, "reads come in pieces and fail where listed")?;
     for (piece, fails) in [(9, [0, 0]), (2, [0, 0]), (2, [1, 3]), (9, [2, 4])] {
-        let mut source = source(rt.alloc(), piece, &fails)?;
-        answer(
-            rt,
-            &(piece, fails),
-            &(four_reads(&mut source), source.faults()),
-        )?;
+        print_read(rt, piece, fails)?;
     }
     Ok(())
+}
+
+fn print_read(rt: &(impl Print + AllocGlobal), piece: usize, fails: [u64; 2]) -> Result<(), Stop>
+    requires { 0 < piece }
+{
+    let mut source = source(rt.alloc(), piece, &fails)?;
+    let reads = four_reads(&mut source);
+    answer(rt, &(piece, fails), &(reads, source.faults()))
 }
 
 /// By pieces and the call that fails: whether all was written, what is held, and the faults.
 fn print_writes(rt: &(impl Print + AllocGlobal)) -> Result<(), Stop> {
     heading(rt, "writes come in pieces and fail where listed")?;
     for (piece, fails) in [(2, 0), (9, 0), (2, 3), (9, 1), (0, 0)] {
-        let listed = listed(rt.alloc(), &[fails])?;
-        let mut sink = BytesOut::with_room(rt.alloc(), piece, listed, 5)?;
-        let whole = hello(&mut sink);
-        answer(
-            rt,
-            &(piece, fails),
-            &(whole, text_of(sink.bytes()), sink.faults()),
-        )?;
+        print_write(rt, piece, fails)?;
     }
     Ok(())
+}
+
+fn print_write(rt: &(impl Print + AllocGlobal), piece: usize, fails: u64) -> Result<(), Stop> {
+    let fail = listed(rt.alloc(), &[fails])?;
+    let mut sink = BytesOut::with_room(rt.alloc(), piece, fail, 5)?;
+    let whole = hello(&mut sink);
+    let written = (whole, text_of(sink.bytes()), sink.faults());
+    answer(rt, &(piece, fails), &written)
 }
 
 fn clock(alloc: Global, readings: &[u64]) -> Result<ListClock, Memory> {
@@ -104,10 +108,10 @@ fn four_readings(mut clock: ListClock) -> [[u64; 2]; 4] {
 
 fn print_readings(rt: &(impl Print + AllocGlobal)) -> Result<(), Stop> {
     heading(rt, "a list of readings ends with its last")?;
-    let three = clock(rt.alloc(), &[5, 9, 7])?;
-    answer(rt, &[5, 9, 7], &four_readings(three))?;
-    let mut none = clock(rt.alloc(), &[])?;
-    answer(rt, &"no readings", &two_readings(&mut none))
+    let four = four_readings(clock(rt.alloc(), &[5, 9, 7])?);
+    answer(rt, &[5, 9, 7], &four)?;
+    let two = two_readings(&mut clock(rt.alloc(), &[])?);
+    answer(rt, &"no readings", &two)
 }
 
 /// A reader of `abcd` in two pieces, which fails between them.

@@ -44,9 +44,14 @@ pub fn print(rt: &(impl Print + AllocGlobal)) -> Result<(), Stop> {
     print_links(rt, "item 1", ITEM)?;
     print_links(rt, "<html>", b"<html>")?;
     for body in BODIES {
-        print_links(rt, body, page(rt.alloc(), body)?.bytes())?;
+        print_body(rt, body)?;
     }
     Ok(())
+}
+
+/// Prints what a page with this body links to.
+fn print_body(rt: &(impl Print + AllocGlobal), body: &str) -> Result<(), Stop> {
+    print_links(rt, body, page(rt.alloc(), body)?.bytes())
 }
 
 /// The text of a page with this body.
@@ -59,14 +64,17 @@ pub fn page(alloc: Global, body: &str) -> Result<Text, Memory> {
 
 fn print_links(rt: &(impl Print + AllocGlobal), what: &str, bytes: &[u8]) -> Result<(), Stop> {
     match read_links(rt.alloc(), bytes) {
-        Links::Found(targets) => {
-            answer(rt, &what, &targets.len())?;
-            for target in &targets {
-                answer(rt, &"to", &text_of(target.bytes()))?;
-            }
-            Ok(())
-        }
+        Links::Found(targets) => print_targets(rt, what, targets.as_slice()),
         Links::NotAPage => answer(rt, &what, &"no page"),
         Links::Memory => Err(Stop::Memory),
     }
+}
+
+/// Prints how many targets there are, and each.
+fn print_targets(rt: &impl Print, what: &str, targets: &[Text]) -> Result<(), Stop> {
+    answer(rt, &what, &targets.len())?;
+    for target in targets {
+        answer(rt, &"to", &text_of(target.bytes()))?;
+    }
+    Ok(())
 }

@@ -32,13 +32,23 @@ fn print_lines(rt: &(impl Print + Input + AllocGlobal), routes: &Routes) -> Resu
         "words give a command or are bad, and messages ask for a page or are refused",
     )?;
     for line in rt.lines(rt.alloc()) {
-        let line = line?;
-        match line.as_str().strip_prefix("> ") {
-            Some(message) => requests::print_line(rt, routes, message)?,
-            None => words::print_line(rt, line.as_str())?,
-        }
+        print_line(rt, routes, line?.as_str())?;
     }
     Ok(())
+}
+
+/// Prints what a line of the input says or asks for.
+fn print_line(rt: &(impl Print + AllocGlobal), routes: &Routes, line: &str) -> Result<(), Stop> {
+    match line.strip_prefix("> ") {
+        Some(message) => requests::print_line(rt, routes, message),
+        None => words::print_line(rt, line),
+    }
+}
+
+/// Prints what the input says or asks for, and what a target asks for that is not text.
+fn print_input(rt: &(impl Print + Input + AllocGlobal), routes: &Routes) -> Result<(), Stop> {
+    print_lines(rt, routes)?;
+    requests::print_no_text(rt, routes)
 }
 
 fn main(rt: HostRuntime) -> Result<(), Stop> {
@@ -53,8 +63,6 @@ fn main(rt: HostRuntime) -> Result<(), Stop> {
     replies::print(&rt)?;
     links::print(&rt)?;
     browsers::print(&rt)?;
-    let routes = Routes::new(rt.alloc())?;
-    print_lines(&rt, &routes)?;
-    requests::print_no_text(&rt, &routes)?;
+    print_input(&rt, &Routes::new(rt.alloc())?)?;
     words::print_no_words(&rt)
 }

@@ -14,7 +14,7 @@ pub fn print(rt: &(impl Print + AllocGlobal)) -> Result<(), Stop> {
     print_names(rt)?;
     print_authorisations(rt)?;
     print_refusals(rt)?;
-    print_refusal_page(rt, &refusal_page(rt.alloc(), Refusal::NoItem)?)?;
+    print_refusal_page(rt)?;
     print_cart(rt)
 }
 
@@ -140,7 +140,11 @@ fn print_refusals(rt: &impl Print) -> Result<(), Stop> {
     Ok(())
 }
 
-fn print_refusal_page(rt: &(impl Print + AllocGlobal), page: &Page) -> Result<(), Stop> {
+fn print_refusal_page(rt: &(impl Print + AllocGlobal)) -> Result<(), Stop> {
+    print_page(rt, &refusal_page(rt.alloc(), Refusal::NoItem)?)
+}
+
+fn print_page(rt: &(impl Print + AllocGlobal), page: &Page) -> Result<(), Stop> {
     let html = page_bytes(rt.alloc(), page)?;
     answer(rt, &page.status, &text_of(html.bytes()))
 }

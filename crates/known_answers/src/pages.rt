@@ -1,5 +1,5 @@
 //! A page with each kind of block.
-use crate::answers::{heading, text_of};
+use crate::answers::{heading, made};
 use crate::listing::list;
 use crate::stop::Stop;
 use shop_model::{Block, Field, Page};
@@ -9,9 +9,12 @@ use std::alloc::Global;
 
 pub fn print(rt: &(impl Print + AllocGlobal)) -> Result<(), Stop> {
     heading(rt, "each block as html")?;
-    let page = page(rt.alloc())?;
-    heading(rt, text_of(page_bytes(rt.alloc(), &page)?.bytes()))?;
-    heading(rt, text_of(page_behind_a_head(rt.alloc(), &page)?.bytes()))
+    print_page(rt, &page(rt.alloc())?)
+}
+
+fn print_page(rt: &(impl Print + AllocGlobal), page: &Page) -> Result<(), Stop> {
+    made(rt, page_bytes(rt.alloc(), page))?;
+    made(rt, page_behind_a_head(rt.alloc(), page))
 }
 
 fn page_behind_a_head(alloc: Global, page: &Page) -> Result<Text, Memory> {
@@ -59,9 +62,10 @@ fn table(alloc: Global) -> Result<Block, Memory> {
 }
 
 fn form(alloc: Global) -> Result<Block, Memory> {
+    let target = text(alloc, "/f?a&b")?;
     let fields = [field(alloc, "q\"", "<v>"), field(alloc, "e", "")];
     Ok(Block::Form {
-        target: text(alloc, "/f?a&b")?,
+        target,
         fields: list(alloc, fields)?,
     })
 }

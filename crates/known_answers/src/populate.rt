@@ -7,18 +7,23 @@ use shop_text::{Memory, Text, digsyl, digsyl_lower};
 use std::alloc::Global;
 
 pub fn print(rt: &(impl Print + AllocGlobal)) -> Result<(), Stop> {
-    heading(rt, "desk scale, seed 0")?;
-    print_desk(rt, &populate(rt.alloc(), 0, &Scale::desk())?)?;
-    heading(rt, "scale 1000x1, seed 0")?;
-    let scale = Scale::of(1000, 1).ok_or(Stop::NoScale)?;
-    print_larger(rt, &populate(rt.alloc(), 0, &scale)?)
+    print_desk(rt)?;
+    print_larger(rt)
 }
 
-fn print_desk(rt: &(impl Print + AllocGlobal), tables: &Tables) -> Result<(), Stop> {
-    share_item(rt, row(tables.items.as_slice(), 1)?)?;
-    share_customer(rt, row(tables.customers.as_slice(), 10)?)?;
-    copy_address(rt, row(tables.addresses.as_slice(), 29)?.get())?;
-    copy_order(rt, row(tables.orders.as_slice(), 20)?.get())?;
+fn print_desk(rt: &(impl Print + AllocGlobal)) -> Result<(), Stop> {
+    heading(rt, "desk scale, seed 0")?;
+    print_desk_rows(rt, &populate(rt.alloc(), 0, &Scale::desk())?)
+}
+
+fn print_larger(rt: &(impl Print + AllocGlobal)) -> Result<(), Stop> {
+    heading(rt, "scale 1000x1, seed 0")?;
+    let scale = Scale::of(1000, 1).ok_or(Stop::NoScale)?;
+    print_larger_rows(rt, &populate(rt.alloc(), 0, &scale)?)
+}
+
+fn print_desk_rows(rt: &(impl Print + AllocGlobal), tables: &Tables) -> Result<(), Stop> {
+    print_rows(rt, tables, [1, 10, 29, 20])?;
     print_country(rt, row(tables.countries.as_slice(), 45)?.get())?;
     print_author(rt, row(tables.authors.as_slice(), 1)?.get())?;
     print_subject(rt, tables.items.as_slice())?;
@@ -26,11 +31,20 @@ fn print_desk(rt: &(impl Print + AllocGlobal), tables: &Tables) -> Result<(), St
 }
 
 /// The last item, customer, address and order.
-fn print_larger(rt: &(impl Print + AllocGlobal), tables: &Tables) -> Result<(), Stop> {
-    share_item(rt, row(tables.items.as_slice(), 1000)?)?;
-    share_customer(rt, row(tables.customers.as_slice(), 2880)?)?;
-    copy_address(rt, row(tables.addresses.as_slice(), 5760)?.get())?;
-    copy_order(rt, row(tables.orders.as_slice(), 2592)?.get())
+fn print_larger_rows(rt: &(impl Print + AllocGlobal), tables: &Tables) -> Result<(), Stop> {
+    print_rows(rt, tables, [1000, 2880, 5760, 2592])
+}
+
+/// The item, customer, address and order of these ids.
+fn print_rows(
+    rt: &(impl Print + AllocGlobal),
+    tables: &Tables,
+    [item, customer, address, order]: [usize; 4],
+) -> Result<(), Stop> {
+    share_item(rt, row(tables.items.as_slice(), item)?)?;
+    share_customer(rt, row(tables.customers.as_slice(), customer)?)?;
+    copy_address(rt, row(tables.addresses.as_slice(), address)?.get())?;
+    copy_order(rt, row(tables.orders.as_slice(), order)?.get())
 }
 
 /// The row of this id.

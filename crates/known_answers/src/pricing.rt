@@ -81,16 +81,22 @@ fn print_last(
 
 fn print_full(rt: &(impl Print + AllocGlobal)) -> Result<(), Stop> {
     heading(rt, "a hundred lines are the most")?;
-    let mut lines = one_of_each(rt.alloc(), 100)?;
-    print_last(rt, &mut lines, 101, 1)?;
-    print_last(rt, &mut lines, 100, 5)
+    print_most(rt, &mut one_of_each(rt.alloc(), 100)?)
+}
+
+fn print_most(rt: &(impl Print + AllocGlobal), lines: &mut Lines) -> Result<(), Stop> {
+    print_last(rt, lines, 101, 1)?;
+    print_last(rt, lines, 100, 5)
 }
 
 fn print_closing_up(rt: &(impl Print + AllocGlobal)) -> Result<(), Stop> {
     heading(rt, "lines close up")?;
-    let mut lines = one_of_each(rt.alloc(), 4)?;
+    print_changes(rt, &mut one_of_each(rt.alloc(), 4)?)
+}
+
+fn print_changes(rt: &(impl Print + AllocGlobal), lines: &mut Lines) -> Result<(), Stop> {
     for (item, quantity) in [(2, 0), (7, 0), (2, 9)] {
-        print_change(rt, &mut lines, item, quantity)?;
+        print_change(rt, lines, item, quantity)?;
     }
     Ok(())
 }
@@ -104,15 +110,18 @@ fn lines_of_cart(alloc: Global) -> Result<Lines, Memory> {
 
 fn print_carts(rt: &(impl Print + AllocGlobal)) -> Result<(), Stop> {
     heading(rt, "carts keep their lines")?;
-    let lines = lines_of_cart(rt.alloc())?;
-    answer(
-        rt,
-        &"item 4",
-        &(lines.len(), lines.is_empty(), lines.quantity(4)),
-    )?;
-    let cart = lines.to_cart(rt.alloc(), 9)?;
-    answer(rt, &cart.id, &cart.lines.get().as_slice())?;
+    print_lines(rt, &lines_of_cart(rt.alloc())?)?;
     answer(rt, &"no lines", &Lines::new(rt.alloc()).is_empty())
+}
+
+fn print_lines(rt: &(impl Print + AllocGlobal), lines: &Lines) -> Result<(), Stop> {
+    let told = (lines.len(), lines.is_empty(), lines.quantity(4));
+    answer(rt, &"item 4", &told)?;
+    print_cart(rt, &lines.to_cart(rt.alloc(), 9)?)
+}
+
+fn print_cart(rt: &impl Print, cart: &Cart) -> Result<(), Stop> {
+    answer(rt, &cart.id, &cart.lines.get().as_slice())
 }
 
 /// Fills lines as a request asks, in a shop of a hundred items.
@@ -127,23 +136,34 @@ fn print_filled(
     answer(rt, &draw, &(filled, pairs.as_slice()))
 }
 
+/// The same for one unit more of an item, and for quantities.
+fn print_asked(
+    rt: &(impl Print + AllocGlobal),
+    lines: &mut Lines,
+    item: Option<u32>,
+    sets: &[(u32, u32)],
+    draw: u32,
+) -> Result<(), Stop>
+    requires few { length sets.now ≤ 100 }
+    requires quantities { All (λ set. set.1 ≤ 999) sets.now }
+{
+    print_filled(rt, lines, &asked(rt.alloc(), item, sets)?, draw)
+}
+
 fn print_drawn(rt: &(impl Print + AllocGlobal)) -> Result<(), Stop> {
     heading(rt, "empty carts get a drawn item")?;
-    let mut lines = Lines::new(rt.alloc());
-    print_filled(rt, &mut lines, &asked(rt.alloc(), None, &[])?, 16_245)?;
-    print_filled(
-        rt,
-        &mut lines,
-        &asked(rt.alloc(), None, &[(46, 0)])?,
-        16_258,
-    )
+    print_draws(rt, &mut Lines::new(rt.alloc()))
+}
+
+fn print_draws(rt: &(impl Print + AllocGlobal), lines: &mut Lines) -> Result<(), Stop> {
+    print_asked(rt, lines, None, &[], 16_245)?;
+    print_asked(rt, lines, None, &[(46, 0)], 16_258)
 }
 
 fn print_one_more(rt: &(impl Print + AllocGlobal)) -> Result<(), Stop> {
     heading(rt, "one more comes before the sets")?;
     let mut lines = one_of_each(rt.alloc(), 3)?;
-    let request = asked(rt.alloc(), Some(2), &[(1, 0), (2, 7), (9, 4)])?;
-    print_filled(rt, &mut lines, &request, 0)
+    print_asked(rt, &mut lines, Some(2), &[(1, 0), (2, 7), (9, 4)], 0)
 }
 
 /// Asks for what lines with 999 units of item 1 can't have.
@@ -158,11 +178,8 @@ fn print_refused(
     let request = asked(rt.alloc(), item, sets)?;
     let mut lines = Lines::new(rt.alloc());
     let full = change(&mut lines, 1, 999);
-    answer(
-        rt,
-        &(item, sets),
-        &(full, fill(&mut lines, &request, 100, 0)),
-    )
+    let filled = fill(&mut lines, &request, 100, 0);
+    answer(rt, &(item, sets), &(full, filled))
 }
 
 fn print_refusals(rt: &(impl Print + AllocGlobal)) -> Result<(), Stop> {

@@ -1,7 +1,7 @@
 //! Replies to a draft with each kind of block and of hole, and in each form.
-use crate::answers::{answer, heading, text_of};
+use crate::answers::{answer, heading, made, text_of};
 use crate::stop::Stop;
-use shop_draft::{Draft, Hole};
+use shop_draft::{Draft, Hole, Template};
 use shop_history::{Drawn, Ids};
 use shop_pages::{Form, Reply};
 use shop_text::{Memory, Text};
@@ -16,7 +16,13 @@ pub fn print(rt: &(impl Print + AllocGlobal)) -> Result<(), Stop> {
 /// Writes a page with each kind of block and of hole.
 fn write_waiting(draft: &mut Draft) -> Result<(), Memory> {
     draft.status = 200;
-    let page = &mut draft.page;
+    write_front(&mut draft.page)?;
+    write_table(&mut draft.page)?;
+    write_form(&mut draft.page)
+}
+
+/// Writes a title, a heading, and a paragraph.
+fn write_front(page: &mut Template) -> Result<(), Memory> {
     page.clear();
     page.escaped(b"<html><head><title>", b"T&T")?;
     page.escaped(b"</title></head><body>\n<h1>", b"a<b ")?;
@@ -24,12 +30,22 @@ fn write_waiting(draft: &mut Draft) -> Result<(), Memory> {
     page.hole(b"</h1>\n<p>", Hole::User)?;
     page.escaped(b"", b" & ")?;
     page.hole(b"", Hole::Day(18))?;
+    Ok(())
+}
+
+/// Writes a link, a picture, and a table.
+fn write_table(page: &mut Template) -> Result<(), Memory> {
     page.hole(b"</p>\n<a href=\"/p?c=", Hole::CustomerId)?;
     page.hole(b"&amp;o=", Hole::OrderId)?;
     page.hole(b"\">L</a>\n<img src=\"/i.gif\" alt=\"", Hole::CartId)?;
     page.hole(b"\">\n<table><tr><td>", Hole::OrderId)?;
     page.escaped(b"</td><td>", b"<2>")?;
     page.hole(b"</td></tr><tr><td>", Hole::Day(0))?;
+    Ok(())
+}
+
+/// Writes a form, and a paragraph.
+fn write_form(page: &mut Template) -> Result<(), Memory> {
     page.escaped(b"</td></tr></table>\n<form action=\"", b"/f?a&b")?;
     page.hole(b"\"><input name=\"c\" value=\"", Hole::CartId)?;
     page.hole(b"\"><input name=\"\" value=\"", Hole::CustomerId)?;
@@ -88,7 +104,10 @@ fn print_reply(rt: &impl Print, reply: &mut Reply, drawn: &Drawn, form: Form) ->
 
 fn print_filled(rt: &(impl Print + AllocGlobal)) -> Result<(), Stop> {
     heading(rt, "each part is filled")?;
-    let mut reply = Reply::new(rt.alloc())?;
+    print_waiting(rt, &mut Reply::new(rt.alloc())?)
+}
+
+fn print_waiting(rt: &impl Print, reply: &mut Reply) -> Result<(), Stop> {
     let form = Form {
         close: false,
         bodiless: false,
@@ -99,25 +118,27 @@ fn print_filled(rt: &(impl Print + AllocGlobal)) -> Result<(), Stop> {
         (86_399_999, NONE),
     ] {
         write_waiting(reply.draft())?;
-        print_reply(rt, &mut reply, &drawn(stamp, ids), form)?;
+        print_reply(rt, reply, &drawn(stamp, ids), form)?;
     }
     Ok(())
 }
 
 fn print_closing(rt: &(impl Print + AllocGlobal)) -> Result<(), Stop> {
     heading(rt, "a reply that closes")?;
-    let mut reply = Reply::new(rt.alloc())?;
+    print_last(rt, &mut Reply::new(rt.alloc())?)
+}
+
+fn print_last(rt: &impl Print, reply: &mut Reply) -> Result<(), Stop> {
     let form = Form {
         close: true,
         bodiless: false,
     };
     write_whole(reply.draft(), 405, "Method Not Allowed")?;
-    print_reply(rt, &mut reply, &drawn(0, NONE), form)
+    print_reply(rt, reply, &drawn(0, NONE), form)
 }
 
-/// The reply to a page without its body.
-fn bodiless(alloc: Global) -> Result<Text, Memory> {
-    let mut reply = Reply::new(alloc)?;
+/// Writes the reply to a page without its body.
+fn write_bodiless(reply: &mut Reply) -> Result<(), Memory> {
     write_whole(reply.draft(), 404, "Gone &c.")?;
     reply.reserve()?;
     let form = Form {
@@ -125,10 +146,17 @@ fn bodiless(alloc: Global) -> Result<Text, Memory> {
         bodiless: true,
     };
     reply.finish(&drawn(0, NONE), form);
+    Ok(())
+}
+
+/// The reply to a page without its body.
+fn bodiless(alloc: Global) -> Result<Text, Memory> {
+    let mut reply = Reply::new(alloc)?;
+    write_bodiless(&mut reply)?;
     Ok(reply.into_text())
 }
 
 fn print_bodiless(rt: &(impl Print + AllocGlobal)) -> Result<(), Stop> {
     heading(rt, "a reply without its body")?;
-    heading(rt, text_of(bodiless(rt.alloc())?.bytes()))
+    made(rt, bodiless(rt.alloc()))
 }

@@ -7,6 +7,7 @@ use shop_model::{Author, Item, SearchKind, Subject};
 use shop_search::Index;
 use shop_text::{Listed, Memory, Shared};
 use std::alloc::Global;
+use std::fmt::Debug;
 
 pub fn print(rt: &(impl Print + AllocGlobal)) -> Result<(), Stop> {
     print_six(rt, &six(rt.alloc())?)?;
@@ -41,22 +42,31 @@ fn six(alloc: Global) -> Result<Index, Memory> {
 
 /// An index over sixty items of one title.
 fn sixty(alloc: Global) -> Result<Index, Memory> {
-    let items = sixty_items(alloc)?;
-    Index::build(alloc, &tables_of(alloc, Listed::new(alloc), items))
+    let tables = tables_of(alloc, Listed::new(alloc), sixty_items(alloc)?);
+    Index::build(alloc, &tables)
+}
+
+/// Prints the items that are found.
+fn print_found(
+    rt: &impl Print,
+    asked: &impl Debug,
+    found: Result<Listed<u32>, Memory>,
+) -> Result<(), Stop> {
+    answer(rt, asked, &found?.as_slice())
 }
 
 fn print_six(rt: &impl Print, index: &Index) -> Result<(), Stop> {
     heading(rt, "titles are found by whole words without case")?;
     for text in ["rIVER", "LOST", "night", "River Sand", ""] {
-        answer(rt, &text, &index.by_title(text.as_bytes())?.as_slice())?;
+        print_found(rt, &text, index.by_title(text.as_bytes()))?;
     }
     heading(rt, "authors are found by the front of their last name")?;
     for text in ["ke", "KELLER", "", "eller", "Kellers"] {
-        answer(rt, &text, &index.by_author(text.as_bytes())?.as_slice())?;
+        print_found(rt, &text, index.by_author(text.as_bytes()))?;
     }
     heading(rt, "subjects are found by their names")?;
     for text in ["ARTS", "Arts", "YOUTH"] {
-        answer(rt, &text, &index.by_subject(text.as_bytes())?.as_slice())?;
+        print_found(rt, &text, index.by_subject(text.as_bytes()))?;
     }
     print_kinds(rt, index)
 }
@@ -68,11 +78,7 @@ fn print_kinds(rt: &impl Print, index: &Index) -> Result<(), Stop> {
         (SearchKind::Author, "h"),
         (SearchKind::Subject, "HOME"),
     ] {
-        answer(
-            rt,
-            &(kind, text),
-            &index.search(kind, text.as_bytes())?.as_slice(),
-        )?;
+        print_found(rt, &(kind, text), index.search(kind, text.as_bytes()))?;
     }
     Ok(())
 }

@@ -2,8 +2,9 @@
 use crate::answers::{answer, heading};
 use crate::stop::Stop;
 use shop_text::{Memory, Text};
-use shop_words::{command_of, race_of};
+use shop_words::command_of;
 use std::alloc::Global;
+use std::fmt::Debug;
 
 /// The words on one line. Two apostrophes are an empty word.
 fn words_of(alloc: Global, line: &str) -> Result<Vec<Text>, Memory> {
@@ -15,13 +16,18 @@ fn words_of(alloc: Global, line: &str) -> Result<Vec<Text>, Memory> {
     Ok(words)
 }
 
-/// Prints what the words on a line say, of a race where they begin so.
+/// Prints what the words on a line say.
 pub fn print_line(rt: &(impl Print + AllocGlobal), line: &str) -> Result<(), Stop> {
-    let words = words_of(rt.alloc(), line)?;
-    if line.starts_with("race") {
-        return answer(rt, &line, &race_of(rt.alloc(), &words));
-    }
-    answer(rt, &line, &command_of(rt.alloc(), &words))
+    print_command(rt, &line, &words_of(rt.alloc(), line)?)
+}
+
+/// Prints which command words give.
+fn print_command(
+    rt: &(impl Print + AllocGlobal),
+    asked: &impl Debug,
+    words: &[Text],
+) -> Result<(), Stop> {
+    answer(rt, asked, &command_of(rt.alloc(), words))
 }
 
 /// `session`, and a word that may be no text.
@@ -33,11 +39,15 @@ fn two_words(alloc: Global, second: &[u8]) -> Result<Vec<Text>, Memory> {
 
 /// Prints what no words say, and words that are no text.
 pub fn print_no_words(rt: &(impl Print + AllocGlobal)) -> Result<(), Stop> {
-    answer(rt, &"no words", &command_of(rt.alloc(), &[]))?;
+    print_command(rt, &"no words", &[])?;
     heading(rt, "words that are not text are bad")?;
     for second in [&b"--seed=\xff"[..], &b"\xc3"[..], &b"-\xc3"[..]] {
-        let words = two_words(rt.alloc(), second)?;
-        answer(rt, &second, &command_of(rt.alloc(), &words))?;
+        print_second(rt, second)?;
     }
     Ok(())
+}
+
+/// Prints which command `session` and another word give.
+fn print_second(rt: &(impl Print + AllocGlobal), second: &[u8]) -> Result<(), Stop> {
+    print_command(rt, &second, &two_words(rt.alloc(), second)?)
 }

@@ -2,13 +2,13 @@
 ghost use Rattle.std.specs.Prelude.{◌≡◌};
 ghost use Rattle.shop_turn.specs.Desks.{seat_of};
 
-use crate::opened::{Workers, open_interrupted, open_workers};
+use crate::interrupted::{Clash, Parted, Place};
+use crate::opened::open_interrupted;
 use crate::serving::serve;
-use crate::{Clash, Interrupted, Parted, Place};
 use shop_attempt::Store;
 use shop_book::Book;
 use shop_edges::{Answer, Verdict};
-use shop_engine::{PointKind, Report, Worker};
+use shop_engine::{PointKind, Report};
 use shop_gateway::Emulator;
 use shop_history::{Key, Row};
 use shop_text::{Memory, Shared};
@@ -97,64 +97,8 @@ fn change_at(report: &Report, at: usize) -> Option<Change> {
     }
 }
 
-/// What both callers see of cart 1 once they have met, and the book then.
-#[derive(Drop)]
-struct Met {
-    first: Option<Seen>,
-    second: Option<Seen>,
-    book: Book,
-}
-
-/// Has both callers meet, and closes their shop.
-fn meet<R: Wait + Drop>(alloc: Global, parted: Parted<R>) -> Result<Met, Memory> {
-    let mut others = Vec::with_capacity(alloc, 1)?;
-    let Parted {
-        mut desk,
-        mut other,
-        clash: _,
-    } = parted;
-    other.meet(&mut desk);
-    desk.meet(&mut other);
-    let first = cart_at(&mut desk);
-    let second = cart_at(&mut other);
-    others.push_reserved(other);
-    Ok(Met {
-        first,
-        second,
-        book: Shop::close(desk, others),
-    })
-}
-
-/// How many changes there are, of caller 1 and of caller 2.
-fn counts(book: &Book) -> (u64, u64, u64) {
-    (book.size(), book.count_of(1), book.count_of(2))
-}
-
-/// What came of the requests of the first caller, which the other one came between.
-#[derive(Drop)]
-struct Outcome<R: Wait + Drop> {
-    report: Result<Report, Memory>,
-    gateway: Emulator,
-    parted: Parted<R>,
-}
-
-fn outcome_of<R: Wait + Drop>(
-    alloc: Global,
-    worker: Worker<Interrupted<R>>,
-    input: &[u8],
-) -> Outcome<R> {
-    let mut worker = worker;
-    let mut gateway = Emulator::new(alloc);
-    let report = serve(alloc, &mut worker, input, &mut gateway);
-    Outcome {
-        report,
-        gateway,
-        parted: worker.into_store().into_parts(),
-    }
-}
-
-/// What is told of an outcome.
-#[derive(Clone, Copy, Debug, PartialEq, Eq)]
+/// What is told of a session of the first caller, which the other one came between.
+#[derive(Clone, Copy)]
 struct Told {
     /// Of the first two requests.
     changes: [Option<Change>; 2],
@@ -164,81 +108,63 @@ struct Told {
     charges: [Option<Charge>; 3],
     /// The first two that were made.
     orders: [Option<Sale>; 2],
+    /// How many changes there are, of caller 1 and of caller 2.
     counts: (u64, u64, u64),
 }
 
-fn told_by(report: &Report, clash: Option<Clash>, answers: &[Shared<Answer>], met: Met) -> Told {
-    let Met {
-        first,
-        second,
-        mut book,
-    } = met;
-    Told {
-        changes: [change_at(report, 0), change_at(report, 1)],
+fn told_by(
+    report: Result<Report, Memory>,
+    clash: Option<Clash>,
+    carts: (Option<Seen>, Option<Seen>),
+    answers: &[Shared<Answer>],
+    book: &mut Book,
+) -> Result<Told, Memory> {
+    let report = report?;
+    Ok(Told {
+        changes: [change_at(&report, 0), change_at(&report, 1)],
         clash,
-        carts: (first, second),
+        carts,
         charges: [
-            charge_at(answers, 0, &book),
-            charge_at(answers, 1, &book),
-            charge_at(answers, 2, &book),
+            charge_at(answers, 0, book),
+            charge_at(answers, 1, book),
+            charge_at(answers, 2, book),
         ],
-        orders: [order_of(&mut book, 37), order_of(&mut book, 38)],
-        counts: counts(&book),
-    }
+        orders: [order_of(book, 37), order_of(book, 38)],
+        counts: (book.size(), book.count_of(1), book.count_of(2)),
+    })
 }
 
-fn told_of<R: Wait + Drop>(alloc: Global, outcome: Outcome<R>) -> Result<Told, Memory> {
-    let Outcome {
-        report,
-        gateway,
-        parted,
-    } = outcome;
-    let clash = parted.clash;
-    match (report, meet(alloc, parted)) {
-        (Ok(report), Ok(met)) => Ok(told_by(&report, clash, gateway.answers(), met)),
-        _ => Err(Memory),
-    }
-}
-
-/// What is told where the first caller asks for this, and before its second settle the other one for that.
+/// What is told where the first caller asks for this, and before its second settle the other one for that; then both
+/// meet, and their shop is closed.
 fn ask_both<R: Wait + Clone + Drop>(
     rt: &R,
     alloc: Global,
     input: &[u8],
     other: &'static [u8],
-) -> Result<Told, Fail> {
-    let worker = open_interrupted(rt, alloc, other)?;
-    Ok(told_of(alloc, outcome_of(alloc, worker, input))?)
-}
-
-/// What both callers see where the first one alone has asked.
-fn met_after<R: Wait + Drop>(
-    alloc: Global,
-    workers: Workers<R>,
-    input: &[u8],
-) -> Result<Met, Memory> {
-    let Workers { mut first, second } = workers;
+) -> Result<Told, Memory> {
+    let mut others = Vec::with_capacity(alloc, 1)?;
     let mut gateway = Emulator::new(alloc);
-    let report = serve(alloc, &mut first, input, &mut gateway);
-    let parted = Parted {
-        desk: first.into_store(),
-        other: second.into_store(),
-        clash: None,
-    };
-    let met = meet(alloc, parted);
-    match report {
-        Ok(_) => met,
-        Err(Memory) => Err(Memory),
-    }
+    let mut worker = open_interrupted(rt, alloc, other)?;
+    let report = serve(alloc, &mut worker, input, &mut gateway);
+    let Parted {
+        mut desk,
+        mut other,
+        clash,
+    } = worker.into_store().into_parts();
+    other.meet(&mut desk);
+    desk.meet(&mut other);
+    let carts = (cart_at(&mut desk), cart_at(&mut other));
+    others.push_reserved(other);
+    let mut book = Shop::close(desk, others);
+    told_by(report, clash, carts, gateway.answers(), &mut book)
 }
 
+/// The cart has one line, and the other caller has asked for nothing before they meet.
 #[test]
 fn a_caller_who_meets_another_has_seen_its_entry(rt: HostRuntime) -> Result<(), Fail> {
-    let alloc = rt.alloc();
-    let met = met_after(alloc, open_workers(&rt, alloc)?, CART)?;
+    let told = ask_both(&rt, rt.alloc(), CART, UNIT)?;
     let cart = Some((1, [Some((1, 1)), None, None]));
-    let counts = counts(&met.book);
-    assert_eq!(rt; (met.first, met.second, counts), (cart, cart, (1, 1, 0)));
+    assert!(rt; (told.carts, told.counts) == ((cart, cart), (1, 1, 0)));
     Ok(())
 }
 
@@ -247,16 +173,15 @@ fn a_cart_that_another_caller_changed_meanwhile_is_tried_again(
     rt: HostRuntime,
 ) -> Result<(), Fail> {
     let told = ask_both(&rt, rt.alloc(), CARTS, UNIT)?;
-    assert_eq!(rt; told.changes, [Some((1, 1)), Some((3, 2))]);
+    let changes = [Some((1, 1)), Some((3, 2))];
     let clash = Clash {
         place: Place::Cart(1),
         read: 1,
         found: 2,
     };
-    assert_eq!(rt; told.clash, Some(clash));
     let cart = Some((3, [Some((1, 2)), Some((2, 1)), None]));
-    assert_eq!(rt; told.carts, (cart, cart));
-    assert_eq!(rt; told.counts, (3, 2, 1));
+    assert!(rt; told.changes == changes && told.clash == Some(clash) && told.counts == (3, 2, 1));
+    assert!(rt; told.carts == (cart, cart));
     Ok(())
 }
 
@@ -265,16 +190,16 @@ fn a_charge_for_a_cost_that_another_caller_changed_is_authorised_only(
     rt: HostRuntime,
 ) -> Result<(), Fail> {
     let told = ask_both(&rt, rt.alloc(), PURCHASE, COST)?;
-    assert_eq!(rt; told.changes, [Some((1, 1)), Some((3, 2))]);
+    let changes = [Some((1, 1)), Some((3, 2))];
     let clash = Clash {
         place: Place::Item(1),
         read: 0,
         found: 2,
     };
-    assert_eq!(rt; told.clash, Some(clash));
     let (unsold, sold) = ((1, 2, 2_776, false), (1, 2, 1_547, true));
-    assert_eq!(rt; told.charges, [Some(unsold), Some(sold), None]);
-    assert_eq!(rt; told.orders, [Some((10, 1_547, 3)), None]);
-    assert_eq!(rt; told.counts, (3, 2, 1));
+    let charges = [Some(unsold), Some(sold), None];
+    let orders = [Some((10, 1_547, 3)), None];
+    assert!(rt; told.changes == changes && told.clash == Some(clash) && told.counts == (3, 2, 1));
+    assert!(rt; told.charges == charges && told.orders == orders);
     Ok(())
 }

@@ -12,19 +12,19 @@ use std::alloc::Global;
 use std::sync::Wait;
 
 /// Which row was changed meanwhile.
-#[derive(Clone, Copy, Debug, PartialEq, Eq)]
-pub enum Place {
+#[derive(Clone, Copy, PartialEq, Eq)]
+pub(crate) enum Place {
     Item(u32),
     Cart(u32),
     Elsewhere,
 }
 
 /// What a stale settle was told: the row, the version read, and the one found.
-#[derive(Clone, Copy, Debug, PartialEq, Eq)]
-pub struct Clash {
-    pub place: Place,
-    pub read: u64,
-    pub found: u64,
+#[derive(Clone, Copy, PartialEq, Eq)]
+pub(crate) struct Clash {
+    pub(crate) place: Place,
+    pub(crate) read: u64,
+    pub(crate) found: u64,
 }
 
 impl Clash {
@@ -44,7 +44,7 @@ impl Clash {
 
 /// The desk of a caller, before whose second settle another caller of the shop is served.
 #[derive(Drop)]
-pub struct Interrupted<R: Wait + Drop> {
+pub(crate) struct Interrupted<R: Wait + Drop> {
     alloc: Global,
     desk: Desk<R>,
     other: Worker<Desk<R>>,
@@ -58,17 +58,17 @@ pub struct Interrupted<R: Wait + Drop> {
 
 /// What is left of it: the desks of both callers.
 #[derive(Drop)]
-pub struct Parted<R: Wait + Drop> {
-    pub desk: Desk<R>,
-    pub other: Desk<R>,
+pub(crate) struct Parted<R: Wait + Drop> {
+    pub(crate) desk: Desk<R>,
+    pub(crate) other: Desk<R>,
     /// Of the last settle that was stale.
-    pub clash: Option<Clash>,
+    pub(crate) clash: Option<Clash>,
     ghost one_shop: { IsOneShop desk other },
 }
 
 impl<R: Wait + Drop> Interrupted<R> {
     /// The desk, before its first settle.
-    pub fn new(
+    pub(crate) fn new(
         alloc: Global,
         desk: Desk<R>,
         other: Worker<Desk<R>>,
@@ -87,7 +87,7 @@ impl<R: Wait + Drop> Interrupted<R> {
         }
     }
 
-    pub fn into_parts(self) -> Parted<R> {
+    pub(crate) fn into_parts(self) -> Parted<R> {
         let Interrupted {
             alloc: _,
             desk,

@@ -1,5 +1,6 @@
 //! Jobs that are run in threads.
 use shop_edges::{Job, Spawner, Start, Ticket, Way};
+use shop_text::Memory;
 use std::sync::Wait;
 use std::test::Fail;
 use std::thread::Threads;
@@ -31,24 +32,32 @@ fn started<R: Threads + Wait + Clone + Drop + Send + 'static>(
     rt: &R,
     spawner: &mut Spawner,
     number: u64,
-) -> Result<Ticket<Given<R>>, Fail> {
+) -> Result<Ticket<Given<R>>, Memory> {
     let job = Given {
         rt: rt.clone()?,
         number,
     };
     match spawner.start(rt, job) {
         Start::Started(ticket) => Ok(ticket),
-        Start::Failed => Err("not started".into()),
+        Start::Failed => Err(Memory),
     }
+}
+
+/// What jobs 7 and 8 give back, the later one first.
+fn given_back<R: Threads + Wait + Clone + Drop + Send + 'static>(
+    rt: &R,
+    spawner: &mut Spawner,
+) -> Result<(u64, u64), Memory> {
+    let first = started(rt, spawner, 7)?;
+    let second = started(rt, spawner, 8)?;
+    Ok((second.join(rt), first.join(rt)))
 }
 
 #[test]
 fn a_job_in_a_thread_gives_back_what_it_was_given(rt: HostRuntime) -> Result<(), Fail> {
     let mut spawner = Spawner::new(Way::Threads);
-    let first = started(&rt, &mut spawner, 7)?;
-    let second = started(&rt, &mut spawner, 8)?;
-    assert_eq!(rt; second.join(&rt), 8);
-    assert_eq!(rt; first.join(&rt), 7);
-    assert_eq!(rt; (spawner.starts(), spawner.faults()), (2, 0));
+    let given = given_back(&rt, &mut spawner)?;
+    let counts = (spawner.starts(), spawner.faults());
+    assert!(rt; (given, counts) == ((8, 7), (2, 0)));
     Ok(())
 }

@@ -4,6 +4,7 @@
 
 #[cfg(test)]
 mod callers;
+#[cfg(test)]
 mod interrupted;
 #[cfg(test)]
 mod jobs;
@@ -11,8 +12,7 @@ mod jobs;
 mod opened;
 #[cfg(test)]
 mod races;
+#[cfg(test)]
 mod serving;
 #[cfg(test)]
 mod threads;
-
-pub use interrupted::{Clash, Interrupted, Parted, Place};

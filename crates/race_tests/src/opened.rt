@@ -1,10 +1,13 @@
-//! Two callers of one shop, of the smallest scale, with seed 0.
+//! Two callers of one shop, of the smallest scale, with seed 0. What has a desk comes last, so that no refusal has it to
+//! let go.
 ghost use Rattle.std.specs.Prelude.{◌≡◌, IfOk};
 ghost use Rattle.std.specs.Arc.{arc_value};
+ghost use Rattle.shop_model.specs.lists.Catalogues.{catalogue};
+ghost use Rattle.shop_model.specs.population.Population.{populated};
 ghost use Rattle.shop_engine.specs.Workers.{IsPosted};
 ghost use Rattle.shop_turn.specs.Desks.{IsOneShop, seat_of};
 
-use crate::Interrupted;
+use crate::interrupted::Interrupted;
 use shop_book::Book;
 use shop_engine::Worker;
 use shop_model::Scale;
@@ -15,15 +18,12 @@ use shop_turn::{Desk, Shop};
 use std::alloc::Global;
 use std::marker::Model;
 use std::sync::{Arc, Wait};
-use std::test::Fail;
 
-/// Their desks, and the index of the shop's items.
+/// Their desks.
 #[derive(Drop)]
-pub(crate) struct Opened<R: Wait + Drop> {
+struct Desks<R: Wait + Drop> {
     first: Desk<R>,
     second: Desk<R>,
-    index: Arc<Index, Global>,
-    scale: Scale,
     ghost one_shop: { IsOneShop first second },
 }
 
@@ -56,35 +56,32 @@ pub(crate) struct Callers<R: Wait + Drop> {
     ghost one_shop: { IsOneShop first second },
 }
 
-/// The workers of both callers.
-#[derive(Drop)]
-pub(crate) struct Workers<R: Wait + Drop> {
-    pub(crate) first: Worker<Desk<R>>,
-    pub(crate) second: Worker<Desk<R>>,
-    ghost one_shop: { IsOneShop first.store second.store },
+/// The index of the shop's items.
+fn index_of(alloc: Global, scale: &Scale) -> Result<Index, Memory>
+    ensures { IfOk result (λ index. index ≡ catalogue (populated 0 scale.now)) }
+{
+    let tables = populate(alloc, 0, scale)?;
+    Index::build(alloc, &tables)
 }
 
-fn open<R: Wait + Clone + Drop>(rt: &R, alloc: Global) -> Result<Opened<R>, Fail>
-    ensures first { IfOk result (λ o. IsPosted (seat_of o.first) (arc_value o.index) (record { number = 1; seed = 0; scale = o.scale })) }
-    ensures second { IfOk result (λ o. IsPosted (seat_of o.second) (arc_value o.index) (record { number = 2; seed = 0; scale = o.scale })) }
+fn open_desks<R: Wait + Clone + Drop>(
+    rt: &R,
+    alloc: Global,
+    scale: &Scale,
+) -> Result<Desks<R>, Memory>
+    ensures first { IfOk result (λ d. IsPosted (seat_of d.first) (catalogue (populated 0 scale.now)) (record { number = 1; seed = 0; scale = scale.now })) }
+    ensures second { IfOk result (λ d. IsPosted (seat_of d.second) (catalogue (populated 0 scale.now)) (record { number = 2; seed = 0; scale = scale.now })) }
 {
-    let scale = Scale::desk();
-    let tables = populate(alloc, 0, &scale)?;
-    let index = Arc::new(alloc, Index::build(alloc, &tables)?)?;
+    let tables = populate(alloc, 0, scale)?;
     let book = Book::open(alloc, tables, 10_000)?;
     let mut desks = Shop::open(rt, alloc, book, 2)?;
     let Some(second) = desks.pop() else {
-        return Err("no second desk".into());
+        return Err(Memory);
     };
     let Some(first) = desks.pop() else {
-        return Err("no first desk".into());
+        return Err(Memory);
     };
-    Ok(Opened {
-        first,
-        second,
-        index,
-        scale,
-    })
+    Ok(Desks { first, second })
 }
 
 impl<R: Wait + Drop> Caller<R> {
@@ -107,14 +104,11 @@ impl<R: Wait + Drop> Caller<R> {
 pub(crate) fn open_callers<R: Wait + Clone + Drop>(
     rt: &R,
     alloc: Global,
-) -> Result<Callers<R>, Fail> {
-    let Opened {
-        first,
-        second,
-        index,
-        scale,
-    } = open(rt, alloc)?;
+) -> Result<Callers<R>, Memory> {
+    let scale = Scale::desk();
+    let index = Arc::new(alloc, index_of(alloc, &scale)?)?;
     let shared = Arc::try_clone(&index)?;
+    let Desks { first, second } = open_desks(rt, alloc, &scale)?;
     Ok(Callers {
         first: Caller {
             desk: first,
@@ -131,31 +125,17 @@ pub(crate) fn open_callers<R: Wait + Clone + Drop>(
     })
 }
 
-pub(crate) fn open_workers<R: Wait + Clone + Drop>(
-    rt: &R,
-    alloc: Global,
-) -> Result<Workers<R>, Fail> {
-    let Callers { first, second } = open_callers(rt, alloc)?;
-    Ok(Workers {
-        first: first.worker(alloc)?,
-        second: second.worker(alloc)?,
-    })
-}
-
 /// The worker of the first caller, before whose second settle the other one asks for this.
 pub(crate) fn open_interrupted<R: Wait + Clone + Drop>(
     rt: &R,
     alloc: Global,
     asks: &'static [u8],
-) -> Result<Worker<Interrupted<R>>, Fail> {
-    let Opened {
-        first,
-        second,
-        index,
-        scale,
-    } = open(rt, alloc)?;
+) -> Result<Worker<Interrupted<R>>, Memory> {
+    let scale = Scale::desk();
+    let index = Arc::new(alloc, index_of(alloc, &scale)?)?;
     let shared = Arc::try_clone(&index)?;
+    let Desks { first, second } = open_desks(rt, alloc, &scale)?;
     let other = Worker::new(alloc, second, 2, 0, scale, shared)?;
     let store = Interrupted::new(alloc, first, other, asks);
-    Ok(Worker::new(alloc, store, 1, 0, scale, index)?)
+    Worker::new(alloc, store, 1, 0, scale, index)
 }

@@ -15,10 +15,9 @@ const ORDERING: &str = "race --workers 4 --steps 100 --mix ordering";
 #[derive(Drop)]
 struct Outcome {
     status: Status,
-    starts: u64,
-    failed: u64,
-    printed: Text,
-    told: Text,
+    starts: (u64, u64),
+    printed: BytesOut,
+    told: BytesOut,
 }
 
 /// The words between blanks.
@@ -36,27 +35,27 @@ fn run_into<R: Threads + Wait + Clone + Drop + Send + 'static>(
     alloc: Global,
     line: &str,
     way: Way,
-    mut sink: BytesOut,
+    printed: BytesOut,
 ) -> Result<Outcome, Memory> {
     let words = words_of(alloc, line)?;
     let clock = ListClock::new(alloc, Listed::from_vec(vec![in alloc; 1_000]?))?;
     let mut spawner = Spawner::new(way);
-    let mut faults = BytesOut::new(alloc, 1_000, Listed::new(alloc));
+    let mut printed = printed;
+    let mut told = BytesOut::new(alloc, 1_000, Listed::new(alloc));
     let status = run_shared(
         rt,
         alloc,
         &words,
         &mut spawner,
-        &mut sink,
-        &mut faults,
+        &mut printed,
+        &mut told,
         &clock,
     );
     Ok(Outcome {
         status,
-        starts: spawner.starts(),
-        failed: spawner.faults(),
-        printed: Text::copy(alloc, sink.bytes())?,
-        told: Text::copy(alloc, faults.bytes())?,
+        starts: (spawner.starts(), spawner.faults()),
+        printed,
+        told,
     })
 }
 
@@ -71,8 +70,17 @@ fn run<R: Threads + Wait + Clone + Drop + Send + 'static>(
     run_into(rt, alloc, line, way, sink)
 }
 
-fn text_of(text: &Text) -> &str {
-    std::str::from_utf8(text.bytes()).unwrap_or("(no text)")
+/// Whether this is what came, printed and told.
+fn is_told(
+    outcome: &Outcome,
+    status: Status,
+    starts: (u64, u64),
+    printed: &str,
+    told: &str,
+) -> bool {
+    (outcome.status, outcome.starts) == (status, starts)
+        && outcome.printed.bytes() == printed.as_bytes()
+        && outcome.told.bytes() == told.as_bytes()
 }
 
 /// The number of entries that was printed, and the sum of those of the callers.
@@ -92,6 +100,15 @@ fn entries_of(printed: &str) -> Option<(u64, u64)> {
     Some((entries?, sum))
 }
 
+/// Whether what was printed of a race has at least one entry, and each entry is of a caller.
+fn has_entries_of_callers(printed: &[u8]) -> bool {
+    let printed = std::str::from_utf8(printed).unwrap_or("(no text)");
+    match entries_of(printed) {
+        Some((entries, sum)) => entries > 0 && sum == entries,
+        None => false,
+    }
+}
+
 #[test]
 fn a_worker_that_is_not_started_is_told_and_nothing_is_printed(
     rt: HostRuntime,
@@ -100,63 +117,72 @@ fn a_worker_that_is_not_started_is_told_and_nothing_is_printed(
     let second = Listed::from_vec(vec![in alloc; 2]?);
     let line = "race --workers 2 --steps 1";
     let outcome = run(&rt, alloc, line, Way::Failing(second))?;
-    assert_eq!(rt;
-        (outcome.status, outcome.status.code()),
-        (Status::WorkerFault, 6)
+    assert!(rt;
+        is_told(
+            &outcome,
+            Status::WorkerFault,
+            (1, 1),
+            "",
+            "tpcw: worker fault\n"
+        )
     );
-    assert_eq!(rt; text_of(&outcome.printed), "");
-    assert_eq!(rt; text_of(&outcome.told), "tpcw: worker fault\n");
-    assert_eq!(rt; (outcome.starts, outcome.failed), (1, 1));
+    assert!(rt; outcome.status.code() == 6);
     Ok(())
 }
 
 #[test]
 fn two_workers_race_where_no_number_is_given(rt: HostRuntime) -> Result<(), Fail> {
     let outcome = run(&rt, rt.alloc(), "race --steps 1", Way::AtOnce)?;
-    assert_eq!(rt; (outcome.status, outcome.status.code()), (Status::Done, 0));
     let lines = "entries 0\norders 0\ncents 0\ncaller 1 0\ncaller 2 0\n";
-    assert_eq!(rt; text_of(&outcome.printed), lines);
-    assert_eq!(rt; text_of(&outcome.told), "");
-    assert_eq!(rt; (outcome.starts, outcome.failed), (2, 0));
+    assert!(rt; is_told(&outcome, Status::Done, (2, 0), lines, ""));
+    assert!(rt; outcome.status.code() == 0);
     Ok(())
+}
+
+/// Whether a race at once prints what it is to print.
+fn is_printed<R: Threads + Wait + Clone + Drop + Send + 'static>(
+    rt: &R,
+    alloc: Global,
+) -> Result<bool, Memory> {
+    let lines = "entries 176\norders 40\ncents 126412\n\
+caller 1 44\ncaller 2 44\ncaller 3 44\ncaller 4 44\n";
+    let outcome = run(rt, alloc, ORDERING, Way::AtOnce)?;
+    Ok(is_told(&outcome, Status::Done, (4, 0), lines, ""))
 }
 
 #[test]
 fn a_race_at_once_prints_the_same_lines_each_time(rt: HostRuntime) -> Result<(), Fail> {
-    let lines = "entries 176\norders 40\ncents 126412\n\
-caller 1 44\ncaller 2 44\ncaller 3 44\ncaller 4 44\n";
-    for _ in 0..2 {
-        let outcome = run(&rt, rt.alloc(), ORDERING, Way::AtOnce)?;
-        assert_eq!(rt; outcome.status, Status::Done);
-        assert_eq!(rt; text_of(&outcome.printed), lines);
-        assert_eq!(rt; (outcome.starts, outcome.failed), (4, 0));
-    }
+    let first = is_printed(&rt, rt.alloc())?;
+    let second = is_printed(&rt, rt.alloc())?;
+    assert!(rt; first && second);
     Ok(())
 }
 
 #[test]
 fn each_entry_of_a_race_in_threads_is_of_a_caller(rt: HostRuntime) -> Result<(), Fail> {
     let outcome = run(&rt, rt.alloc(), ORDERING, Way::Threads)?;
-    assert_eq!(rt; outcome.status, Status::Done);
-    assert_eq!(rt; text_of(&outcome.told), "");
-    assert_eq!(rt; (outcome.starts, outcome.failed), (4, 0));
-    let Some((entries, sum)) = entries_of(text_of(&outcome.printed)) else {
-        return Err("no such lines".into());
-    };
-    assert!(rt; entries > 0);
-    assert_eq!(rt; sum, entries);
+    assert!(rt; (outcome.status, outcome.starts) == (Status::Done, (4, 0)));
+    assert!(rt; outcome.told.bytes().is_empty());
+    assert!(rt; has_entries_of_callers(outcome.printed.bytes()));
     Ok(())
+}
+
+/// Whether words ask for no race: nothing is started or printed.
+fn is_refused<R: Threads + Wait + Clone + Drop + Send + 'static>(
+    rt: &R,
+    alloc: Global,
+    line: &str,
+) -> Result<bool, Memory> {
+    let outcome = run(rt, alloc, line, Way::AtOnce)?;
+    Ok(is_told(&outcome, Status::BadWords, (0, 0), "", "tpcw: bad words\n"))
 }
 
 #[test]
 fn words_that_ask_for_no_race_start_nothing(rt: HostRuntime) -> Result<(), Fail> {
-    for line in ["race --workers 17", "session", ""] {
-        let outcome = run(&rt, rt.alloc(), line, Way::AtOnce)?;
-        assert_eq!(rt; outcome.status, Status::BadWords, "{line}");
-        assert_eq!(rt; text_of(&outcome.printed), "", "{line}");
-        assert_eq!(rt; text_of(&outcome.told), "tpcw: bad words\n", "{line}");
-        assert_eq!(rt; (outcome.starts, outcome.failed), (0, 0), "{line}");
-    }
+    let alloc = rt.alloc();
+    assert!(rt; is_refused(&rt, alloc, "race --workers 17")?);
+    assert!(rt; is_refused(&rt, alloc, "session")?);
+    assert!(rt; is_refused(&rt, alloc, "")?);
     Ok(())
 }
 
@@ -166,12 +192,16 @@ fn a_sink_that_fails_holds_a_front_of_the_lines(rt: HostRuntime) -> Result<(), F
     let third = Listed::from_vec(vec![in alloc; 3]?);
     let sink = BytesOut::new(alloc, 8, third);
     let outcome = run_into(&rt, alloc, "race --steps 1", Way::AtOnce, sink)?;
-    assert_eq!(rt;
-        (outcome.status, outcome.status.code()),
-        (Status::WriteFault, 4)
+    let lines = "entries 0\norders";
+    assert!(rt;
+        is_told(
+            &outcome,
+            Status::WriteFault,
+            (2, 0),
+            lines,
+            "tpcw: write fault\n"
+        )
     );
-    assert_eq!(rt; text_of(&outcome.printed), "entries 0\norders");
-    assert_eq!(rt; text_of(&outcome.told), "tpcw: write fault\n");
-    assert_eq!(rt; (outcome.starts, outcome.failed), (2, 0));
+    assert!(rt; outcome.status.code() == 4);
     Ok(())
 }

@@ -74,17 +74,25 @@ fn done_by<R: Wait + Drop>(
     })
 }
 
-/// The changes that two callers made, and those in the book.
-#[derive(Clone, Copy, Debug, PartialEq, Eq)]
+/// The changes that two callers made, and those in the book: of either caller, and in all.
+#[derive(Clone, Copy)]
 struct Counted {
     made: (u64, u64),
     counts: (u64, u64),
     size: u64,
 }
 
-/// How many changes of either caller there are in a book, and how many in all.
-fn counts_of(book: Book) -> ((u64, u64), u64) {
-    ((book.count_of(1), book.count_of(2)), book.size())
+/// The counts of a book, where both callers were served.
+fn counts_in(
+    first: Result<u64, Memory>,
+    second: Result<u64, Memory>,
+    book: &Book,
+) -> Result<Counted, Memory> {
+    Ok(Counted {
+        made: (first?, second?),
+        counts: (book.count_of(1), book.count_of(2)),
+        size: book.size(),
+    })
 }
 
 /// Closes the shop of two desks, and counts.
@@ -96,24 +104,18 @@ fn close_both<R: Wait + Drop>(
     requires { IsOneShop first.desk second.desk }
 {
     let mut others = Vec::with_capacity(alloc, 1)?;
-    let Done {
-        desk,
-        changes: of_first,
-    } = first;
-    let Done {
-        desk: other,
-        changes: of_second,
-    } = second;
-    others.push_reserved(other);
-    let (counts, size) = counts_of(Shop::close(desk, others));
-    match (of_first, of_second) {
-        (Ok(of_first), Ok(of_second)) => Ok(Counted {
-            made: (of_first, of_second),
-            counts,
-            size,
-        }),
-        _ => Err(Memory),
-    }
+    others.push_reserved(second.desk);
+    let book = Shop::close(first.desk, others);
+    counts_in(first.changes, second.changes, &book)
+}
+
+/// Whether both callers changed something, and the book has what each of them changed and nothing else.
+fn is_all(counted: &Counted) -> bool {
+    let (of_first, of_second) = counted.made;
+    of_first > 1
+        && of_second > 1
+        && counted.counts == counted.made
+        && counted.size == of_first.saturating_add(of_second)
 }
 
 #[test]
@@ -127,10 +129,6 @@ fn each_change_that_threads_settle_is_in_the_book(rt: HostRuntime) -> Result<(),
         || done_by(alloc, second, input.bytes()),
     );
     let counted = close_both(alloc, first?, second?)?;
-    let (of_first, of_second) = counted.made;
-    assert!(rt; of_first > 1);
-    assert!(rt; of_second > 1);
-    assert_eq!(rt; counted.counts, (of_first, of_second));
-    assert_eq!(rt; counted.size, of_first.saturating_add(of_second));
+    assert!(rt; is_all(&counted));
     Ok(())
 }

@@ -11,7 +11,7 @@ use shop_attempt::{Attempt, Settle, Store};
 use shop_browse::{Ask, Attempted};
 use shop_draft::Draft;
 use shop_gateway::Emulator;
-use shop_history::{Act, Ids, Key};
+use shop_history::{Act, Drawn, Key};
 use shop_model::{
     AdminConfirm, BuyConfirm, Card, CardNumber, CardType, CartRequest, IdsAsked, Month, ShipType,
 };
@@ -22,8 +22,8 @@ use shop_text::{Listed, Memory, Shared, Text};
 use std::alloc::Global;
 
 /// What caller 2 does before a settle of caller 1.
-#[derive(Clone, Copy, Debug, PartialEq, Eq)]
-pub enum Deed {
+#[derive(Clone, Copy)]
+pub(crate) enum Deed {
     /// It adds a unit of item 2 to cart 1, if there is this cart.
     AddUnit,
     /// It buys a unit of this item for customer 11, where caller 1 is about to buy or to administer an item.
@@ -131,7 +131,7 @@ fn new_cart<St: Store>(
     ensures marks { KeepsMarks (St.marked store.old) (St.marked store.new) (St.seat store.old) (St.seat store.new) }
 {
     match adding(alloc, store, ask, None, item, draft) {
-        Some(attempt) => settles(store, attempt)?.cart,
+        Some(attempt) => settles(store, attempt)?.ids.cart,
         None => None,
     }
 }
@@ -169,6 +169,28 @@ fn reprice<St: Store>(alloc: Global, store: &mut St, ask: &Ask, draft: &mut Draf
     }
 }
 
+/// The attempt that a request for a cart makes.
+pub(crate) fn changing<St: Store>(
+    alloc: Global,
+    store: &mut St,
+    ask: &Ask,
+    asked: &CartRequest,
+    draft: &mut Draft,
+) -> Option<Attempt>
+    requires suits { Suits ask.now (St.seat store.old) }
+    ensures looks { Looks St.seat St.marked store.old store.new }
+    ensures faithful { IfSome result (Faithful (St.seat store.new).opening (St.seat store.new).seen) }
+    ensures moment { IfSome result (λ attempt. attempt.moment ≡ ask.now.moment) }
+{
+    match shopping_cart(alloc, store, ask, asked, draft) {
+        Attempted::Ready(attempt) => Some(attempt),
+        Attempted::Listed(_, _) => None,
+        Attempted::Pay(_) => None,
+        Attempted::Contradiction(_) => None,
+        Attempted::Memory => None,
+    }
+}
+
 /// The attempt to add a unit of an item to a cart, or to a new one.
 fn adding<St: Store>(
     alloc: Global,
@@ -188,13 +210,7 @@ fn adding<St: Store>(
         sets: Listed::new(alloc),
         ids: IdsAsked { c: None, cart },
     };
-    match shopping_cart(alloc, store, ask, &asked, draft) {
-        Attempted::Ready(attempt) => Some(attempt),
-        Attempted::Listed(_, _) => None,
-        Attempted::Pay(_) => None,
-        Attempted::Contradiction(_) => None,
-        Attempted::Memory => None,
-    }
+    changing(alloc, store, ask, &asked, draft)
 }
 
 /// That item 1 is to cost 20.00.
@@ -295,8 +311,8 @@ fn buying<St: Store>(
     }
 }
 
-/// Settles an attempt; the ids of the rows that it made, where that was done.
-fn settles<St: Store>(store: &mut St, attempt: Attempt) -> Option<Ids>
+/// Settles an attempt; what was drawn, where that was done.
+pub(crate) fn settles<St: Store>(store: &mut St, attempt: Attempt) -> Option<Drawn>
     requires faithful { Faithful (St.seat store.old).opening (St.seat store.old).seen attempt }
     requires moment { attempt.moment ≤ stamp_limit }
     ensures follows { Follows (St.seat store.old) (St.seat store.new) }
@@ -304,7 +320,7 @@ fn settles<St: Store>(store: &mut St, attempt: Attempt) -> Option<Ids>
     ensures marks { KeepsMarks (St.marked store.old) (St.marked store.new) (St.seat store.old) (St.seat store.new) }
 {
     match store.settle(attempt) {
-        Settle::Done(drawn) => Some(drawn.ids),
+        Settle::Done(drawn) => Some(drawn),
         Settle::Stale(_) => None,
         Settle::Full(_) => None,
         Settle::Memory => None,

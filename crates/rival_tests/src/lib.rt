@@ -5,16 +5,21 @@
 
 #[cfg(test)]
 mod cancelling;
+#[cfg(test)]
 mod deeds;
 #[cfg(test)]
 mod listing;
 #[cfg(test)]
 mod newcomers;
+#[cfg(test)]
+mod opened;
+#[cfg(test)]
 mod rivalled;
 #[cfg(test)]
 mod selling;
 #[cfg(test)]
+mod sessions;
+#[cfg(test)]
 mod tests;
-
-pub use deeds::Deed;
-pub use rivalled::Rivalled;
+#[cfg(test)]
+mod told;

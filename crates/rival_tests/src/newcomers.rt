@@ -1,6 +1,9 @@
 //! Two callers who buy as newcomers: the change of caller 2 falls between the reads of caller 1 and its settle.
-ghost use Rattle.std.specs.Prelude.{◌≡◌, ◌≤◌, IfOk};
+ghost use Rattle.std.specs.Prelude.{◌≡◌, ◌≤◌, IfOk, IfSome};
+ghost use Rattle.shop_model.specs.asked.CustomersAsked.{IsAddressAsked};
 ghost use Rattle.shop_log.specs.Histories.{Extends};
+ghost use Rattle.shop_model.specs.lists.Catalogues.{catalogue};
+ghost use Rattle.shop_model.specs.population.Population.{populated};
 ghost use Rattle.shop_model.specs.rows.Limits.{stamp_limit};
 ghost use Rattle.shop_model.specs.rows.Sound.{Has};
 ghost use Rattle.shop_attempt.specs.Faithful.{Faithful};
@@ -8,8 +11,9 @@ ghost use Rattle.shop_attempt.specs.Seats.{Follows};
 ghost use Rattle.shop_book.specs.Solos.{seat_of};
 ghost use Rattle.shop_browse.specs.Attempts.{Suits};
 
-use crate::cancelling::{one_unit, settled};
-use crate::tests::{desk, empty_draft};
+use crate::cancelling::one_unit;
+use crate::deeds::settles;
+use crate::opened::{book_of, empty_draft, index_of};
 use shop_attempt::{Attempt, Settle, Store};
 use shop_book::{Book, Solo, Visitor};
 use shop_browse::{Ask, Attempted};
@@ -17,32 +21,47 @@ use shop_draft::Draft;
 use shop_history::{Ids, Key, Row};
 use shop_model::{AddressText, BuyRequest, Buyer, Newcomer, Scale};
 use shop_order::buy_request::buy_request;
+use shop_search::Index;
 use shop_text::{Boxed, Memory, Text};
 use std::alloc::Global;
 use std::test::Fail;
 
-/// What a newcomer asks for, who buys cart 1 and has an address in a country.
-fn asked(alloc: Global, country: u32) -> Result<BuyRequest, Memory>
+/// An address in a country.
+fn address_in(alloc: Global, country: u32) -> Result<AddressText, Memory>
     requires { Has 92 country }
+    ensures { IfOk result IsAddressAsked }
 {
-    let address = AddressText {
+    Ok(AddressText {
         street1: Text::copy(alloc, b"1 Way")?,
         street2: Text::new(alloc),
         city: Text::copy(alloc, b"Ulm")?,
         state: Text::new(alloc),
         zip: Text::copy(alloc, b"89073")?,
         country,
-    };
-    let newcomer = Newcomer {
+    })
+}
+
+/// A newcomer who has an address in a country.
+fn newcomer_in(alloc: Global, country: u32) -> Result<Newcomer, Memory>
+    requires { Has 92 country }
+{
+    Ok(Newcomer {
         first: Text::copy(alloc, b"Zoe")?,
         last: Text::copy(alloc, b"B")?,
-        address,
         phone: Text::copy(alloc, b"5")?,
         email: Text::copy(alloc, b"z")?,
-    };
+        address: address_in(alloc, country)?,
+    })
+}
+
+/// What a newcomer asks for, who buys cart 1 and has an address in a country.
+fn asked(alloc: Global, country: u32) -> Result<BuyRequest, Memory>
+    requires { Has 92 country }
+{
+    let newcomer = Boxed::new(alloc, newcomer_in(alloc, country)?)?;
     Ok(BuyRequest {
         cart: 1,
-        buyer: Buyer::Newcomer(Boxed::new(alloc, newcomer)?),
+        buyer: Buyer::Newcomer(newcomer),
     })
 }
 
@@ -53,23 +72,23 @@ fn buying<St: Store>(
     ask: &Ask,
     asked: &BuyRequest,
     draft: &mut Draft,
-) -> Result<Attempt, Fail>
+) -> Option<Attempt>
     requires suits { Suits ask.now (St.seat store.old) }
     ensures follows { Follows (St.seat store.old) (St.seat store.new) }
-    ensures faithful { IfOk result (Faithful (St.seat store.new).opening (St.seat store.new).seen) }
-    ensures moment { IfOk result (λ attempt. attempt.moment ≡ ask.now.moment) }
+    ensures faithful { IfSome result (Faithful (St.seat store.new).opening (St.seat store.new).seen) }
+    ensures moment { IfSome result (λ attempt. attempt.moment ≡ ask.now.moment) }
 {
     match buy_request(alloc, store, ask, asked, draft) {
-        Attempted::Ready(attempt) => Ok(attempt),
-        Attempted::Listed(_, _) => Err("a list".into()),
-        Attempted::Pay(_) => Err("a payment".into()),
-        Attempted::Contradiction(_) => Err("a contradiction".into()),
-        Attempted::Memory => Err("no memory".into()),
+        Attempted::Ready(attempt) => Some(attempt),
+        Attempted::Listed(_, _) => None,
+        Attempted::Pay(_) => None,
+        Attempted::Contradiction(_) => None,
+        Attempted::Memory => None,
     }
 }
 
 /// What a settle is told.
-#[derive(Clone, Copy, Debug, PartialEq, Eq)]
+#[derive(Clone, Copy, PartialEq, Eq)]
 enum Answer {
     Done(Ids),
     /// Whether it is an address that was looked for, the version read, and the one found.
@@ -102,13 +121,13 @@ fn bought<St: Store>(
     ask: &Ask,
     asked: &BuyRequest,
     draft: &mut Draft,
-) -> Result<Answer, Fail>
+) -> Option<Answer>
     requires suits { Suits ask.now (St.seat store.old) }
     requires moment { ask.now.moment ≤ stamp_limit }
     ensures follows { Follows (St.seat store.old) (St.seat store.new) }
 {
     let attempt = buying(alloc, store, ask, asked, draft)?;
-    Ok(told(store, attempt))
+    Some(told(store, attempt))
 }
 
 /// What caller 2 is told, who has the seat meanwhile.
@@ -118,7 +137,7 @@ fn told_rival(
     ask: &Ask,
     asked: &BuyRequest,
     draft: &mut Draft,
-) -> Result<Answer, Fail>
+) -> Option<Answer>
     requires suits { Suits ask.now (seat_of solo.old) }
     requires moment { ask.now.moment ≤ stamp_limit }
     ensures opening { solo.new.book.opening.tables ≡ solo.old.book.opening.tables }
@@ -146,40 +165,20 @@ fn told_in_turn(
     mine: &BuyRequest,
     other: &BuyRequest,
     draft: &mut Draft,
-) -> Result<[Answer; 3], Fail>
+) -> Option<[Answer; 3]>
     requires suits { Suits ask.now (seat_of solo.old) }
     requires moment { ask.now.moment ≤ stamp_limit }
 {
     let cart = one_unit(alloc, solo, ask, None, draft)?;
-    settled(solo, cart)?;
+    settles(solo, cart)?;
     let attempt = buying(alloc, solo, ask, mine, draft)?;
-    let rival = told_rival(alloc, solo, ask, other, draft)?;
+    let rival = told_rival(alloc, solo, ask, other, draft);
     let first = told(solo, attempt);
     let second = match first {
         Answer::Stale(_, _, _) => bought(alloc, solo, ask, mine, draft)?,
         _ => first,
     };
-    Ok([rival, first, second])
-}
-
-/// The book of the desk after that, where caller 2 is of a country, and caller 1 of country 7.
-fn book_after(alloc: Global, country: u32) -> Result<(Book, Result<[Answer; 3], Fail>), Fail>
-    requires { Has 92 country }
-{
-    let mut draft = empty_draft(alloc)?;
-    let mine = asked(alloc, 7)?;
-    let other = asked(alloc, country)?;
-    let scale = Scale::desk();
-    let (book, index) = desk(alloc, &scale)?;
-    let ask = Ask {
-        scale: &scale,
-        index: &index,
-        moment: 1_000,
-        draw: 0,
-    };
-    let mut solo = Solo::new(book);
-    let told = told_in_turn(alloc, &mut solo, &ask, &mine, &other, &mut draft);
-    Ok((solo.into_book(), told))
+    Some([rival?, first, second])
 }
 
 /// The id of a customer's address, and the customer's version.
@@ -192,26 +191,60 @@ fn address_of(book: &mut Book, customer: u32) -> Option<(u32, u64)> {
 }
 
 /// What the callers were told, and the addresses of the three customers from 41, with their versions.
-#[derive(Drop)]
+#[derive(Clone, Copy)]
 struct Outcome {
-    told: [Answer; 3],
+    told: Option<[Answer; 3]>,
     addresses: [Option<(u32, u64)>; 3],
 }
 
-fn outcome_of(alloc: Global, country: u32) -> Result<Outcome, Fail>
+fn outcome_in(told: Option<[Answer; 3]>, book: &mut Book) -> Outcome {
+    Outcome {
+        told,
+        addresses: [
+            address_of(book, 41),
+            address_of(book, 42),
+            address_of(book, 43),
+        ],
+    }
+}
+
+/// What comes of it at the desk. The book comes last, so that no refusal has it to let go.
+fn outcome_at_desk(
+    alloc: Global,
+    scale: &Scale,
+    index: &Index,
+    mine: &BuyRequest,
+    other: &BuyRequest,
+    draft: &mut Draft,
+) -> Result<Outcome, Memory>
+    requires { index.now ≡ catalogue (populated 0 scale.now) }
+{
+    let ask = Ask {
+        scale,
+        index,
+        moment: 1_000,
+        draw: 0,
+    };
+    let mut solo = Solo::new(book_of(alloc, scale)?);
+    let told = told_in_turn(alloc, &mut solo, &ask, mine, other, draft);
+    Ok(outcome_in(told, &mut solo.into_book()))
+}
+
+/// What comes of these requests.
+fn outcome_asked(alloc: Global, mine: &BuyRequest, other: &BuyRequest) -> Result<Outcome, Memory> {
+    let scale = Scale::desk();
+    let index = index_of(alloc, &scale)?;
+    let mut draft = empty_draft(alloc)?;
+    outcome_at_desk(alloc, &scale, &index, mine, other, &mut draft)
+}
+
+/// What comes of it where caller 2 is of a country, and caller 1 of country 7.
+fn outcome_of(alloc: Global, country: u32) -> Result<Outcome, Memory>
     requires { Has 92 country }
 {
-    let (mut book, told) = book_after(alloc, country)?;
-    let addresses = [
-        address_of(&mut book, 41),
-        address_of(&mut book, 42),
-        address_of(&mut book, 43),
-    ];
-    drop(book);
-    Ok(Outcome {
-        told: told?,
-        addresses,
-    })
+    let mine = asked(alloc, 7)?;
+    let other = asked(alloc, country)?;
+    outcome_asked(alloc, &mine, &other)
 }
 
 /// What is told where a customer comes, and an address with it or none.
@@ -229,17 +262,22 @@ fn a_newcomer_shares_the_address_that_another_brought_meanwhile(
     rt: HostRuntime,
 ) -> Result<(), Fail> {
     let outcome = outcome_of(rt.alloc(), 7)?;
-    let (first, second) = (came(41, Some(81)), came(42, None));
-    assert_eq!(rt; outcome.told, [first, Answer::Stale(true, 0, 2), second]);
-    assert_eq!(rt; outcome.addresses, [Some((81, 2)), Some((81, 3)), None]);
+    let told = [
+        came(41, Some(81)),
+        Answer::Stale(true, 0, 2),
+        came(42, None),
+    ];
+    let addresses = [Some((81, 2)), Some((81, 3)), None];
+    assert!(rt; outcome.told == Some(told) && outcome.addresses == addresses);
     Ok(())
 }
 
 #[test]
 fn a_newcomer_of_another_address_is_not_in_the_way(rt: HostRuntime) -> Result<(), Fail> {
     let outcome = outcome_of(rt.alloc(), 8)?;
-    let (first, second) = (came(41, Some(81)), came(42, Some(82)));
-    assert_eq!(rt; outcome.told, [first, second, second]);
-    assert_eq!(rt; outcome.addresses, [Some((81, 2)), Some((82, 3)), None]);
+    let second = came(42, Some(82));
+    let told = [came(41, Some(81)), second, second];
+    let addresses = [Some((81, 2)), Some((82, 3)), None];
+    assert!(rt; outcome.told == Some(told) && outcome.addresses == addresses);
     Ok(())
 }

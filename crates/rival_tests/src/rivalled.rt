@@ -23,7 +23,7 @@ use std::sync::Arc;
 /// The seat of caller 1 at a book at which caller 2 does a deed before one settle of caller 1 after
 /// another whose time it is, until it was done so often.
 #[derive(Drop)]
-pub struct Rivalled {
+pub(crate) struct Rivalled {
     alloc: Global,
     solo: Solo,
     index: Arc<Index, Global>,
@@ -40,16 +40,14 @@ impl Model for Rivalled {
 
     ghost Value = { RivalledValue };
 
-    ghost use Rattle.rival_tests.specs.RivalledView.{rivalled_of};
-
-    ghost view = { rivalled_of };
+    ghost view = { λ i. record { solo = i.solo; changes = i.changes } };
 
     ghost invariant = { λ i. IsFitting i.solo (arc_value i.index) i.scale };
 }
 
 impl Rivalled {
     /// The seat, with no calls yet, and with a deed of caller 2 to come so often.
-    pub fn new(
+    pub(crate) fn new(
         alloc: Global,
         book: Book,
         index: Arc<Index, Global>,
@@ -76,7 +74,7 @@ impl Rivalled {
     }
 
     /// The book.
-    pub fn into_book(self) -> Book
+    pub(crate) fn into_book(self) -> Book
         ensures { result ≡ self.solo.book }
     {
         let Rivalled {

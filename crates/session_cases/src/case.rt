@@ -4,7 +4,7 @@ use shop_text::{Listed, Text};
 use std::alloc::Global;
 
 /// A line of the index: what a session is run on, and what must come of it. Lists are text here.
-#[derive(Clone, Copy, Debug)]
+#[derive(Clone, Copy)]
 pub struct Case<'a> {
     pub name: &'a str,
     /// The words of the program, between commas.
@@ -22,24 +22,37 @@ pub struct Case<'a> {
     fails: &'a str,
 }
 
+/// A line's first column, and the others.
+fn cut(line: &str) -> Option<(&str, &str)> {
+    let (column, rest) = line.split_once('|')?;
+    Some((column.trim(), rest))
+}
+
+/// The last column.
+fn last(line: &str) -> Option<&str> {
+    (!line.contains('|')).then_some(line.trim())
+}
+
 impl<'a> Case<'a> {
     /// The case of a line that has all columns, between bars, and no other.
     pub fn of_line(line: &'a str) -> Option<Case<'a>> {
-        let mut columns = line.split('|').map(|column| column.trim());
-        let case = Case {
-            name: columns.next()?,
-            words: columns.next()?,
-            asks: columns.next()?,
-            answers: columns.next()?,
-            told: columns.next()?,
-            status: columns.next()?.parse().ok()?,
-            readings: columns.next()?,
-            fails: columns.next()?,
-        };
-        match columns.next() {
-            None => Some(case),
-            Some(_) => None,
-        }
+        let (name, line) = cut(line)?;
+        let (words, line) = cut(line)?;
+        let (asks, line) = cut(line)?;
+        let (answers, line) = cut(line)?;
+        let (told, line) = cut(line)?;
+        let (status, line) = cut(line)?;
+        let (readings, line) = cut(line)?;
+        Some(Case {
+            name,
+            words,
+            asks,
+            answers,
+            told,
+            status: status.parse().ok()?,
+            readings,
+            fails: last(line)?,
+        })
     }
 
     pub fn words(&self, alloc: Global) -> Result<Vec<Text>> {
@@ -48,8 +61,7 @@ impl<'a> Case<'a> {
             return Ok(words);
         }
         for word in self.words.split(',') {
-            let bytes = word.trim().as_bytes().to_vec(alloc)?;
-            words.push(Text::from_vec(bytes))?;
+            words.push(word_of(alloc, word)?)?;
         }
         Ok(words)
     }
@@ -61,6 +73,12 @@ impl<'a> Case<'a> {
     pub fn fails(&self, alloc: Global) -> Result<Listed<u64>> {
         numbers(alloc, self.fails)
     }
+}
+
+/// A word without the blanks round it.
+fn word_of(alloc: Global, word: &str) -> Result<Text> {
+    let bytes = word.trim().as_bytes().to_vec(alloc)?;
+    Ok(Text::from_vec(bytes))
 }
 
 /// Numbers between blanks.

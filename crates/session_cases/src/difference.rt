@@ -2,7 +2,7 @@
 use std::fmt;
 
 /// What differs first. Bytes are counted from 1.
-#[derive(Clone, Copy, Debug)]
+#[derive(Clone, Copy)]
 pub enum Difference {
     Written(usize),
     Told(usize),

@@ -11,7 +11,7 @@ use std::rt::Files;
 use std::{fmt, fs};
 
 /// At most so many bytes come with a read and go with a write.
-#[derive(Clone, Copy, Debug)]
+#[derive(Clone, Copy)]
 pub struct Pieces {
     pub read: usize,
     pub write: usize,
@@ -24,7 +24,7 @@ impl fmt::Display for Pieces {
 }
 
 /// The bytes that come in, those that are to be written and those that are to be told.
-#[derive(Debug, Drop)]
+#[derive(Drop)]
 pub struct Streams {
     input: Vec<u8>,
     output: Vec<u8>,
@@ -34,32 +34,59 @@ pub struct Streams {
 impl Streams {
     /// What a case names, from files in its folder.
     pub fn of(rt: &(impl Files + AllocGlobal), folder: &str, case: &Case) -> Result<Streams> {
-        let alloc = rt.alloc();
-        let mut input = Vec::new(alloc);
-        for part in case.asks.split_whitespace() {
-            let (name, count) = repeated(part)?;
-            let bytes = if name.starts_with('/') {
-                request(alloc, name)?
-            } else {
-                file(rt, folder, name)?
-            };
-            add(&mut input, &bytes, count)?;
-        }
-        let mut output = Vec::new(alloc);
-        for part in case.answers.split_whitespace() {
-            let (name, count) = repeated(part)?;
-            add(&mut output, &file(rt, folder, name)?, count)?;
-        }
-        let mut told = case.told.as_bytes().to_vec(alloc)?;
-        if !told.is_empty() {
-            told.push(b'\n')?;
-        }
+        let input = input_of(rt, folder, case.asks)?;
+        let output = output_of(rt, folder, case.answers)?;
+        let told = told_of(rt.alloc(), case.told)?;
         Ok(Streams {
             input,
             output,
             told,
         })
     }
+}
+
+/// The bytes of files and requests.
+fn input_of(rt: &(impl Files + AllocGlobal), folder: &str, asks: &str) -> Result<Vec<u8>> {
+    let mut input = Vec::new(rt.alloc());
+    for part in asks.split_whitespace() {
+        add_asked(rt, folder, part, &mut input)?;
+    }
+    Ok(input)
+}
+
+/// Adds the bytes of a file, or the request of a target.
+fn add_asked(
+    rt: &(impl Files + AllocGlobal),
+    folder: &str,
+    part: &str,
+    input: &mut Vec<u8>,
+) -> Result<()> {
+    let (name, count) = repeated(part)?;
+    let bytes = if name.starts_with('/') {
+        request(rt.alloc(), name)?
+    } else {
+        file(rt, folder, name)?
+    };
+    add(input, &bytes, count)
+}
+
+/// The bytes of files.
+fn output_of(rt: &(impl Files + AllocGlobal), folder: &str, answers: &str) -> Result<Vec<u8>> {
+    let mut output = Vec::new(rt.alloc());
+    for part in answers.split_whitespace() {
+        let (name, count) = repeated(part)?;
+        add(&mut output, &file(rt, folder, name)?, count)?;
+    }
+    Ok(output)
+}
+
+/// A line, where there is one.
+fn told_of(alloc: Global, line: &str) -> Result<Vec<u8>> {
+    let mut told = line.as_bytes().to_vec(alloc)?;
+    if !told.is_empty() {
+        told.push(b'\n')?;
+    }
+    Ok(told)
 }
 
 /// What a part names, and how often it stands there: once, or as often as a number behind `*` says.
@@ -90,6 +117,61 @@ fn file(rt: &(impl Files + AllocGlobal), folder: &str, name: &str) -> Result<Vec
     fs::read(rt, path.as_str()).context(format_args!("reading {path}"))
 }
 
+/// The clock of a case.
+fn clock_of(alloc: Global, case: &Case) -> Result<ListClock> {
+    let readings = case.readings(alloc)?;
+    let clock = ListClock::new(alloc, readings).ok();
+    clock.context("no memory for a clock")
+}
+
+/// The input, of which so many bytes come with a read.
+fn source_of(alloc: Global, input: &[u8], piece: usize) -> Result<BytesIn> {
+    let input = Text::from_vec(input.to_vec(alloc)?);
+    Ok(BytesIn::new(input, piece.max(1), Listed::new(alloc)))
+}
+
+/// The gateway of a case.
+fn gateway_of(alloc: Global, case: &Case) -> Result<ScriptGateway<Emulator>> {
+    Ok(ScriptGateway::new(Emulator::new(alloc), case.fails(alloc)?))
+}
+
+/// Runs the words; the status. Its callers need none of what is promised of it.
+fn run(
+    alloc: Global,
+    words: &[Text],
+    source: &mut BytesIn,
+    (sink, faults): (&mut BytesOut, &mut BytesOut),
+    clock: &mut ListClock,
+    gateway: &mut ScriptGateway<Emulator>,
+) -> u8 {
+    run_alone(alloc, words, source, sink, faults, clock, gateway).code()
+}
+
+/// Runs words with the gateway of a case; the status.
+fn run_case(
+    alloc: Global,
+    case: &Case,
+    words: &[Text],
+    source: &mut BytesIn,
+    told: (&mut BytesOut, &mut BytesOut),
+    clock: &mut ListClock,
+) -> Result<u8> {
+    let mut gateway = gateway_of(alloc, case)?;
+    Ok(run(alloc, words, source, told, clock, &mut gateway))
+}
+
+/// Runs the words of a case at its clock; the status.
+fn status_of(
+    alloc: Global,
+    case: &Case,
+    source: &mut BytesIn,
+    told: (&mut BytesOut, &mut BytesOut),
+) -> Result<u8> {
+    let words = case.words(alloc)?;
+    let mut clock = clock_of(alloc, case)?;
+    run_case(alloc, case, &words, source, told, &mut clock)
+}
+
 /// How a session differs from what a case wants, its bytes cut into such pieces.
 pub fn differs(
     alloc: Global,
@@ -97,24 +179,11 @@ pub fn differs(
     streams: &Streams,
     pieces: Pieces,
 ) -> Result<Option<Difference>> {
-    let words = case.words(alloc)?;
-    let clock = ListClock::new(alloc, case.readings(alloc)?).ok();
-    let mut clock = clock.context("no memory for a clock")?;
-    let input = Text::from_vec(streams.input.as_slice().to_vec(alloc)?);
-    let mut source = BytesIn::new(input, pieces.read.max(1), Listed::new(alloc));
+    let mut source = source_of(alloc, &streams.input, pieces.read)?;
     let mut sink = BytesOut::new(alloc, pieces.write, Listed::new(alloc));
     let mut faults = BytesOut::new(alloc, pieces.write, Listed::new(alloc));
-    let mut gateway = ScriptGateway::new(Emulator::new(alloc), case.fails(alloc)?);
-    let status = run_alone(
-        alloc,
-        &words,
-        &mut source,
-        &mut sink,
-        &mut faults,
-        &mut clock,
-        &mut gateway,
-    );
-    Ok(difference(case, streams, sink.bytes(), faults.bytes(), status.code()))
+    let status = status_of(alloc, case, &mut source, (&mut sink, &mut faults))?;
+    Ok(difference(case, streams, sink.bytes(), faults.bytes(), status))
 }
 
 /// How what was written and told, and the status, differ from what a case wants.

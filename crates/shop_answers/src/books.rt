@@ -1,77 +1,78 @@
 //! What books of populated tables show when they open. What is best sold comes from a model in Python,
 //! with a PCG32 of its own.
-use crate::answers::{answer, text_of};
+use crate::answers::answer;
 use crate::done;
+use crate::records::{Lookup, print_row, row_of};
 use anyhow::{Context, Result};
 use shop_book::Book;
-use shop_history::{Key, Row};
-use shop_model::{AuthId, Scale, Subject};
+use shop_history::Row;
+use shop_model::{AuthId, Scale, Subject, Tables};
 use shop_populate::populate;
 use shop_text::Memory;
 use std::alloc::Global;
+use std::boxed::Box;
 
-/// Prints what a key shows, ids or names, or the stock and the restocks of an item, and its version.
-pub fn print_row(rt: &impl Print, book: &mut Book, key: &Key) -> Result<()> {
-    let (row, version) = done(book.read(key))?;
-    match &row {
-        Row::Absent => answer(rt, key, &("absent", version)),
-        Row::Items(ids) => answer(rt, key, &(ids.get().as_slice(), version)),
-        Row::Customers(ids) => answer(rt, key, &(ids.as_slice(), version)),
-        Row::Totals(totals) => answer(rt, key, &(totals.as_slice(), version)),
-        Row::Item(item) => answer(rt, key, &((item.stock, item.restocks), version)),
-        Row::Label(label) => {
-            let author = (
-                text_of(label.first().bytes()),
-                text_of(label.last().bytes()),
-            );
-            answer(rt, key, &(text_of(label.title().bytes()), author, version))
-        }
-        _ => answer(rt, key, &("there", version)),
-    }
+/// The authorisation of the first order.
+fn first_auth(tables: &Tables) -> Option<AuthId> {
+    let order = tables.orders.as_slice().first()?;
+    Some(order.get().card.auth)
 }
 
 /// The open book of this scale with seed 0, and the authorisation of its first order.
-fn opened(alloc: Global, scale: &Scale) -> Result<(Book, Option<AuthId>), Memory> {
+fn opened(alloc: Global, scale: &Scale) -> Result<(Box<Book>, Option<AuthId>), Memory> {
     let tables = populate(alloc, 0, scale)?;
-    let auth = tables
-        .orders
-        .as_slice()
-        .first()
-        .map(|order| order.get().card.auth);
-    Ok((Book::open(alloc, tables, 10)?, auth))
+    let auth = first_auth(&tables);
+    let book = Book::open(alloc, tables, 10)?;
+    Ok((Box::new(alloc, book)?, auth))
 }
 
+const LOOKUPS: [Lookup; 9] = [
+    Lookup::NewIn(Subject::NonFiction),
+    Lookup::BestIn(Subject::NonFiction),
+    Lookup::BestIn(Subject::Literature),
+    Lookup::BestIn(Subject::Religion),
+    Lookup::Label(25),
+    Lookup::Item(100),
+    Lookup::Item(101),
+    Lookup::Item(0),
+    Lookup::Cart(1),
+];
+
 /// Prints what rows of the book of the desk show.
-fn print_rows(rt: &impl Print, book: &mut Book, auth: Option<AuthId>) -> Result<()> {
+fn print_rows(
+    rt: &(impl Print + AllocGlobal),
+    book: &mut Book,
+    auth: Option<AuthId>,
+) -> Result<()> {
     let auth = auth.context("no order 1")?;
     let known = (book.has_auth(&auth), book.has_auth(&AuthId::of(0)));
     answer(rt, &"authorisations of order 1 and of none", &known)?;
-    for key in [
-        Key::NewIn(Subject::NonFiction),
-        Key::BestIn(Subject::NonFiction),
-        Key::BestIn(Subject::Literature),
-        Key::BestIn(Subject::Religion),
-        Key::Label(25),
-        Key::Item(100),
-        Key::Item(101),
-        Key::Item(0),
-        Key::Cart(1),
-    ] {
-        print_row(rt, book, &key)?;
+    for lookup in &LOOKUPS {
+        print_row(rt, book, *lookup)?;
     }
     Ok(())
 }
 
-/// Prints how many items of Arts are new and best sold, the first and the last.
-fn print_ends(rt: &impl Print, book: &mut Book) -> Result<()> {
-    for key in [Key::NewIn(Subject::Arts), Key::BestIn(Subject::Arts)] {
-        let (row, version) = done(book.read(&key))?;
-        if let Row::Items(list) = &row {
+fn print_list(rt: &impl Print, lookup: Lookup, row: &Row, version: u64) -> Result<()> {
+    match row {
+        Row::Items(list) => {
             let ids = list.get().as_slice();
-            answer(rt, &key, &(ids.len(), ids.first(), ids.last(), version))?;
+            answer(rt, &lookup, &(ids.len(), ids.first(), ids.last(), version))
         }
+        _ => Ok(()),
     }
-    Ok(())
+}
+
+/// Prints how many items a list has, the first and the last.
+fn print_ends_of(rt: &(impl Print + AllocGlobal), book: &mut Book, lookup: Lookup) -> Result<()> {
+    let (row, version) = row_of(rt.alloc(), book, lookup)?;
+    print_list(rt, lookup, &row, version)
+}
+
+/// Prints how many items of Arts are new and best sold, the first and the last.
+fn print_ends(rt: &(impl Print + AllocGlobal), book: &mut Book) -> Result<()> {
+    print_ends_of(rt, book, Lookup::NewIn(Subject::Arts))?;
+    print_ends_of(rt, book, Lookup::BestIn(Subject::Arts))
 }
 
 fn print_desk(rt: &(impl Print + AllocGlobal)) -> Result<()> {

@@ -1,28 +1,20 @@
 //! Connections over the desk's shop with seed 0. Call n of caller 1 draws 16245 + 13 (n - 1) there.
-ghost use Rattle.std.specs.Prelude.{◌≤◌, IfOk};
-ghost use Rattle.shop_book.specs.Openings.{most_entries};
-ghost use Rattle.shop_answers.specs.Desks.{IsDesk};
-
 use crate::answers::answer;
-use crate::books::print_row;
 use crate::done;
+use crate::records::{Lookup, print_row};
+use crate::shops::{Outcome, Setting, clock, outcome_of, worker};
 use anyhow::{Result, anyhow};
 use http::Method;
 use shop_book::{Book, Solo};
-use shop_edges::{BytesIn, BytesOut, Gateway, ListClock};
-use shop_engine::{Answered, Point, Report, Worker, serve_connection, serve_message};
+use shop_edges::ListClock;
+use shop_engine::{Answered, Point, Report, Worker, serve_message};
 use shop_gateway::Emulator;
-use shop_history::Key;
 use shop_message::Message;
-use shop_model::{Scale, Tables};
-use shop_populate::populate;
-use shop_search::Index;
-use shop_text::{Listed, Memory, Text};
+use shop_text::{Memory, Text};
 use std::alloc::Global;
-use std::sync::Arc;
 
 /// What a connection gives, the readings of its clock, and how many changes the log may have.
-#[derive(Clone, Copy, Debug)]
+#[derive(Clone, Copy)]
 struct Case {
     name: &'static str,
     input: &'static [u8],
@@ -86,58 +78,6 @@ GET /shopping_cart?cart=9 HTTP/1.1\r\n\r\n",
     },
 ];
 
-/// The tables of the desk with seed 0.
-#[tactic(auto, using(crate::proofs::Posting::items_of))]
-pub fn desk(alloc: Global) -> Result<Tables, Memory>
-    ensures { IfOk result IsDesk }
-{
-    populate(alloc, 0, &Scale::desk())
-}
-
-/// A worker of caller 1, who has a shop with these tables alone, and whose log may have so many
-/// changes.
-pub fn worker(alloc: Global, tables: Tables, limit: u64) -> Result<Worker<Solo>, Memory>
-    requires tables { IsDesk tables }
-    requires limit { limit ≤ most_entries }
-{
-    let index = Index::build(alloc, &tables)?;
-    let index = Arc::new(alloc, index)?;
-    let book = Book::open(alloc, tables, limit)?;
-    Worker::new(alloc, Solo::new(book), 1, 0, Scale::desk(), index)
-}
-
-pub fn clock(alloc: Global, readings: [u64; 4]) -> Result<ListClock, Memory> {
-    let readings = Vec::from_slice(alloc, &readings)?;
-    ListClock::new(alloc, Listed::from_vec(readings))
-}
-
-/// What comes of a connection over these tables, and the book behind it. The log may have so many
-/// changes.
-pub fn served<G: Gateway>(
-    alloc: Global,
-    tables: Tables,
-    input: &[u8],
-    readings: [u64; 4],
-    limit: u8,
-    gateway: &mut G,
-) -> Result<(Report, Book), Memory>
-    requires { IsDesk tables }
-{
-    let mut source = BytesIn::new(Text::copy(alloc, input)?, 7, Listed::new(alloc));
-    let mut sink = BytesOut::new(alloc, 1_000, Listed::new(alloc));
-    let mut clock = clock(alloc, readings)?;
-    let mut worker = worker(alloc, tables, u64::from(limit))?;
-    let report = serve_connection(
-        alloc,
-        &mut worker,
-        &mut source,
-        &mut sink,
-        &mut clock,
-        gateway,
-    );
-    Ok((report, worker.into_store().into_book()))
-}
-
 /// Prints the kind of a point: its front, moment, call, word and tries.
 fn print_point(rt: &impl Print, point: &Point) -> Result<()> {
     let numbers = (
@@ -159,67 +99,96 @@ pub fn print_report(rt: &impl Print, name: &str, report: &Report) -> Result<()> 
     Ok(())
 }
 
-/// Prints the end, the points, what the log has come to, and the versions of three rows.
-fn print_served(rt: &impl Print, name: &str, report: &Report, book: &mut Book) -> Result<()> {
-    print_report(rt, name, report)?;
+/// Prints what the log has come to, and the versions of three rows.
+fn print_book(rt: &(impl Print + AllocGlobal), book: &mut Book) -> Result<()> {
     answer(rt, &"changes of caller 1", &book.count_of(1))?;
     answer(rt, &"all changes", &book.summary())?;
-    for key in [Key::Cart(1), Key::Cart(2), Key::Item(46)] {
-        print_row(rt, book, &key)?;
-    }
-    Ok(())
+    print_row(rt, book, Lookup::Cart(1))?;
+    print_row(rt, book, Lookup::Cart(2))?;
+    print_row(rt, book, Lookup::Item(46))
 }
 
-/// What comes of a case at the desk's shop, and the book behind it.
-fn served_case(alloc: Global, case: Case) -> Result<(Report, Book), Memory> {
-    let tables = desk(alloc)?;
-    let mut gateway = Emulator::new(alloc);
-    served(
-        alloc,
-        tables,
-        case.input,
-        case.readings,
-        case.limit,
-        &mut gateway,
-    )
+/// Prints the end, the points, what the log has come to, and the versions of three rows.
+fn print_outcome(rt: &(impl Print + AllocGlobal), name: &str, outcome: &mut Outcome) -> Result<()> {
+    print_report(rt, name, &outcome.report)?;
+    print_book(rt, &mut outcome.book)
+}
+
+/// What comes of a case at the desk's shop.
+fn outcome_of_case(alloc: Global, case: Case) -> Result<Outcome, Memory> {
+    let setting = Setting {
+        readings: case.readings,
+        limit: case.limit,
+        fails: 0,
+        twins: false,
+    };
+    let input = Text::copy(alloc, case.input)?;
+    outcome_of(alloc, input, setting)
 }
 
 fn print_case(rt: &(impl Print + AllocGlobal), case: Case) -> Result<()> {
-    let (report, mut book) = done(served_case(rt.alloc(), case))?;
-    print_served(rt, case.name, &report, &mut book)
+    let mut outcome = done(outcome_of_case(rt.alloc(), case))?;
+    print_outcome(rt, case.name, &mut outcome)
 }
 
 pub fn print(rt: &(impl Print + AllocGlobal)) -> Result<()> {
-    for case in CASES {
-        print_case(rt, case)?;
+    for case in &CASES {
+        print_case(rt, *case)?;
     }
     Ok(())
 }
 
-/// The answer to one message, without a connection.
-fn answered(alloc: Global, target: &str, last: bool) -> Result<Answered, Memory> {
-    let mut clock = clock(alloc, [1_000; 4])?;
-    let message = Message {
+/// The answer of a worker to one message, without a connection. Its callers need none of what is promised of it.
+fn answer_of(
+    alloc: Global,
+    worker: &mut Worker<Solo>,
+    message: &Message,
+    last: bool,
+    clock: &mut ListClock,
+    gateway: &mut Emulator,
+) -> Answered {
+    serve_message(alloc, worker, message, last, clock, gateway)
+}
+
+fn message_of(alloc: Global, target: &str) -> Result<Message, Memory> {
+    Ok(Message {
         method: Method::GET,
         target: Text::copy(alloc, target.as_bytes())?,
         body: Text::new(alloc),
         close: false,
-    };
-    let tables = desk(alloc)?;
-    let mut worker = worker(alloc, tables, 10)?;
+    })
+}
+
+/// The answer of a worker of its own.
+fn answered(alloc: Global, message: &Message, last: bool) -> Result<Answered, Memory> {
+    let mut clock = clock(alloc, [1_000; 4])?;
     let mut gateway = Emulator::new(alloc);
-    Ok(serve_message(alloc, &mut worker, &message, last, &mut clock, &mut gateway))
+    let mut worker = worker(alloc, 10)?;
+    Ok(answer_of(alloc, &mut worker, message, last, &mut clock, &mut gateway))
+}
+
+fn answered_target(alloc: Global, target: &str, last: bool) -> Result<Answered, Memory> {
+    let message = message_of(alloc, target)?;
+    answered(alloc, &message, last)
+}
+
+/// Prints how long a reply is, and its point.
+fn print_answered(rt: &impl Print, asked: (&str, bool), answered: &Answered) -> Result<()> {
+    match answered {
+        Answered::Reply(reply, point) => {
+            answer(rt, &asked, &reply.len())?;
+            print_point(rt, point)
+        }
+        Answered::Memory => Err(anyhow!("no memory")),
+    }
+}
+
+fn print_message(rt: &(impl Print + AllocGlobal), target: &str, last: bool) -> Result<()> {
+    let answered = done(answered_target(rt.alloc(), target, last))?;
+    print_answered(rt, (target, last), &answered)
 }
 
 pub fn print_messages(rt: &(impl Print + AllocGlobal)) -> Result<()> {
-    for (target, last) in [("/product_detail?item=1", false), ("/home?c=x", true)] {
-        match done(answered(rt.alloc(), target, last))? {
-            Answered::Reply(reply, point) => {
-                answer(rt, &(target, last), &reply.len())?;
-                print_point(rt, &point)?;
-            }
-            Answered::Memory => return Err(anyhow!("no memory")),
-        }
-    }
-    Ok(())
+    print_message(rt, "/product_detail?item=1", false)?;
+    print_message(rt, "/home?c=x", true)
 }

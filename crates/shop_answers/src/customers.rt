@@ -1,17 +1,10 @@
 //! Customers who buy at the desk's shop with seed 0, known and new, and the rows that they leave. What is
 //! wanted comes from the population's formula and from a model in Python.
-ghost use Rattle.std.specs.Prelude.{IfOk};
-ghost use Rattle.shop_answers.specs.Desks.{IsDesk};
-
-use crate::connections::{desk, print_report, served};
+use crate::connections::print_report;
 use crate::done;
 use crate::records::{Lookup, print_record};
-use crate::twins::with_twins;
+use crate::shops::{Outcome, Setting, outcome_of};
 use anyhow::Result;
-use shop_book::Book;
-use shop_engine::Report;
-use shop_gateway::Emulator;
-use shop_model::Tables;
 use shop_text::{Memory, Text};
 use std::alloc::Global;
 
@@ -149,65 +142,58 @@ const TWINS: Case = Case {
     ],
 };
 
+/// Adds a message for a target.
+fn push_target(text: &mut Text, target: &str) -> Result<(), Memory> {
+    text.push(b"GET ")?;
+    text.push(target.as_bytes())?;
+    text.push(b" HTTP/1.1\r\n\r\n")
+}
+
 /// A message for each target.
 fn messages(alloc: Global, targets: &[&str]) -> Result<Text, Memory> {
     let mut text = Text::new(alloc);
     for target in targets {
-        text.push(b"GET ")?;
-        text.push(target.as_bytes())?;
-        text.push(b" HTTP/1.1\r\n\r\n")?;
+        push_target(&mut text, target)?;
     }
     Ok(text)
 }
 
 /// Prints what came of a case, and the rows that are looked up.
-fn print_served(
-    rt: &(impl Print + AllocGlobal),
-    case: Case,
-    report: &Report,
-    book: &mut Book,
-) -> Result<()> {
-    print_report(rt, case.name, report)?;
+fn print_outcome(rt: &(impl Print + AllocGlobal), case: Case, outcome: &mut Outcome) -> Result<()> {
+    print_report(rt, case.name, &outcome.report)?;
     for lookup in case.lookups {
-        print_record(rt, book, *lookup)?;
+        print_record(rt, &mut outcome.book, *lookup)?;
     }
     Ok(())
 }
 
-/// The desk's tables, or those in which two addresses say the same.
-fn tables_for(alloc: Global, twins: bool) -> Result<Tables, Memory>
-    ensures { IfOk result IsDesk }
-{
-    let tables = desk(alloc)?;
-    if twins {
-        return with_twins(alloc, tables);
-    }
-    Ok(tables)
-}
-
-/// What comes of a case, and the book behind it.
-fn served_case(alloc: Global, case: Case, twins: bool) -> Result<(Report, Book), Memory> {
+/// What comes of a case.
+fn outcome_of_case(alloc: Global, case: Case, twins: bool) -> Result<Outcome, Memory> {
+    let setting = Setting {
+        readings: case.readings,
+        limit: 10,
+        fails: 0,
+        twins,
+    };
     let input = messages(alloc, case.targets)?;
-    let tables = tables_for(alloc, twins)?;
-    let mut gateway = Emulator::new(alloc);
-    served(
-        alloc,
-        tables,
-        input.bytes(),
-        case.readings,
-        10,
-        &mut gateway,
-    )
+    outcome_of(alloc, input, setting)
 }
 
 fn print_case(rt: &(impl Print + AllocGlobal), case: Case, twins: bool) -> Result<()> {
-    let (report, mut book) = done(served_case(rt.alloc(), case, twins))?;
-    print_served(rt, case, &report, &mut book)
+    let mut outcome = done(outcome_of_case(rt.alloc(), case, twins))?;
+    print_outcome(rt, case, &mut outcome)
+}
+
+fn print_cases(rt: &(impl Print + AllocGlobal), cases: &[Case]) -> Result<()> {
+    for case in cases {
+        print_case(rt, *case, false)?;
+    }
+    Ok(())
 }
 
 pub fn print(rt: &(impl Print + AllocGlobal)) -> Result<()> {
-    for case in [OPENING, KNOWN[0], KNOWN[1], NEW[0], NEW[1]] {
-        print_case(rt, case, false)?;
-    }
+    print_case(rt, OPENING, false)?;
+    print_cases(rt, &KNOWN)?;
+    print_cases(rt, &NEW)?;
     print_case(rt, TWINS, true)
 }

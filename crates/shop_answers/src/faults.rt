@@ -96,39 +96,60 @@ fn writes_of(case: Case, piece: usize) -> usize {
     case.reply.len().div_ceil(piece.max(1))
 }
 
-/// Prints what came of the faults of a request, by the most bytes of a call and how many reads and writes
-/// there are, and answers whether all is right.
+/// Prints what came of the faults of a request where a call has so many bytes at most, behind how many reads and
+/// writes there are, and answers whether all is right.
+fn is_right_by(rt: &(impl Print + AllocGlobal), case: Case, piece: usize) -> Result<bool> {
+    let read = reads_may_fail(rt.alloc(), case, piece)?;
+    let written = writes_may_fail(rt.alloc(), case, piece)?;
+    let right = read && written;
+    let told = if right { "ok" } else { "wrong" };
+    let calls = (reads_of(case, piece), writes_of(case, piece));
+    answer(rt, &(case.name, piece, calls), &told)?;
+    Ok(right)
+}
+
+/// Prints what came of the faults of a request, and answers whether all is right.
 fn is_right(rt: &(impl Print + AllocGlobal), case: Case) -> Result<bool> {
     let mut right = true;
-    for piece in PIECES {
-        let read = reads_may_fail(rt.alloc(), case, piece)?;
-        let written = writes_may_fail(rt.alloc(), case, piece)?;
-        let told = if read && written { "ok" } else { "wrong" };
-        let calls = (reads_of(case, piece), writes_of(case, piece));
-        answer(rt, &(case.name, piece, calls), &told)?;
-        right = right && read && written;
+    for piece in &PIECES {
+        right = is_right_by(rt, case, *piece)? && right;
     }
     Ok(right)
 }
 
+/// Whether a request without faults is answered.
+fn is_served(whole: &Outcome, entries: u64) -> bool {
+    whole.end == Ended::Closed && whole.entries == entries
+}
+
+/// Prints what came of the faults of a request, where the whole of it came to this.
+fn print_faults(
+    rt: &(impl Print + AllocGlobal),
+    (name, request, entries): (&'static str, &[u8], u64),
+    whole: &Outcome,
+) -> Result<()> {
+    ensure!(is_served(whole, entries), "{name} is not served");
+    let case = Case {
+        name,
+        request,
+        reply: whole.sink.bytes(),
+        entries,
+    };
+    ensure!(
+        is_right(rt, case)?,
+        "{name}: a fault is not what it must be"
+    );
+    Ok(())
+}
+
+fn print_request(rt: &(impl Print + AllocGlobal), asked: (&'static str, &[u8], u64)) -> Result<()> {
+    let whole = serve(rt.alloc(), asked.1, WHOLE, WHOLE)?;
+    print_faults(rt, asked, &whole)
+}
+
 pub fn print(rt: &(impl Print + AllocGlobal)) -> Result<()> {
-    let alloc = rt.alloc();
-    for (name, request, entries) in REQUESTS {
-        let whole = serve(alloc, request, WHOLE, WHOLE)?;
-        ensure!(
-            whole.end == Ended::Closed && whole.entries == entries,
-            "{name} is not served"
-        );
-        let case = Case {
-            name,
-            request,
-            reply: whole.sink.bytes(),
-            entries,
-        };
-        ensure!(
-            is_right(rt, case)?,
-            "{name}: a fault is not what it must be"
-        );
+    for asked in &REQUESTS {
+        print_request(rt, *asked)?;
     }
     Ok(())
 }

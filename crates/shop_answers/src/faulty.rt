@@ -1,33 +1,25 @@
 //! Connections over bytes in memory, whose calls fail where they are told to.
-use anyhow::{Context, Result};
-use shop_app::first_worker;
-use shop_book::Solo;
-use shop_edges::{BytesIn, BytesOut, ListClock};
-use shop_engine::{Ended, Worker, serve_connection};
+use crate::done;
+use crate::shops::{book_of, clock, serve_streams, worker_of};
+use crate::streams::{sink, source};
+use anyhow::Result;
+use shop_edges::{BytesIn, BytesOut};
+use shop_engine::Ended;
 use shop_gateway::Emulator;
 use shop_model::Scale;
-use shop_text::{Listed, Memory, Text};
-use shop_words::Session;
+use shop_text::Memory;
 use std::alloc::Global;
 
 /// The reads of a source, or the writes of a sink: at most so many bytes go with each, and the one of
 /// this number fails; none does where it is 0.
-#[derive(Clone, Copy, Debug)]
+#[derive(Clone, Copy)]
 pub struct Calls {
     pub piece: usize,
     pub fault: usize,
 }
 
-impl Calls {
-    fn faults(&self, alloc: Global) -> Result<Listed<u64>, Memory> {
-        let mut faults = Listed::new(alloc);
-        faults.push(self.fault as u64)?;
-        Ok(faults)
-    }
-}
-
 /// How a connection ended, what was written, and how many entries the log has then.
-#[derive(Debug, Drop)]
+#[derive(Drop)]
 pub struct Outcome {
     pub end: Ended,
     pub sink: BytesOut,
@@ -36,37 +28,22 @@ pub struct Outcome {
 
 /// Serves this input from a shop of its own, at one moment.
 pub fn serve(alloc: Global, input: &[u8], reads: Calls, writes: Calls) -> Result<Outcome> {
-    served(alloc, input, reads, writes)
-        .ok()
-        .context("no memory")
+    done(served(alloc, input, reads, writes))
 }
 
-/// How many entries the log of a worker's book has.
-fn entries_of(worker: Worker<Solo>) -> u64 {
-    worker.into_store().into_book().size()
+/// How a connection ends, and how many entries the log has then.
+fn ended(alloc: Global, source: &mut BytesIn, sink: &mut BytesOut) -> Result<(Ended, u64), Memory> {
+    let mut clock = clock(alloc, [1_000; 4])?;
+    let mut gateway = Emulator::new(alloc);
+    let mut worker = worker_of(alloc, Scale::desk())?;
+    let report = serve_streams(alloc, &mut worker, source, sink, &mut clock, &mut gateway);
+    let book = book_of(alloc, worker)?;
+    Ok((report.end, book.size()))
 }
 
 fn served(alloc: Global, input: &[u8], reads: Calls, writes: Calls) -> Result<Outcome, Memory> {
-    let bytes = Text::copy(alloc, input)?;
-    let mut source = BytesIn::new(bytes, reads.piece.max(1), reads.faults(alloc)?);
-    let mut sink = BytesOut::new(alloc, writes.piece, writes.faults(alloc)?);
-    let mut readings = Listed::new(alloc);
-    readings.push(1_000)?;
-    let mut clock = ListClock::new(alloc, readings)?;
-    let (scale, seed) = (Scale::desk(), 0);
-    let mut worker = first_worker(alloc, Session { scale, seed })?;
-    let mut gateway = Emulator::new(alloc);
-    let report = serve_connection(
-        alloc,
-        &mut worker,
-        &mut source,
-        &mut sink,
-        &mut clock,
-        &mut gateway,
-    );
-    Ok(Outcome {
-        end: report.end,
-        sink,
-        entries: entries_of(worker),
-    })
+    let mut source = source(alloc, input, reads.piece, reads.fault as u64)?;
+    let mut sink = sink(alloc, writes.piece, writes.fault as u64)?;
+    let (end, entries) = ended(alloc, &mut source, &mut sink)?;
+    Ok(Outcome { end, sink, entries })
 }

@@ -1,12 +1,13 @@
 //! Lists that a worker keeps from one connection to the next, behind a log that is full, too.
-use crate::connections::{clock, desk, print_report, worker};
+use crate::connections::print_report;
 use crate::done;
+use crate::shops::{SMALL, clock, serve_input, worker};
 use anyhow::Result;
 use shop_book::Solo;
-use shop_edges::{BytesIn, BytesOut, ListClock};
-use shop_engine::{Report, Worker, serve_connection};
+use shop_edges::ListClock;
+use shop_engine::{Report, Worker};
 use shop_gateway::Emulator;
-use shop_text::{Listed, Memory, Text};
+use shop_text::{Memory, Text};
 use std::alloc::Global;
 
 /// What comes in, one connection after another. The log takes one change.
@@ -28,10 +29,19 @@ fn report(
     clock: &mut ListClock,
     input: &[u8],
 ) -> Result<Report, Memory> {
-    let mut source = BytesIn::new(Text::copy(alloc, input)?, 7, Listed::new(alloc));
-    let mut sink = BytesOut::new(alloc, 1_000, Listed::new(alloc));
+    let input = Text::copy(alloc, input)?;
     let mut gateway = Emulator::new(alloc);
-    Ok(serve_connection(alloc, worker, &mut source, &mut sink, clock, &mut gateway))
+    Ok(serve_input(alloc, worker, input, SMALL, clock, &mut gateway))
+}
+
+fn print_one(
+    rt: &(impl Print + AllocGlobal),
+    worker: &mut Worker<Solo>,
+    clock: &mut ListClock,
+    input: &[u8],
+) -> Result<()> {
+    let report = done(report(rt.alloc(), worker, clock, input))?;
+    print_report(rt, "kept lists", &report)
 }
 
 /// Serves all of them.
@@ -40,22 +50,14 @@ fn print_all(
     worker: &mut Worker<Solo>,
     clock: &mut ListClock,
 ) -> Result<()> {
-    for input in CONNECTIONS {
-        let report = done(report(rt.alloc(), worker, clock, input))?;
-        print_report(rt, "kept lists", &report)?;
+    for input in &CONNECTIONS {
+        print_one(rt, worker, clock, input)?;
     }
     Ok(())
 }
 
-/// A worker of the desk's shop, whose log takes one change.
-fn worker_of_one(alloc: Global) -> Result<Worker<Solo>, Memory> {
-    let tables = desk(alloc)?;
-    worker(alloc, tables, 1)
-}
-
 pub fn print(rt: &(impl Print + AllocGlobal)) -> Result<()> {
-    let alloc = rt.alloc();
-    let mut clock = done(clock(alloc, [1_000, 2_000, 31_000, 31_000]))?;
-    let mut worker = done(worker_of_one(alloc))?;
+    let mut clock = done(clock(rt.alloc(), [1_000, 2_000, 31_000, 31_000]))?;
+    let mut worker = done(worker(rt.alloc(), 1))?;
     print_all(rt, &mut worker, &mut clock)
 }

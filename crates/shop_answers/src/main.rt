@@ -11,8 +11,11 @@ mod faults;
 mod faulty;
 mod kept_lists;
 mod records;
+mod runs;
 mod sales;
 mod sessions;
+mod shops;
+mod streams;
 mod twins;
 mod windows;
 

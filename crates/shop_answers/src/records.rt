@@ -1,60 +1,119 @@
-//! How rows of customers, and those that they name, are looked up and printed.
+//! How rows, and those that they name, are looked up and printed.
 use crate::answers::{answer, text_of};
 use crate::done;
 use anyhow::{Result, anyhow};
 use shop_book::Book;
-use shop_history::{Key, Row};
-use shop_model::{Address, AddressText, Customer, Order};
+use shop_history::{Key, Label, Row};
+use shop_model::{Address, AddressText, Customer, CustomerDetails, Order, Subject};
 use shop_text::{Boxed, Text, digsyl, digsyl_lower};
 use std::alloc::Global;
 
 /// Which row is looked up.
 #[derive(Clone, Copy, Debug)]
 pub enum Lookup {
+    Item(u32),
+    Label(u32),
     Customer(u32),
     Address(u32),
     Country(u32),
     Order(u32),
     LastOrder(u32),
     Cart(u32),
+    NewIn(Subject),
+    BestIn(Subject),
+    Buyers(u32),
+    Bought(u32),
     /// The id of the customer with a user name.
     Name(&'static str),
     /// The id of the address that says what the one with this id says.
     SameAs(u32),
 }
 
-/// The texts of an address.
-fn texts_of(alloc: Global, book: &mut Book, id: u32) -> Result<AddressText> {
-    let (row, _) = done(book.read(&Key::Address(id)))?;
-    match &row {
+/// What a key shows, and its version. Its callers need none of what is promised of it.
+fn read(book: &mut Book, key: &Key) -> Result<(Row, u64)> {
+    done(book.read(key))
+}
+
+fn texts_in(alloc: Global, row: &Row, id: u32) -> Result<AddressText> {
+    match row {
         Row::Address(address) => done(address.get().text.copy(alloc)),
         _ => Err(anyhow!("no address {id}")),
     }
 }
 
+/// The texts of an address.
+fn texts_of(alloc: Global, book: &mut Book, id: u32) -> Result<AddressText> {
+    let (row, _) = read(book, &Key::Address(id))?;
+    texts_in(alloc, &row, id)
+}
+
+/// The key of what says the same as an address.
+fn same_as(alloc: Global, book: &mut Book, id: u32) -> Result<Key> {
+    let text = texts_of(alloc, book, id)?;
+    Ok(Key::SameAddress(done(Boxed::new(alloc, text))?))
+}
+
 fn key_of(alloc: Global, book: &mut Book, lookup: Lookup) -> Result<Key> {
     match lookup {
+        Lookup::Item(id) => Ok(Key::Item(id)),
+        Lookup::Label(id) => Ok(Key::Label(id)),
         Lookup::Customer(id) => Ok(Key::Customer(id)),
         Lookup::Address(id) => Ok(Key::Address(id)),
         Lookup::Country(id) => Ok(Key::Country(id)),
         Lookup::Order(id) => Ok(Key::Order(id)),
         Lookup::LastOrder(customer) => Ok(Key::LastOrder(customer)),
         Lookup::Cart(id) => Ok(Key::Cart(id)),
+        Lookup::NewIn(subject) => Ok(Key::NewIn(subject)),
+        Lookup::BestIn(subject) => Ok(Key::BestIn(subject)),
+        Lookup::Buyers(item) => Ok(Key::Buyers(item)),
+        Lookup::Bought(customer) => Ok(Key::Bought(customer)),
         Lookup::Name(user) => Ok(Key::Name(done(Text::copy(alloc, user.as_bytes()))?)),
-        Lookup::SameAs(id) => {
-            let text = texts_of(alloc, book, id)?;
-            Ok(Key::SameAddress(done(Boxed::new(alloc, text))?))
-        }
+        Lookup::SameAs(id) => same_as(alloc, book, id),
     }
 }
 
-/// Prints the names to log in with, the other names, how to reach the customer, and the numbers: address,
-/// discount, login and expiry.
-fn print_customer(rt: &(impl Print + AllocGlobal), customer: &Customer) -> Result<()> {
-    let user = done(digsyl(rt.alloc(), customer.id))?;
-    let password = done(digsyl_lower(rt.alloc(), customer.id))?;
-    let (user, password) = (text_of(user.bytes()), text_of(password.bytes()));
-    let details = customer.details.get();
+/// What is looked up, and its version.
+pub fn row_of(alloc: Global, book: &mut Book, lookup: Lookup) -> Result<(Row, u64)> {
+    let key = key_of(alloc, book, lookup)?;
+    read(book, &key)
+}
+
+/// Prints a title, its author's names, and the version.
+fn print_label(rt: &impl Print, lookup: Lookup, label: &Label, version: u64) -> Result<()> {
+    let author = (
+        text_of(label.first().bytes()),
+        text_of(label.last().bytes()),
+    );
+    let title = text_of(label.title().bytes());
+    answer(rt, &lookup, &(title, author, version))
+}
+
+/// Prints ids or names, or the stock and the restocks of an item, and the version.
+fn print_plain(rt: &impl Print, lookup: Lookup, row: &Row, version: u64) -> Result<()> {
+    match row {
+        Row::Absent => answer(rt, &lookup, &("absent", version)),
+        Row::Items(ids) => answer(rt, &lookup, &(ids.get().as_slice(), version)),
+        Row::Customers(ids) => answer(rt, &lookup, &(ids.as_slice(), version)),
+        Row::Totals(totals) => answer(rt, &lookup, &(totals.as_slice(), version)),
+        Row::Item(item) => answer(rt, &lookup, &((item.stock, item.restocks), version)),
+        Row::Label(label) => print_label(rt, lookup, label, version),
+        _ => answer(rt, &lookup, &("there", version)),
+    }
+}
+
+/// Prints what a row shows, ids or names, or the stock and the restocks of an item, and its version.
+pub fn print_row(rt: &(impl Print + AllocGlobal), book: &mut Book, lookup: Lookup) -> Result<()> {
+    let (row, version) = row_of(rt.alloc(), book, lookup)?;
+    print_plain(rt, lookup, &row, version)
+}
+
+/// Prints the names to log in with, in capitals and not, and the other names and how to reach the customer.
+fn print_names(
+    rt: &impl Print,
+    (user, password): (&Text, &Text),
+    details: &CustomerDetails,
+) -> Result<()> {
+    let login = (text_of(user.bytes()), text_of(password.bytes()));
     let (first, last) = (
         text_of(details.first.bytes()),
         text_of(details.last.bytes()),
@@ -63,9 +122,26 @@ fn print_customer(rt: &(impl Print + AllocGlobal), customer: &Customer) -> Resul
         text_of(details.phone.bytes()),
         text_of(details.email.bytes()),
     );
-    answer(rt, &(user, password), &((first, last), (phone, email)))?;
+    answer(rt, &login, &((first, last), (phone, email)))
+}
+
+/// Prints the names of a customer.
+fn print_login(rt: &(impl Print + AllocGlobal), customer: &Customer) -> Result<()> {
+    let user = done(digsyl(rt.alloc(), customer.id))?;
+    let password = done(digsyl_lower(rt.alloc(), customer.id))?;
+    print_names(rt, (&user, &password), customer.details.get())
+}
+
+/// Prints the names to log in with, the other names, how to reach the customer, and the numbers: address,
+/// discount, login and expiry.
+fn print_customer(rt: &(impl Print + AllocGlobal), customer: &Customer) -> Result<()> {
+    print_login(rt, customer)?;
     let times = (customer.login, customer.expiry);
-    answer(rt, &(customer.address, details.discount), &times)
+    answer(
+        rt,
+        &(customer.address, customer.details.get().discount),
+        &times,
+    )
 }
 
 /// Prints the streets, the rest of an address, and its country.
@@ -86,13 +162,8 @@ fn print_order(rt: &impl Print, order: &Order) -> Result<()> {
     answer(rt, &order.lines.as_slice().len(), &charged)
 }
 
-/// Prints what a look-up gave, behind its version.
-fn print_read(
-    rt: &(impl Print + AllocGlobal),
-    lookup: Lookup,
-    row: &Row,
-    version: u64,
-) -> Result<()> {
+/// Prints whether a row is there, or what it is, behind its version.
+fn print_kind(rt: &impl Print, lookup: Lookup, row: &Row, version: u64) -> Result<()> {
     match row {
         Row::Absent => answer(rt, &lookup, &("absent", version)),
         Row::Id(id) => answer(rt, &lookup, &(*id, version)),
@@ -100,20 +171,29 @@ fn print_read(
             let name = text_of(country.get().name.bytes());
             answer(rt, &lookup, &(name, version))
         }
-        Row::Customer(customer) => {
-            answer(rt, &lookup, &("there", version))?;
-            print_customer(rt, customer)
-        }
-        Row::Address(address) => {
-            answer(rt, &lookup, &("there", version))?;
-            print_address(rt, address.get())
-        }
-        Row::Order(order) => {
-            answer(rt, &lookup, &("there", version))?;
-            print_order(rt, order.get())
-        }
         _ => answer(rt, &lookup, &("there", version)),
     }
+}
+
+/// Prints what else there is to a customer, an address or an order.
+fn print_rest(rt: &(impl Print + AllocGlobal), row: &Row) -> Result<()> {
+    match row {
+        Row::Customer(customer) => print_customer(rt, customer),
+        Row::Address(address) => print_address(rt, address.get()),
+        Row::Order(order) => print_order(rt, order.get()),
+        _ => Ok(()),
+    }
+}
+
+/// Prints what a look-up gave, behind its version.
+fn print_read(
+    rt: &(impl Print + AllocGlobal),
+    lookup: Lookup,
+    row: &Row,
+    version: u64,
+) -> Result<()> {
+    print_kind(rt, lookup, row, version)?;
+    print_rest(rt, row)
 }
 
 /// Prints a row, behind its version and what else fits there.
@@ -122,7 +202,6 @@ pub fn print_record(
     book: &mut Book,
     lookup: Lookup,
 ) -> Result<()> {
-    let key = key_of(rt.alloc(), book, lookup)?;
-    let (row, version) = done(book.read(&key))?;
+    let (row, version) = row_of(rt.alloc(), book, lookup)?;
     print_read(rt, lookup, &row, version)
 }

@@ -2,62 +2,64 @@
 //! lists are looked up as they are then. What is wanted comes from a model in Python.
 use crate::answers::answer;
 use crate::done;
+use crate::records::{Lookup, row_of};
 use crate::sales::{Ask, buy, push_ask};
+use crate::shops::{Pieces, book_of, clock, serve_input, worker_of};
 use anyhow::{Context, Result};
-use shop_app::first_worker;
 use shop_book::{Book, Solo};
-use shop_edges::{BytesIn, BytesOut, ListClock};
-use shop_engine::{Worker, serve_connection};
+use shop_engine::Worker;
 use shop_gateway::Emulator;
-use shop_history::Key;
 use shop_model::{Scale, Subject};
-use shop_text::{Listed, Memory, Text};
-use shop_words::Session;
+use shop_text::{Memory, Text};
 use std::alloc::Global;
+use std::boxed::Box;
 use std::ops::Range;
+
+/// More bytes than come or are written.
+const WHOLE: Pieces = Pieces {
+    read: 1_000_000,
+    write: 1_000_000,
+};
 
 /// Serves a connection for a worker, at one moment.
 fn serve(alloc: Global, worker: &mut Worker<Solo>, input: Text) -> Result<(), Memory> {
-    let mut clock = ListClock::new(alloc, Listed::from_vec(vec![in alloc; 1_000; 1]?))?;
-    let mut source = BytesIn::new(input, 1_000_000, Listed::new(alloc));
-    let mut sink = BytesOut::new(alloc, 1_000_000, Listed::new(alloc));
+    let mut clock = clock(alloc, [1_000; 4])?;
     let mut gateway = Emulator::new(alloc);
-    let _report = serve_connection(
-        alloc,
-        worker,
-        &mut source,
-        &mut sink,
-        &mut clock,
-        &mut gateway,
-    );
+    let _report = serve_input(alloc, worker, input, WHOLE, &mut clock, &mut gateway);
     Ok(())
+}
+
+/// Adds a purchase by customer 1 of one unit of item 1, from the cart with this id.
+fn push_unit(input: &mut Text, cart: u32) -> Result<(), Memory> {
+    push_ask(input, Ask::Of("/shopping_cart?item=1"))?;
+    push_ask(input, buy(1, cart))
 }
 
 /// Purchases by customer 1 of one unit of item 1 each, from carts with these ids.
 fn purchases(alloc: Global, carts: Range<u32>) -> Result<Text, Memory> {
     let mut input = Text::new(alloc);
     for cart in carts {
-        push_ask(&mut input, Ask::Of("/shopping_cart?item=1"))?;
-        push_ask(&mut input, buy(1, cart))?;
+        push_unit(&mut input, cart)?;
     }
     Ok(input)
 }
 
+fn serve_carts(alloc: Global, worker: &mut Worker<Solo>, carts: Range<u32>) -> Result<(), Memory> {
+    let input = purchases(alloc, carts)?;
+    serve(alloc, worker, input)
+}
+
 /// Serves so many purchases more than 371.
 fn serve_purchases(alloc: Global, worker: &mut Worker<Solo>, more: u32) -> Result<(), Memory> {
-    serve(alloc, worker, purchases(alloc, 1..372)?)?;
-    serve(
-        alloc,
-        worker,
-        purchases(alloc, 372..more.saturating_add(372))?,
-    )
+    serve_carts(alloc, worker, 1..372)?;
+    serve_carts(alloc, worker, 372..more.saturating_add(372))
 }
 
 /// The book of a shop after so many purchases more than 371. What could not be served is missing in it.
-fn book_after(alloc: Global, scale: Scale, more: u32) -> Result<Book, Memory> {
-    let mut worker = first_worker(alloc, Session { scale, seed: 0 })?;
+fn book_after(alloc: Global, scale: Scale, more: u32) -> Result<Box<Book>, Memory> {
+    let mut worker = worker_of(alloc, scale)?;
     let _ = serve_purchases(alloc, &mut worker, more);
-    Ok(worker.into_store().into_book())
+    book_of(alloc, worker)
 }
 
 fn print_counted(rt: &impl Print, more: u32, book: &Book) -> Result<()> {
@@ -105,50 +107,53 @@ const PURCHASES: [Purchase; 4] = [
     },
 ];
 
+fn asks_of(alloc: Global, purchase: Purchase) -> Result<Text, Memory> {
+    let mut input = Text::new(alloc);
+    push_ask(&mut input, Ask::Of(purchase.cart))?;
+    push_ask(&mut input, buy(purchase.customer, 1))?;
+    Ok(input)
+}
+
 fn serve_purchase(
     alloc: Global,
     worker: &mut Worker<Solo>,
     purchase: Purchase,
 ) -> Result<(), Memory> {
-    let mut input = Text::new(alloc);
-    push_ask(&mut input, Ask::Of(purchase.cart))?;
-    push_ask(&mut input, buy(purchase.customer, 1))?;
+    let input = asks_of(alloc, purchase)?;
     serve(alloc, worker, input)
 }
 
 /// The book of a shop after a purchase.
-fn sold(alloc: Global, scale: Scale, purchase: Purchase) -> Result<Book, Memory> {
-    let mut worker = first_worker(alloc, Session { scale, seed: 0 })?;
+fn sold(alloc: Global, scale: Scale, purchase: Purchase) -> Result<Box<Book>, Memory> {
+    let mut worker = worker_of(alloc, scale)?;
     let _ = serve_purchase(alloc, &mut worker, purchase);
-    Ok(worker.into_store().into_book())
+    book_of(alloc, worker)
 }
 
-/// Whether a key has risen.
-fn has_risen(book: &mut Book, key: &Key) -> Result<bool> {
-    let (_, version) = done(book.read(key))?;
-    Ok(version > 0)
+fn version_of(alloc: Global, book: &mut Book, lookup: Lookup) -> Result<u64> {
+    let (_, version) = row_of(alloc, book, lookup)?;
+    Ok(version)
+}
+
+/// Prints what is looked up where it has risen.
+fn print_if_risen(rt: &(impl Print + AllocGlobal), book: &mut Book, lookup: Lookup) -> Result<()> {
+    if version_of(rt.alloc(), book, lookup)? > 0 {
+        return answer(rt, &"risen", &lookup);
+    }
+    Ok(())
 }
 
 /// Prints which best sellers have risen, and of which items the buyers, and of which customers what they
 /// bought.
-fn print_risen(rt: &impl Print, book: &mut Book, scale: &Scale) -> Result<()> {
+fn print_risen(rt: &(impl Print + AllocGlobal), book: &mut Book, scale: &Scale) -> Result<()> {
     for subject in Subject::all() {
-        let key = Key::BestIn(subject);
-        if has_risen(book, &key)? {
-            answer(rt, &"risen", &key)?;
-        }
+        print_if_risen(rt, book, Lookup::BestIn(subject))?;
     }
     for item in 1..=scale.items {
-        let key = Key::Buyers(item);
-        if has_risen(book, &key)? {
-            answer(rt, &"risen", &key)?;
-        }
+        print_if_risen(rt, book, Lookup::Buyers(item))?;
     }
     for customer in 1..=scale.customers {
-        let key = Key::Bought(customer);
-        if has_risen(book, &key)? {
-            answer(rt, &"risen", &key)?;
-        }
+        print_if_risen(rt, book, Lookup::Bought(customer))?;
     }
     Ok(())
 }
@@ -164,8 +169,8 @@ fn print_rising(rt: &(impl Print + AllocGlobal), purchase: Purchase) -> Result<(
 pub fn print(rt: &(impl Print + AllocGlobal)) -> Result<()> {
     print_leaving(rt, 370)?;
     print_leaving(rt, 371)?;
-    for purchase in PURCHASES {
-        print_rising(rt, purchase)?;
+    for purchase in &PURCHASES {
+        print_rising(rt, *purchase)?;
     }
     Ok(())
 }

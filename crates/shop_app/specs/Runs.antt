@@ -1,5 +1,5 @@
 -- What a whole run does, by its words and its status.
-use Rattle.std.specs.Prelude.{◌≡◌, ◌⊎◌, ℕ, List, Option}
+use Rattle.std.specs.Prelude.{◌≡◌, ◌⊎◌, ℕ, List, Option, Some, codes, slice_get}
 use Rattle.std.specs.Io.KnownBytes.{Appends}
 use Rattle.shop_edges.specs.Causes.{Rose}
 use Rattle.shop_words.specs.declared.command.Command.{Command}
@@ -11,12 +11,22 @@ use Rattle.shop_app.specs.Driving.{IsDriven}
 use Rattle.shop_app.specs.Session.{Run, IsSession}
 use Rattle.shop_app.specs.Statuses.{fault_line}
 
--- what came of a command
+-- several callers serve the words: the first of them is `race`
+abbrev pub IsShared : List (List ℕ) → Type 0
+IsShared words = slice_get words 0 ≡ Some (codes "race")
+
+-- a command of several callers
+abbrev pub IsForSeveral : Command → Type 0
+IsForSeveral (command.Race race) = Unit {0}
+IsForSeveral _ = ⊥
+
+-- what came of a command of one caller
 abbrev pub Obeys : Command → Run → Run → Status → Type 0
 Obeys (command.Session session) old new outcome = IsSession session old new outcome
 Obeys (command.Drive drive) old new outcome = IsDriven drive old new outcome
+Obeys (command.Race race) old new outcome = ⊥
 
--- the words give a command, and this is what came of it, or memory ran out before they were read
+-- the words give a command of one caller, and this is what came of it, or memory ran out before they were read
 abbrev pub IsRun : List (List ℕ) → Run → Run → Status → Type 0
 IsRun words old new outcome =
     ((outcome ≡ status.Memory) × (new ≡ old)) ⊎ ((given : Command) × IsCommand words given × Obeys given old new outcome)

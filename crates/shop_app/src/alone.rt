@@ -2,7 +2,7 @@ ghost use Rattle.std.specs.Prelude.{◌≡◌, ◌≢◌, ◌≤◌, IfOk};
 ghost use Rattle.shop_words.specs.declared.command.Command.{Command};
 ghost use Rattle.shop_words.specs.Commands.{IsCommand};
 ghost use Rattle.shop_app.specs.Statuses as spec;
-ghost use Rattle.shop_app.specs.Runs.{Obeys, IsRun, IsTold};
+ghost use Rattle.shop_app.specs.Runs.{IsForSeveral, IsRun, IsTold};
 ghost use Rattle.shop_app.specs.Session.{IsFirst, IsSession};
 
 use crate::Status;
@@ -35,7 +35,7 @@ pub fn run_alone<S: Source, K: Sink, C: Clock, G: Gateway>(
     clock: &mut C,
     gateway: &mut G,
 ) -> Status
-    ensures bad_words { result ≡ Status.BadWords → (command : Command) → ¬ (IsCommand words.now command) }
+    ensures bad_words { result ≡ Status.BadWords → (command : Command) → IsCommand words.now command → IsForSeveral command }
     ensures untouched { result ≡ Status.BadWords → (source.new ≡ source.old) × (sink.new ≡ sink.old) × (clock.new ≡ clock.old) × (gateway.new ≡ gateway.old) }
     ensures run { result ≢ Status.BadWords → IsRun words.now
         (record { streams = record { left = S.left source.old; held = K.held sink.old }; clock = C.readings clock.old; told = G.answers gateway.old; reads = S.faults source.old; writes = K.faults sink.old; failures = G.faults gateway.old })
@@ -58,7 +58,7 @@ fn run<S: Source, K: Sink, C: Clock, G: Gateway>(
     clock: &mut C,
     gateway: &mut G,
 ) -> Status
-    ensures bad_words { result ≡ Status.BadWords → (command : Command) → ¬ (IsCommand words.now command) }
+    ensures bad_words { result ≡ Status.BadWords → (command : Command) → IsCommand words.now command → IsForSeveral command }
     ensures untouched { result ≡ Status.BadWords → (source.new ≡ source.old) × (sink.new ≡ sink.old) × (clock.new ≡ clock.old) × (gateway.new ≡ gateway.old) }
     ensures run { result ≢ Status.BadWords → IsRun words.now
         (record { streams = record { left = S.left source.old; held = K.held sink.old }; clock = C.readings clock.old; told = G.answers gateway.old; reads = S.faults source.old; writes = K.faults sink.old; failures = G.faults gateway.old })
@@ -66,30 +66,12 @@ fn run<S: Source, K: Sink, C: Clock, G: Gateway>(
         result }
 {
     match command_of(alloc, words) {
-        Parsed::Good(command) => obey(alloc, command, source, sink, clock, gateway),
-        Parsed::Bad => Status::BadWords,
+        Parsed::Good(Command::Session(asked)) => {
+            session(alloc, asked, source, sink, clock, gateway)
+        }
+        Parsed::Good(Command::Drive(asked)) => drive_browsers(alloc, asked, sink, clock, gateway),
+        Parsed::Good(Command::Race(_)) | Parsed::Bad => Status::BadWords,
         Parsed::Memory => Status::Memory,
-    }
-}
-
-/// Does what a command says.
-fn obey<S: Source, K: Sink, C: Clock, G: Gateway>(
-    alloc: Global,
-    command: Command,
-    source: &mut S,
-    sink: &mut K,
-    clock: &mut C,
-    gateway: &mut G,
-) -> Status
-    ensures obeyed { Obeys command
-        (record { streams = record { left = S.left source.old; held = K.held sink.old }; clock = C.readings clock.old; told = G.answers gateway.old; reads = S.faults source.old; writes = K.faults sink.old; failures = G.faults gateway.old })
-        (record { streams = record { left = S.left source.new; held = K.held sink.new }; clock = C.readings clock.new; told = G.answers gateway.new; reads = S.faults source.new; writes = K.faults sink.new; failures = G.faults gateway.new })
-        result }
-    ensures good_words { result ≢ Status.BadWords }
-{
-    match command {
-        Command::Session(asked) => session(alloc, asked, source, sink, clock, gateway),
-        Command::Drive(asked) => drive_browsers(alloc, asked, sink, clock, gateway),
     }
 }
 

@@ -9,6 +9,6 @@ mod status;
 mod summary;
 
 pub use alone::{first_worker, run_alone};
-pub use shared::run_shared;
+pub use shared::{is_shared, run_shared};
 pub use status::Status;
 pub use summary::authorised_only;

@@ -1,18 +1,28 @@
 //! The calls of several callers.
-ghost use Rattle.std.specs.Prelude.{◌≡◌, ◌≢◌, ◌≤◌};
-ghost use Rattle.shop_words.specs.declared.command.Race.{Race};
-ghost use Rattle.shop_words.specs.Commands.{IsRace};
+ghost use Rattle.std.specs.Prelude.{◌≡◌, ◌≢◌, ◌≤◌, ◌↔◌, IsTrue};
+ghost use Rattle.shop_words.specs.declared.command.Command.{Command};
+ghost use Rattle.shop_words.specs.Commands.{IsCommand};
 ghost use Rattle.shop_app.specs.Racing.{IsSharedRun};
-ghost use Rattle.shop_app.specs.Runs.{IsTold};
+ghost use Rattle.shop_app.specs.Runs.{IsForSeveral, IsShared, IsTold};
 
 use crate::Status;
 use crate::raced::race_browsers;
 use shop_edges::{Clock, Sink, Spawner, write_all};
 use shop_text::Text;
-use shop_words::{Parsed, race_of};
+use shop_words::{Command, Parsed, command_of};
 use std::alloc::Global;
 use std::sync::Wait;
 use std::thread::Threads;
+
+/// Whether `run_shared` serves the words, and not `run_alone`: the first of them says so.
+pub fn is_shared(words: &[Text]) -> bool
+    ensures { IsTrue result ↔ IsShared words.now }
+{
+    match words {
+        [command, ..] => command.bytes() == b"race".as_slice(),
+        [] => false,
+    }
+}
 
 /// Does what the words say, for several callers over the one shop that the options choose: `race` has each worker
 /// serve a browser in a job of its own, and prints a summary to the sink. Where that doesn't end well, a line on
@@ -30,7 +40,7 @@ pub fn run_shared<
     faults: &mut K,
     clock: &C,
 ) -> Status
-    ensures bad_words { result ≡ Status.BadWords → (race : Race) → ¬ (IsRace words.now race) }
+    ensures bad_words { result ≡ Status.BadWords → (command : Command) → IsCommand words.now command → ¬ (IsForSeveral command) }
     ensures untouched { result ≡ Status.BadWords → (spawner.new ≡ spawner.old) × (sink.new ≡ sink.old) }
     ensures run { result ≢ Status.BadWords → IsSharedRun words.now (C.readings clock.now)
         (record { held = K.held sink.old; writes = K.faults sink.old; spawning = spawner.old })
@@ -50,16 +60,18 @@ fn run<
     K: Sink,
     C: Clock + Drop + Send + 'static,
 >(rt: &R, alloc: Global, words: &[Text], spawner: &mut Spawner, sink: &mut K, clock: &C) -> Status
-    ensures bad_words { result ≡ Status.BadWords → (race : Race) → ¬ (IsRace words.now race) }
+    ensures bad_words { result ≡ Status.BadWords → (command : Command) → IsCommand words.now command → ¬ (IsForSeveral command) }
     ensures untouched { result ≡ Status.BadWords → (spawner.new ≡ spawner.old) × (sink.new ≡ sink.old) }
     ensures run { result ≢ Status.BadWords → IsSharedRun words.now (C.readings clock.now)
         (record { held = K.held sink.old; writes = K.faults sink.old; spawning = spawner.old })
         (record { held = K.held sink.new; writes = K.faults sink.new; spawning = spawner.new })
         result }
 {
-    match race_of(alloc, words) {
-        Parsed::Good(asked) => race_browsers(rt, alloc, &asked, spawner, sink, clock),
-        Parsed::Bad => Status::BadWords,
+    match command_of(alloc, words) {
+        Parsed::Good(Command::Race(asked)) => {
+            race_browsers(rt, alloc, &asked, spawner, sink, clock)
+        }
+        Parsed::Good(Command::Session(_) | Command::Drive(_)) | Parsed::Bad => Status::BadWords,
         Parsed::Memory => Status::Memory,
     }
 }

@@ -1,4 +1,4 @@
--- Sessions, drives and races in words: what their options choose.
+-- Commands in words: what their options choose.
 use Rattle.std.proofs.Common.{◌≡◌, ◌∙◌, Bool, true, false, refl, sym, ap, ap₂, subst, List, ◌∷◌, Option, Some, None, Ok, Err, Bor, map, codes, arith, ℕ}
 use Rattle.std.specs.List.{All}
 use Rattle.std.specs.Str.{bytes_eq}
@@ -113,48 +113,53 @@ pub command-words : (words : List Text) (command : Command) → IsCommand words 
 command-words words (command.Session session) is =
     given-words (codes "session") session_options Chooses session-form words (word-from (codes "session") refl (λ e. cc)) session is
 command-words words (command.Drive drive) is = given-words (codes "drive") drive_options ChoosesDrive drive-form words (word-from (codes "drive") refl (λ e. cc)) drive is
-
-pub race-words : (words : List Text) (race : Race) → IsRace words race → All IsWord words
-race-words words race is = given-words (codes "race") race_options ChoosesRace race-form words (word-from (codes "race") refl (λ e. cc)) race is
+command-words words (command.Race race) is = given-words (codes "race") race_options ChoosesRace race-form words (word-from (codes "race") refl (λ e. cc)) race is
 
 two-names : (a b : Text) (words rest more : List Text) → words ≡ a ∷ rest → words ≡ b ∷ more → a ≡ b
 two-names a b words rest more x y = let both : a ∷ rest ≡ b ∷ more = sym x ∙ y in cc
 
 -- what words give, where they begin with its name
-pub record Only {A T : Type 0} (made : A → T) (Given : A → Type 0) (other : T) : Type 0 where
+pub record Only {A : Type 0} (made : A → Command) (Given : A → Type 0) (other : Command) : Type 0 where
   pub chosen : A
   pub is : other ≡ made chosen
   pub given : Given chosen
 
--- one kind of what words give: the one with this name and these options
-pub record IsKind {A T : Type 0} (first : Text) (names : List Text) (Choose : (Text → Option Text) → A → Type 0) (made : A → T) (Is : List Text → T → Type 0) : Type 0 where
+-- one kind of command: the one with this name and these options
+pub record IsKind {A : Type 0} (first : Text) (names : List Text) (Choose : (Text → Option Text) → A → Type 0) (made : A → Command) : Type 0 where
   pub form : IsForm names Choose
-  pub stands : (words : List Text) (chosen : A) → IsGiven first names Choose words chosen → Is words (made chosen)
-  pub only : (words : List Text) → words ≡ first ∷ rest-of words → (other : T) → Is words other → Only made (IsGiven first names Choose words) other
+  pub stands : (words : List Text) (chosen : A) → IsGiven first names Choose words chosen → IsCommand words (made chosen)
+  pub only : (words : List Text) → words ≡ first ∷ rest-of words → (other : Command) → IsCommand words other → Only made (IsGiven first names Choose words) other
 
 only-session : (words : List Text) → words ≡ codes "session" ∷ rest-of words → (other : Command) → IsCommand words other → Only command.Session (IsSession words) other
 only-session words named (command.Session session) is = record { chosen = session; is = refl; given = is }
 only-session words named (command.Drive drive) is = let same : codes "session" ≡ codes "drive" = two-names _ _ words _ is.rest named is.named in absurd (cc)
+only-session words named (command.Race race) is = let same : codes "session" ≡ codes "race" = two-names _ _ words _ is.rest named is.named in absurd (cc)
 
 only-drive : (words : List Text) → words ≡ codes "drive" ∷ rest-of words → (other : Command) → IsCommand words other → Only command.Drive (IsDrive words) other
 only-drive words named (command.Drive drive) is = record { chosen = drive; is = refl; given = is }
 only-drive words named (command.Session session) is = let same : codes "drive" ≡ codes "session" = two-names _ _ words _ is.rest named is.named in absurd (cc)
+only-drive words named (command.Race race) is = let same : codes "drive" ≡ codes "race" = two-names _ _ words _ is.rest named is.named in absurd (cc)
 
-pub session-kind : IsKind (codes "session") session_options Chooses command.Session IsCommand
+only-race : (words : List Text) → words ≡ codes "race" ∷ rest-of words → (other : Command) → IsCommand words other → Only command.Race (IsRace words) other
+only-race words named (command.Race race) is = record { chosen = race; is = refl; given = is }
+only-race words named (command.Session session) is = let same : codes "race" ≡ codes "session" = two-names _ _ words _ is.rest named is.named in absurd (cc)
+only-race words named (command.Drive drive) is = let same : codes "race" ≡ codes "drive" = two-names _ _ words _ is.rest named is.named in absurd (cc)
+
+pub session-kind : IsKind (codes "session") session_options Chooses command.Session
 session-kind = record { form = session-form; stands = λ words session is. is; only = only-session }
 
-pub drive-kind : IsKind (codes "drive") drive_options ChoosesDrive command.Drive IsCommand
+pub drive-kind : IsKind (codes "drive") drive_options ChoosesDrive command.Drive
 drive-kind = record { form = drive-form; stands = λ words drive is. is; only = only-drive }
 
-pub race-kind : IsKind (codes "race") race_options ChoosesRace (λ race. race) IsRace
-race-kind = record { form = race-form; stands = λ words race is. is; only = λ words named race is. record { chosen = race; is = refl; given = is } }
+pub race-kind : IsKind (codes "race") race_options ChoosesRace command.Race
+race-kind = record { form = race-form; stands = λ words race is. is; only = only-race }
 
 -- ---- what is made of words that begin with the name
 
-module _ {A T : Type 0} {first : Text} {names : List Text} {Choose : (Text → Option Text) → A → Type 0} {made : A → T} {Is : List Text → T → Type 0}
-    (kind : IsKind first names Choose made Is) (words : List Text) (read : List (Bor Text)) (are : texts read ≡ words) (named : words ≡ first ∷ rest-of words) where
+module _ {A : Type 0} {first : Text} {names : List Text} {Choose : (Text → Option Text) → A → Type 0} {made : A → Command}
+    (kind : IsKind first names Choose made) (words : List Text) (read : List (Bor Text)) (are : texts read ≡ words) (named : words ≡ first ∷ rest-of words) where
   -- no options: nothing is given
-  pub none-read : ((given : List Given) → AreOptions names (rest-of (texts read)) given → ¬ (All IsPlain (map value_of given))) → (other : T) → ¬ (Is words other)
+  pub none-read : ((given : List Given) → AreOptions names (rest-of (texts read)) given → ¬ (All IsPlain (map value_of given))) → (other : Command) → ¬ (IsCommand words other)
   none-read none other is =
       let only = kind.only words named other is in
       no-options first names Choose kind.form words (subst (λ ws. (given : List Given) → AreOptions names (rest-of ws) given → ¬ (All IsPlain (map value_of given))) are none) only.chosen only.given
@@ -163,7 +168,7 @@ module _ {A T : Type 0} {first : Text} {names : List Text} {Choose : (Text → O
     abbrev same-reading : IsReading names (rest-of words) values
     same-reading = subst (λ ws. IsReading names (rest-of ws) values) are reading
 
-    pub chosen-read : (chosen : A) → Choose values chosen → IsRead (Is words) (Ok (made chosen))
+    pub chosen-read : (chosen : A) → Choose values chosen → IsRead (IsCommand words) (Ok (made chosen))
     chosen-read chosen chooses = (
       kind.stands words chosen (is-given first names Choose kind.form words values same-reading named chosen chooses),
       λ other is.
@@ -171,7 +176,7 @@ module _ {A T : Type 0} {first : Text} {names : List Text} {Choose : (Text → O
           only.is ∙ ap made (one-given first names Choose kind.form words values same-reading chosen chooses only.chosen only.given),
     )
 
-    pub none-chosen : ((chosen : A) → ¬ (Choose values chosen)) → IsRead (Is words) (Err refusal.Bad)
+    pub none-chosen : ((chosen : A) → ¬ (Choose values chosen)) → IsRead (IsCommand words) (Err refusal.Bad)
     none-chosen none other is =
         let only = kind.only words named other is in
         none only.chosen (chosen-by first names Choose kind.form words values same-reading only.chosen only.given)

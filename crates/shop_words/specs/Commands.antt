@@ -86,6 +86,7 @@ IsRace = IsGiven (codes "race") race_options ChoosesRace
 abbrev pub IsCommand : List (List ℕ) → Command → Type 0
 IsCommand words (command.Session session) = IsSession words session
 IsCommand words (command.Drive drive) = IsDrive words drive
+IsCommand words (command.Race race) = IsRace words race
 
 -- what holds of what the words ask for, where they are good
 abbrev pub IfGood : {T : Type 0} → Parsed T → (T → Type 0) → Type 0

@@ -1,5 +1,5 @@
 ghost use Rattle.std.specs.Prelude.{◌≡◌};
-ghost use Rattle.shop_words.specs.Commands.{IfGood, IsCommand, IsRace, IsRead};
+ghost use Rattle.shop_words.specs.Commands.{IfGood, IsCommand, IsRead};
 
 use crate::choices;
 use crate::options::{Refusal, options_of, texts_of};
@@ -15,6 +15,8 @@ pub enum Command {
     Session(Session),
     /// Browsers are driven over a shop of their own, and a summary is printed.
     Drive(Drive),
+    /// Workers on threads share a shop, each with a browser, and a summary is printed.
+    Race(Race),
 }
 
 /// The shop of a session.
@@ -81,19 +83,6 @@ pub fn command_of(alloc: Global, words: &[Text]) -> Parsed<Command>
     }
 }
 
-/// The race that the words give: `race`, and its options, written as those of a command.
-pub fn race_of(alloc: Global, words: &[Text]) -> Parsed<Race>
-    ensures race { IfGood result (IsRace words.now) }
-    ensures only { IfGood result (λ race. (other : Race) → IsRace words.now other → other ≡ race) }
-    ensures bad { result ≡ Parsed.Bad → (race : Race) → ¬ (IsRace words.now race) }
-{
-    match read_race(alloc, words) {
-        Ok(race) => Parsed::Good(race),
-        Err(Refusal::Bad) => Parsed::Bad,
-        Err(Refusal::Memory) => Parsed::Memory,
-    }
-}
-
 fn read_command(alloc: Global, words: &[Text]) -> Result<Command, Refusal>
     ensures { IsRead (IsCommand words.now) result }
 {
@@ -114,21 +103,13 @@ fn read_command(alloc: Global, words: &[Text]) -> Result<Command, Refusal>
                 None => Err(Refusal::Bad),
             }
         }
+        ["race", ..] => {
+            let found = options_of(alloc, &RACE, texts)?;
+            match choices::race_of(&found) {
+                Some(race) => Ok(Command::Race(race)),
+                None => Err(Refusal::Bad),
+            }
+        }
         _ => Err(Refusal::Bad),
-    }
-}
-
-fn read_race(alloc: Global, words: &[Text]) -> Result<Race, Refusal>
-    ensures { IsRead (IsRace words.now) result }
-{
-    let texts = texts_of(alloc, words)?;
-    let texts = texts.as_slice();
-    let ["race", ..] = texts else {
-        return Err(Refusal::Bad);
-    };
-    let found = options_of(alloc, &RACE, texts)?;
-    match choices::race_of(&found) {
-        Some(race) => Ok(race),
-        None => Err(Refusal::Bad),
     }
 }

@@ -2,11 +2,13 @@
 //! gateway go to the top calls.
 #![tactic(auto)]
 
-use shop_app::{Status, run_alone, run_shared};
+use shop_app::{Status, is_shared, run_alone, run_shared};
 use shop_edges::{ReaderSource, Spawner, StandardOutput, SystemClock, Way, WriterSink, write_all};
 use shop_gateway::Emulator;
 use shop_text::{Memory, Text};
-use std::env::{self, Env};
+use std::alloc::Global;
+use std::env::{self, Args, Env};
+use std::io::{self, ErrorKind};
 use std::process::ExitCode;
 use std::rt::Clock;
 use std::sync::Wait;
@@ -15,12 +17,15 @@ use std::thread::Threads;
 /// A standard stream that is written to.
 type Output = WriterSink<StandardOutput>;
 
-/// The words behind the program's name. An argument list that can't be had is want of memory.
-fn words_of(rt: &(impl Env + AllocGlobal)) -> Result<Vec<Text>, Memory> {
-    let alloc = rt.alloc();
-    let Ok(arguments) = env::args(rt) else {
-        return Err(Memory);
-    };
+/// Why there are no words: one of them is no text, or memory ran out.
+fn fault_of(error: &io::Error) -> Status {
+    match error.kind() {
+        ErrorKind::InvalidData => Status::BadWords,
+        _ => Status::Memory,
+    }
+}
+
+fn copies_of(alloc: Global, arguments: Args<Global>) -> Result<Vec<Text>, Memory> {
     let mut words = Vec::new(alloc);
     for word in arguments.skip(1) {
         words.push(Text::copy(alloc, word.as_bytes())?)?;
@@ -28,11 +33,11 @@ fn words_of(rt: &(impl Env + AllocGlobal)) -> Result<Vec<Text>, Memory> {
     Ok(words)
 }
 
-/// Whether the words are for several callers.
-fn is_shared(words: &[Text]) -> bool {
-    match words {
-        [command, ..] => command.bytes() == b"race".as_slice(),
-        [] => false,
+/// The words behind the program's name.
+fn words_of(rt: &(impl Env + AllocGlobal)) -> Result<Vec<Text>, Status> {
+    match env::args(rt) {
+        Ok(arguments) => copies_of(rt.alloc(), arguments).map_err(|_| Status::Memory),
+        Err(error) => Err(fault_of(&error)),
     }
 }
 
@@ -66,9 +71,12 @@ fn shared<R: Threads + Wait + Clock + AllocGlobal + Copy + Send + 'static>(
 
 fn main(rt: HostRuntime) -> ExitCode {
     let mut faults = WriterSink::new(StandardOutput::Error(rt.stderr()));
-    let Ok(words) = words_of(&rt) else {
-        let _ = write_all(&mut faults, Status::Memory.line());
-        return ExitCode::from(Status::Memory.code());
+    let words = match words_of(&rt) {
+        Ok(words) => words,
+        Err(status) => {
+            let _ = write_all(&mut faults, status.line());
+            return ExitCode::from(status.code());
+        }
     };
     let mut sink = WriterSink::new(StandardOutput::Output(rt.stdout()));
     let status = if is_shared(&words) {

@@ -52,24 +52,55 @@ fn front(alloc: Global, cache: &mut ListCache, byte: u8, moment: u64) -> Result<
     }
 }
 
+/// Whether a list that is found at a moment has this front, or none is found.
+fn is_front(
+    alloc: Global,
+    cache: &mut ListCache,
+    byte: u8,
+    moment: u64,
+    want: Option<u64>,
+) -> Result<bool, Memory>
+    requires later { 1000 ≤ moment }
+    requires taken { AllTaken 1000 cache.old }
+    ensures { OnOk result (AllTaken 1000 cache.new) }
+{
+    Ok(front(alloc, cache, byte, moment)? == want)
+}
+
+/// Whether the last 96 of 97 lists are kept, for thirty seconds.
+fn are_kept(alloc: Global, cache: &mut ListCache) -> Result<bool, Memory>
+    requires { AllTaken 1000 cache.old }
+{
+    let are_so = [
+        is_front(alloc, cache, 0, 1_000, None)?,
+        is_front(alloc, cache, 1, 1_000, Some(1))?,
+        is_front(alloc, cache, 96, 31_000, Some(96))?,
+        is_front(alloc, cache, 96, 31_001, None)?,
+    ];
+    Ok(are_so == [true; 4])
+}
+
 #[test]
 fn ninety_six_lists_are_kept(rt: HostRuntime) -> Result<(), Fail> {
-    let alloc = rt.alloc();
-    let mut cache = cache_of(alloc, 97)?;
-    assert_eq!(rt; front(alloc, &mut cache, 0, 1_000)?, None);
-    assert_eq!(rt; front(alloc, &mut cache, 1, 1_000)?, Some(1));
-    assert_eq!(rt; front(alloc, &mut cache, 96, 31_000)?, Some(96));
-    assert_eq!(rt; front(alloc, &mut cache, 96, 31_001)?, None);
+    let mut cache = cache_of(rt.alloc(), 97)?;
+    assert!(rt; are_kept(rt.alloc(), &mut cache)?);
     Ok(())
+}
+
+/// Whether list 0 stays and list 1 goes for list 96, since list 0 was asked for when it was old.
+fn is_used(alloc: Global, cache: &mut ListCache) -> Result<bool, Memory>
+    requires { AllTaken 1000 cache.old }
+{
+    let old = is_front(alloc, cache, 0, 31_001, None)?;
+    keep(alloc, cache, 96)?;
+    let stays = is_front(alloc, cache, 0, 1_000, Some(0))?;
+    let goes = is_front(alloc, cache, 1, 1_000, None)?;
+    Ok(old && stays && goes)
 }
 
 #[test]
 fn a_look_at_an_old_list_is_a_use(rt: HostRuntime) -> Result<(), Fail> {
-    let alloc = rt.alloc();
-    let mut cache = cache_of(alloc, 96)?;
-    assert_eq!(rt; front(alloc, &mut cache, 0, 31_001)?, None);
-    keep(alloc, &mut cache, 96)?;
-    assert_eq!(rt; front(alloc, &mut cache, 0, 1_000)?, Some(0));
-    assert_eq!(rt; front(alloc, &mut cache, 1, 1_000)?, None);
+    let mut cache = cache_of(rt.alloc(), 96)?;
+    assert!(rt; is_used(rt.alloc(), &mut cache)?);
     Ok(())
 }

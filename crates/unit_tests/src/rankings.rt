@@ -48,6 +48,11 @@ fn three(alloc: Global) -> Result<[Item; 3], Memory>
     ])
 }
 
+/// Whether these items were listed.
+fn are(listed: Result<Listed<u32>, Memory>, want: &[u32]) -> Result<bool, Memory> {
+    Ok(listed?.as_slice() == want)
+}
+
 /// The best sold items of Arts after the units of one are set.
 fn sold(alloc: Global, best: &mut Best, item: u32, units: u64) -> Result<Listed<u32>, Memory>
     requires { Has (length best.old.units) item }
@@ -57,23 +62,54 @@ fn sold(alloc: Global, best: &mut Best, item: u32, units: u64) -> Result<Listed<
     best.top50(alloc, Subject::Arts)
 }
 
+/// Whether these are the best sold items of Arts after the units of one are set.
+fn are_sold(
+    alloc: Global,
+    best: &mut Best,
+    item: u32,
+    units: u64,
+    want: &[u32],
+) -> Result<bool, Memory>
+    requires { Has (length best.old.units) item }
+    ensures { length best.new.units ≡ length best.old.units }
+{
+    are(sold(alloc, best, item, units), want)
+}
+
+/// Whether an item has so many units, and there is no best sold item of Travel.
+fn has_units(alloc: Global, best: &Best, item: u32, units: u64) -> Result<bool, Memory>
+    requires { Has (length best.now.units) item }
+{
+    let none = are(best.top50(alloc, Subject::Travel), &[])?;
+    Ok(none && best.quantity(item) == units)
+}
+
+/// Whether three items stand in order as their units are set one after another.
+fn stand_as_sold(alloc: Global, best: &mut Best) -> Result<bool, Memory>
+    requires { length best.old.units ≡ 3 }
+{
+    let are_so = [
+        are_sold(alloc, best, 2, 5, &[2])?,
+        are_sold(alloc, best, 3, 5, &[2, 3])?,
+        are_sold(alloc, best, 1, 5, &[1, 2, 3])?,
+        are_sold(alloc, best, 3, 6, &[3, 1, 2])?,
+        are_sold(alloc, best, 1, 0, &[3, 2])?,
+        has_units(alloc, best, 3, 6)?,
+    ];
+    Ok(are_so == [true; 6])
+}
+
+/// Three items, of which none was sold.
+fn best_of_three(alloc: Global) -> Result<Best, Memory>
+    ensures { IfOk result (λ best. length best.units ≡ 3) }
+{
+    Best::new(alloc, &three(alloc)?)
+}
+
 #[test]
 fn best_sold_items_stand_in_order(rt: HostRuntime) -> Result<(), Fail> {
-    let alloc = rt.alloc();
-    let mut best = Best::new(alloc, &three(alloc)?)?;
-    assert_eq!(rt; sold(alloc, &mut best, 2, 5)?.as_slice(), [2].as_slice());
-    assert_eq!(rt; sold(alloc, &mut best, 3, 5)?.as_slice(), [2, 3].as_slice());
-    assert_eq!(rt;
-        sold(alloc, &mut best, 1, 5)?.as_slice(),
-        [1, 2, 3].as_slice()
-    );
-    assert_eq!(rt;
-        sold(alloc, &mut best, 3, 6)?.as_slice(),
-        [3, 1, 2].as_slice()
-    );
-    assert_eq!(rt; sold(alloc, &mut best, 1, 0)?.as_slice(), [3, 2].as_slice());
-    assert_eq!(rt; best.quantity(3), 6);
-    assert!(rt; best.top50(alloc, Subject::Travel)?.as_slice().is_empty());
+    let mut best = best_of_three(rt.alloc())?;
+    assert!(rt; stand_as_sold(rt.alloc(), &mut best)?);
     Ok(())
 }
 
@@ -86,23 +122,54 @@ fn redated(alloc: Global, newest: &mut Newest, item: u32, day: u32) -> Result<Li
     newest.top50(alloc, Subject::Arts)
 }
 
+/// Whether these are the newest items of a subject.
+fn are_newest(
+    alloc: Global,
+    newest: &Newest,
+    subject: Subject,
+    want: &[u32],
+) -> Result<bool, Memory> {
+    are(newest.top50(alloc, subject), want)
+}
+
+/// Whether these are the newest items of Arts after the day of one is set.
+fn are_redated(
+    alloc: Global,
+    newest: &mut Newest,
+    item: u32,
+    day: u32,
+    want: &[u32],
+) -> Result<bool, Memory>
+    requires { Has (length newest.old.days) item }
+    ensures { length newest.new.days ≡ length newest.old.days }
+{
+    are(redated(alloc, newest, item, day), want)
+}
+
+/// Whether three items stand in order as their days are set one after another, and none of Travel do.
+fn stand_as_dated(alloc: Global, newest: &mut Newest) -> Result<bool, Memory>
+    requires { length newest.old.days ≡ 3 }
+{
+    let are_so = [
+        are_newest(alloc, newest, Subject::Arts, &[2, 1, 3])?,
+        are_redated(alloc, newest, 3, 11, &[3, 2, 1])?,
+        are_redated(alloc, newest, 2, 9, &[3, 1, 2])?,
+        are_newest(alloc, newest, Subject::Travel, &[])?,
+    ];
+    Ok(are_so == [true; 4])
+}
+
+/// Three items by their days.
+fn newest_of_three(alloc: Global) -> Result<Newest, Memory>
+    ensures { IfOk result (λ newest. length newest.days ≡ 3) }
+{
+    Newest::new(alloc, &three(alloc)?)
+}
+
 #[test]
 fn newest_items_stand_in_order(rt: HostRuntime) -> Result<(), Fail> {
-    let alloc = rt.alloc();
-    let mut newest = Newest::new(alloc, &three(alloc)?)?;
-    assert_eq!(rt;
-        newest.top50(alloc, Subject::Arts)?.as_slice(),
-        [2, 1, 3].as_slice()
-    );
-    assert_eq!(rt;
-        redated(alloc, &mut newest, 3, 11)?.as_slice(),
-        [3, 2, 1].as_slice()
-    );
-    assert_eq!(rt;
-        redated(alloc, &mut newest, 2, 9)?.as_slice(),
-        [3, 1, 2].as_slice()
-    );
-    assert!(rt; newest.top50(alloc, Subject::Travel)?.as_slice().is_empty());
+    let mut newest = newest_of_three(rt.alloc())?;
+    assert!(rt; stand_as_dated(rt.alloc(), &mut newest)?);
     Ok(())
 }
 
@@ -118,39 +185,52 @@ fn sixty(alloc: Global) -> Result<Vec<Item>, Memory>
     Ok(items)
 }
 
-/// How many items are listed, the first and the last.
-fn ends(list: &Listed<u32>) -> (usize, Option<u32>, Option<u32>) {
+/// Whether fifty items were listed, and these are the first and the last.
+fn are_ends(listed: Result<Listed<u32>, Memory>, first: u32, last: u32) -> Result<bool, Memory> {
+    let list = listed?;
     let ids = list.as_slice();
-    (ids.len(), ids.first().copied(), ids.last().copied())
+    let ends = (ids.len(), ids.first().copied(), ids.last().copied());
+    Ok(ends == (50, Some(first), Some(last)))
 }
 
-/// The newest items of Arts after the day of one is set.
+/// Whether the day of an item puts these first and last of the newest items of Arts.
 fn ends_redated(
     alloc: Global,
     newest: &mut Newest,
     item: u32,
     day: u32,
-) -> Result<(usize, Option<u32>, Option<u32>), Memory>
+    first: u32,
+    last: u32,
+) -> Result<bool, Memory>
     requires { Has (length newest.old.days) item }
     ensures { length newest.new.days ≡ length newest.old.days }
 {
-    Ok(ends(&redated(alloc, newest, item, day)?))
+    are_ends(redated(alloc, newest, item, day), first, last)
+}
+
+/// Whether the fiftieth of sixty new items and the next change places.
+fn newest_change_places(alloc: Global, newest: &mut Newest) -> Result<bool, Memory>
+    requires { length newest.old.days ≡ 60 }
+{
+    let are_so = [
+        are_ends(newest.top50(alloc, Subject::Arts), 60, 11)?,
+        ends_redated(alloc, newest, 60, 10, 59, 10)?,
+        ends_redated(alloc, newest, 10, 9, 59, 60)?,
+    ];
+    Ok(are_so == [true; 3])
+}
+
+/// Sixty items by their days.
+fn newest_of_sixty(alloc: Global) -> Result<Newest, Memory>
+    ensures { IfOk result (λ newest. length newest.days ≡ 60) }
+{
+    Newest::new(alloc, &sixty(alloc)?)
 }
 
 #[test]
 fn the_fiftieth_new_item_and_the_next_change_places(rt: HostRuntime) -> Result<(), Fail> {
-    let alloc = rt.alloc();
-    let mut newest = Newest::new(alloc, &sixty(alloc)?)?;
-    let fifty = newest.top50(alloc, Subject::Arts)?;
-    assert_eq!(rt; ends(&fifty), (50, Some(60), Some(11)));
-    assert_eq!(rt;
-        ends_redated(alloc, &mut newest, 60, 10)?,
-        (50, Some(59), Some(10))
-    );
-    assert_eq!(rt;
-        ends_redated(alloc, &mut newest, 10, 9)?,
-        (50, Some(59), Some(60))
-    );
+    let mut newest = newest_of_sixty(rt.alloc())?;
+    assert!(rt; newest_change_places(rt.alloc(), &mut newest)?);
     Ok(())
 }
 
@@ -165,36 +245,37 @@ fn sold_by_id(alloc: Global) -> Result<Best, Memory>
     Ok(best)
 }
 
-/// The best sold items of Arts after the units of one are set.
+/// Whether the units of an item put these first and last of the best sold items of Arts.
 fn ends_sold(
     alloc: Global,
     best: &mut Best,
     item: u32,
     units: u64,
-) -> Result<(usize, Option<u32>, Option<u32>), Memory>
+    first: u32,
+    last: u32,
+) -> Result<bool, Memory>
     requires { Has (length best.old.units) item }
     ensures { length best.new.units ≡ length best.old.units }
 {
-    Ok(ends(&sold(alloc, best, item, units)?))
+    are_ends(sold(alloc, best, item, units), first, last)
+}
+
+/// Whether the fiftieth of sixty best sold items and the next change places.
+fn best_change_places(alloc: Global, best: &mut Best) -> Result<bool, Memory>
+    requires { length best.old.units ≡ 60 }
+{
+    let are_so = [
+        are_ends(best.top50(alloc, Subject::Arts), 1, 50)?,
+        ends_sold(alloc, best, 51, 50, 1, 50)?,
+        ends_sold(alloc, best, 51, 51, 1, 51)?,
+        ends_sold(alloc, best, 51, 0, 1, 50)?,
+    ];
+    Ok(are_so == [true; 4])
 }
 
 #[test]
 fn the_fiftieth_best_sold_item_and_the_next_change_places(rt: HostRuntime) -> Result<(), Fail> {
-    let alloc = rt.alloc();
-    let mut best = sold_by_id(alloc)?;
-    let fifty = best.top50(alloc, Subject::Arts)?;
-    assert_eq!(rt; ends(&fifty), (50, Some(1), Some(50)));
-    assert_eq!(rt;
-        ends_sold(alloc, &mut best, 51, 50)?,
-        (50, Some(1), Some(50))
-    );
-    assert_eq!(rt;
-        ends_sold(alloc, &mut best, 51, 51)?,
-        (50, Some(1), Some(51))
-    );
-    assert_eq!(rt;
-        ends_sold(alloc, &mut best, 51, 0)?,
-        (50, Some(1), Some(50))
-    );
+    let mut best = sold_by_id(rt.alloc())?;
+    assert!(rt; best_change_places(rt.alloc(), &mut best)?);
     Ok(())
 }

@@ -21,6 +21,6 @@ fn stocks_after_sales(rt: HostRuntime) {
         (31, 21, 10, 0),
         (1_000_000, 999, 999_001, 0),
     ] {
-        assert_eq!(rt; sold(stock, units), Some((after, times)));
+        assert!(rt; sold(stock, units) == Some((after, times)));
     }
 }

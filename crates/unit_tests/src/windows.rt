@@ -118,28 +118,56 @@ fn three_orders<const N: usize>(
     Ok([first, second, third])
 }
 
+/// Whether these bought an item.
+fn are_buyers<const N: usize>(
+    window: &OrderWindow<N>,
+    item: u32,
+    buyers: &[u32],
+) -> Result<bool, Memory> {
+    Ok(window.buyers(item)?.as_slice() == buyers)
+}
+
+/// Whether a customer bought these items and quantities.
+fn has_bought<const N: usize>(
+    window: &OrderWindow<N>,
+    customer: u32,
+    bought: &[(u32, u64)],
+) -> Result<bool, Memory> {
+    Ok(window.bought(customer)?.as_slice() == bought)
+}
+
+/// Whether the first of three orders left, and what the others had is held.
+fn holds_two(window: &mut OrderWindow<2>, alloc: Global) -> Result<bool, Memory>
+    requires { window.old.items ≡ 3 }
+{
+    Ok(
+        three_orders(window, alloc)? == [None, None, Some(11)]
+            && quantities(window) == [0, 5, 5, 0]
+            && are_buyers(window, 2, &[1, 2])?
+            && has_bought(window, 1, &[(2, 2), (3, 5)])?
+            && [window.has(1, 3), window.has(1, 1)] == [true, false],
+    )
+}
+
 #[test]
 fn the_oldest_order_leaves(rt: HostRuntime) -> Result<(), Fail> {
-    let alloc = rt.alloc();
-    let mut window = OrderWindow::<2>::new(alloc, 3)?;
-    assert_eq!(rt; three_orders(&mut window, alloc)?, [None, None, Some(11)]);
-    assert_eq!(rt; quantities(&window), [0, 5, 5, 0]);
-    assert_eq!(rt; window.buyers(2)?.as_slice(), [1, 2].as_slice());
-    assert_eq!(rt; window.bought(1)?.as_slice(), [(2, 2), (3, 5)].as_slice());
-    assert_eq!(rt; [window.has(1, 3), window.has(1, 1)], [true, false]);
+    let mut window = OrderWindow::<2>::new(rt.alloc(), 3)?;
+    assert!(rt; holds_two(&mut window, rt.alloc())?);
     Ok(())
+}
+
+/// Whether each of three orders left but the last.
+fn holds_one(window: &mut OrderWindow<1>, alloc: Global) -> Result<bool, Memory>
+    requires { window.old.items ≡ 3 }
+{
+    Ok(three_orders(window, alloc)? == [None, Some(11), Some(12)] && are_buyers(window, 2, &[1])?)
 }
 
 #[test]
 fn a_window_of_one(rt: HostRuntime) -> Result<(), Fail> {
-    let alloc = rt.alloc();
-    let mut window = OrderWindow::<1>::new(alloc, 3)?;
+    let mut window = OrderWindow::<1>::new(rt.alloc(), 3)?;
     window.reserve(3)?;
-    assert_eq!(rt;
-        three_orders(&mut window, alloc)?,
-        [None, Some(11), Some(12)]
-    );
-    assert_eq!(rt; window.buyers(2)?.as_slice(), [1].as_slice());
+    assert!(rt; holds_one(&mut window, rt.alloc())?);
     Ok(())
 }
 
@@ -155,21 +183,27 @@ fn orders_of_two<const N: usize>(window: &mut OrderWindow<N>, alloc: Global) -> 
     Ok(())
 }
 
+/// Whether an item on two lines counts twice, and a customer who came twice once.
+fn holds_three(window: &OrderWindow<3>) -> Result<bool, Memory> {
+    Ok(
+        quantities(window) == [0, 9, 7, 0]
+            && are_buyers(window, 3, &[5, 7])?
+            && has_bought(window, 7, &[(2, 9), (3, 5)])?
+            && [window.has(7, 3), window.has(5, 2)] == [true, false],
+    )
+}
+
 #[test]
 fn an_item_on_two_lines_and_a_customer_twice(rt: HostRuntime) -> Result<(), Fail> {
-    let alloc = rt.alloc();
-    let mut window = OrderWindow::<3>::new(alloc, 3)?;
-    orders_of_two(&mut window, alloc)?;
-    assert_eq!(rt; quantities(&window), [0, 9, 7, 0]);
-    assert_eq!(rt; window.buyers(3)?.as_slice(), [5, 7].as_slice());
-    assert_eq!(rt; window.bought(7)?.as_slice(), [(2, 9), (3, 5)].as_slice());
-    assert_eq!(rt; [window.has(7, 3), window.has(5, 2)], [true, false]);
+    let mut window = OrderWindow::<3>::new(rt.alloc(), 3)?;
+    orders_of_two(&mut window, rt.alloc())?;
+    assert!(rt; holds_three(&window)?);
     Ok(())
 }
 
 #[test]
 fn five_items_are_related(rt: HostRuntime) -> Result<(), Fail> {
-    let alloc = rt.alloc();
-    assert_eq!(rt; five_related(alloc, &[], 99, 100)?, [100, 1, 2, 3, 4]);
+    let related = five_related(rt.alloc(), &[], 99, 100)?;
+    assert!(rt; related == [100, 1, 2, 3, 4]);
     Ok(())
 }

@@ -1,5 +1,16 @@
-use Rattle.std.proofs.Common.{inr}
+use Rattle.std.proofs.Common.{inr, subst}
+use Rattle.shop_words.specs.declared.command.Command.TheVariants as command
+use Rattle.shop_words.specs.Commands.{IsCommand}
 use Rattle.shop_app.proofs.alone.run.Goals as goal
 
-pub returns-in-Good-clause-run : goal.returns-in-Good-clause-run
-returns-in-Good-clause-run g c other = inr (_, c.in-Good.ensures.command, c.obey.ensures.obeyed)
+pub returns-in-Good-Drive-clause-run : goal.returns-in-Good-Drive-clause-run
+returns-in-Good-Drive-clause-run g c other =
+    inr (
+      command.Drive c.in-Good-Drive.asked,
+      subst (IsCommand c.args.words.now) c.in-Good-Drive.field-0-is c.in-Good-Drive.ensures.command,
+      c.drive_browsers.ensures.driven (g.S.Source.left c.args.source.now) (g.S.Source.faults c.args.source.now),
+    )
+
+pub returns-in-Good-Session-clause-run : goal.returns-in-Good-Session-clause-run
+returns-in-Good-Session-clause-run g c other =
+    inr (command.Session c.in-Good-Session.asked, subst (IsCommand c.args.words.now) c.in-Good-Session.field-0-is c.in-Good-Session.ensures.command, c.session.ensures)

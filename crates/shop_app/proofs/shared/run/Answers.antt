@@ -1,12 +1,12 @@
-use Rattle.std.proofs.Common.{inr}
+use Rattle.std.proofs.Common.{inr, subst}
+use Rattle.shop_words.specs.Commands.{IsCommand}
 use Rattle.shop_app.proofs.RaceLemmas.{within_words}
 use Rattle.shop_app.proofs.shared.run.Goals as goal
 
 pub race_browsers-requires-after_bounds : goal.race_browsers-requires-after_bounds
-race_browsers-requires-after_bounds g c κs within = within_words _ _ c.in-Good.ensures.race
+race_browsers-requires-after_bounds g c κs within =
+    within_words c.args.words.now c.in-Good-Race.asked (subst (IsCommand c.args.words.now) c.in-Good-Race.field-0-is c.in-Good-Race.ensures.command)
 
-pub returns-in-Good-clause-run : goal.returns-in-Good-clause-run
-returns-in-Good-clause-run g c other = inr (_, c.in-Good.ensures.race, c.race_browsers.ensures.raced)
-
-pub returns-in-Bad-clause-bad_words : goal.returns-in-Bad-clause-bad_words
-returns-in-Bad-clause-bad_words g c = λ _. c.race_of.ensures.bad c.in-Bad.is
+pub returns-in-Good-Race-clause-run : goal.returns-in-Good-Race-clause-run
+returns-in-Good-Race-clause-run g c other =
+    inr (c.in-Good-Race.asked, subst (IsCommand c.args.words.now) c.in-Good-Race.field-0-is c.in-Good-Race.ensures.command, c.race_browsers.ensures.raced)

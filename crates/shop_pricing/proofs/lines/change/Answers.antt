@@ -1,4 +1,4 @@
-use Rattle.std.proofs.Common.{◌≡◌, ℕ, List, sym, ap, ◌∙◌, subst, refl, nat_eq, false}
+use Rattle.std.proofs.Common.{◌≡◌, ℕ, List, sym, ap, ◌∙◌, subst, refl, nat_eq, false, rules}
 use Rattle.indexmap.specs.IndexMap.{shift_remove_entry}
 use Rattle.shop_model.specs.trade.Carts.{set_line, is_too_many}
 use Rattle.shop_pricing.specs.Bounds.{AreLines}
@@ -26,3 +26,6 @@ pub returns-then-quantity-eq0 : goal.returns-then-quantity-eq0
 returns-then-quantity-eq0 c =
     let none = c.if-quantity-eq0.true in
     (room c.args.item c.args.quantity c.args.lines.now none, removed c.args.item c.args.quantity _ _ _ none c.lines.view_is c.shift_remove.ensures.entries)
+
+pub put-requires-clause-room : goal.put-requires-clause-room
+put-requires-clause-room c = search rules

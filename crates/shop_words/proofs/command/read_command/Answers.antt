@@ -3,7 +3,7 @@ use Rattle.clap.specs.Words.{first_value, found_of}
 use Rattle.shop_words.specs.declared.options.Refusal.{Refusal}
 use Rattle.shop_words.specs.Commands.{IsCommand}
 use Rattle.shop_words.proofs.Commands.{first-named, passed, texts}
-use Rattle.shop_words.proofs.Sessions.{chosen-read, command-words, drive-kind, none-chosen, none-read, session-kind}
+use Rattle.shop_words.proofs.Sessions.{chosen-read, command-words, drive-kind, none-chosen, none-read, race-kind, session-kind}
 use Rattle.shop_words.proofs.command.read_command.Goals as goal
 
 pub returns-in_err-texts : goal.returns-in_err-texts
@@ -50,3 +50,23 @@ returns-in-drive c =
     let are = ap texts c.as_slice-texts.ensures.value ∙ c.in_ok-texts.ensures.texts in
     none-chosen drive-kind _ _ are (first-named _ _ _ _ are (omega arith) c.in-drive.is-drive)
     (first_value (found_of c.in_ok-found-in-drive.found)) c.in_ok-found-in-drive.ensures.values c.in-None-drive_of.ensures.none
+
+-- ---- a race
+
+pub returns-in_err-found-in-race : goal.returns-in_err-found-in-race
+returns-in_err-found-in-race c =
+    let are = ap texts c.as_slice-texts.ensures.value ∙ c.in_ok-texts.ensures.texts in
+    passed (IsCommand c.args.words.now) c.from_residual-in_err-found-in-race.result c.in_err-found-in-race.field-0.0 c.from_residual-in_err-found-in-race.ensures.1
+    (λ bad. none-read race-kind _ _ are (first-named _ _ _ _ are (omega arith) c.in-race.is-race) (c.in_err-found-in-race.ensures.bad (ap (λ (r : Refusal). Err r) bad)))
+
+pub returns-in-Some-race_of : goal.returns-in-Some-race_of
+returns-in-Some-race_of c =
+    let are = ap texts c.as_slice-texts.ensures.value ∙ c.in_ok-texts.ensures.texts in
+    chosen-read race-kind _ _ are (first-named _ _ _ _ are (omega arith) c.in-race.is-race)
+    (first_value (found_of c.in_ok-found-in-race.found)) c.in_ok-found-in-race.ensures.values c.in-Some-race_of.race c.in-Some-race_of.ensures.some
+
+pub returns-in-race : goal.returns-in-race
+returns-in-race c =
+    let are = ap texts c.as_slice-texts.ensures.value ∙ c.in_ok-texts.ensures.texts in
+    none-chosen race-kind _ _ are (first-named _ _ _ _ are (omega arith) c.in-race.is-race)
+    (first_value (found_of c.in_ok-found-in-race.found)) c.in_ok-found-in-race.ensures.values c.in-None-race_of.ensures.none

@@ -8,3 +8,9 @@ returns-then-contains-clause-passed g c =
 
 pub returns-clause-listed : goal.returns-clause-listed
 returns-clause-listed g c = λ listed. absurd (let unlisted : is_listed c.args.self.now ≡ false = search rules in cc)
+
+pub returns-then-contains-clause-cause : goal.returns-then-contains-clause-cause
+returns-then-contains-clause-cause g c = search rules
+
+pub returns-then-contains-clause-counts : goal.returns-then-contains-clause-counts
+returns-then-contains-clause-counts g c = search rules
