@@ -25,7 +25,7 @@ use std::alloc::Global;
 use std::marker::Brand;
 
 /// How the requests of browsers went, and what the gateway answered to each charge first.
-#[derive(Debug, Drop)]
+#[derive(Drop)]
 struct Driven {
     tally: Tally,
     answers: Listed<Answer>,

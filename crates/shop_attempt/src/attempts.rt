@@ -4,7 +4,7 @@ use shop_model::{AddressText, Cart, Customer, Item, Order};
 use shop_text::Listed;
 
 /// What a key showed, and the version that it had.
-#[derive(Debug, Drop)]
+#[derive(Drop)]
 pub struct ReadOf {
     pub key: Key,
     pub row: Row,
@@ -14,7 +14,7 @@ pub struct ReadOf {
 
 /// A row to be written. Where an id is 0 the settle draws it; it fills in stamps and the days that come
 /// from them, the user name and the password of a new customer, and the moment when a login expires.
-#[derive(Debug, Drop)]
+#[derive(Drop)]
 pub enum Write {
     /// A cart in its place, or a new one.
     PutCart(Cart),
@@ -34,7 +34,7 @@ pub enum Write {
 }
 
 /// What a request read, and what it would change.
-#[derive(Debug, Drop)]
+#[derive(Drop)]
 pub struct Attempt {
     pub reads: Listed<ReadOf>,
     /// In milliseconds since 1970-01-01.
@@ -57,7 +57,7 @@ pub struct Conflict {
 }
 
 /// What a settle answers.
-#[derive(Debug, Drop)]
+#[derive(Drop)]
 pub enum Settle {
     Done(Drawn),
     /// The first read that is not up to date.

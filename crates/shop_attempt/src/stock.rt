@@ -1,7 +1,7 @@
 use std::marker::Model;
 
 /// What an item has in stock.
-#[derive(Debug, Drop)]
+#[derive(Drop)]
 pub struct Stock {
     /// The item's id.
     pub item: u32,

@@ -11,7 +11,7 @@ use std::collections::HashMap;
 use std::marker::Model;
 
 /// The addresses, and for each text that one of them says the smallest id.
-#[derive(Debug, Drop)]
+#[derive(Drop)]
 pub(crate) struct Addresses {
     rows: Vec<Shared<Address>>,
     said: HashMap<AddressText, u32>,

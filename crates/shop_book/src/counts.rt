@@ -7,7 +7,7 @@ use std::alloc::Global;
 use std::collections::HashMap;
 
 /// How many entries each caller has.
-#[derive(Debug, Drop)]
+#[derive(Drop)]
 pub(crate) struct Counts {
     by_caller: HashMap<u32, u64>,
 }

@@ -13,7 +13,7 @@ use shop_history::{Act, Key, Row};
 use shop_text::Memory;
 use std::alloc::Global;
 
-#[derive(Debug, Drop)]
+#[derive(Drop)]
 pub(crate) enum Plan {
     /// Keys that the act may change, with what they show.
     Compare(Vec<Watched>),

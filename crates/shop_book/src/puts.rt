@@ -17,7 +17,7 @@ use shop_text::{Memory, Shared};
 use std::alloc::Global;
 
 /// A write whose new row is made, with its id, where it is one that is shared.
-#[derive(Debug, Drop)]
+#[derive(Drop)]
 pub(crate) enum Put {
     Cart(Cart),
     Login(u32),

@@ -16,7 +16,7 @@ use shop_text::{Memory, Shared, Text, undigsyl};
 use std::alloc::Global;
 
 /// The rows of the tables that writes change.
-#[derive(Debug, Drop)]
+#[derive(Drop)]
 pub(crate) struct Rows {
     pub(crate) items: Vec<Item>,
     pub(crate) customers: Vec<Customer>,

@@ -17,7 +17,7 @@ use std::hash::Hash;
 const SUBJECTS: usize = 24;
 
 /// The versions of all keys. One that has no place here has version 0.
-#[derive(Debug, Drop)]
+#[derive(Drop)]
 pub(crate) struct Versions {
     items: Vec<u64>,
     customers: Vec<u64>,

@@ -1,6 +1,6 @@
 /// A caller at a book, and what it has done there: its calls, its settles, and the greatest moment of
 /// those that were done, 0 where there is none.
-#[derive(Clone, Copy, Debug)]
+#[derive(Clone, Copy)]
 pub struct Visitor {
     /// The number of the caller, from 1.
     pub caller: u32,

@@ -15,7 +15,7 @@ use shop_text::Memory;
 use std::alloc::Global;
 
 /// A key, and what it showed before a change.
-#[derive(Debug, Drop)]
+#[derive(Drop)]
 pub(crate) struct Watched {
     pub(crate) key: Key,
     pub(crate) row: Row,

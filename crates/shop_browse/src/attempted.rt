@@ -15,7 +15,7 @@ pub struct Ask<'a> {
 }
 
 /// What an attempt call answers.
-#[derive(Debug, Drop)]
+#[derive(Drop)]
 pub enum Attempted {
     /// The page is written.
     Ready(Attempt),

@@ -16,7 +16,7 @@ const ROOM: usize = 96;
 const AGE_LIMIT: u64 = 30_000;
 
 /// The lines of a list, and when they were read.
-#[derive(Debug, Drop)]
+#[derive(Drop)]
 pub struct Kept {
     /// How many changes had come.
     pub front: u64,
@@ -26,7 +26,7 @@ pub struct Kept {
 }
 
 /// The lists that are kept. A contract sees pairs of a key and its list, the one used last first.
-#[derive(Debug, Drop)]
+#[derive(Drop)]
 pub struct ListCache {
     kept: LruCache<ListKey, Kept>,
 }

@@ -6,7 +6,7 @@ use shop_text::{Memory, Text};
 use std::alloc::Global;
 
 /// Which list a request asks for.
-#[derive(Debug, Drop, PartialEq, Eq, Hash)]
+#[derive(Drop, PartialEq, Eq, Hash)]
 pub enum ListKey {
     /// The newest items of a subject.
     New(Subject),

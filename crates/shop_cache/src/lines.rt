@@ -12,14 +12,14 @@ use std::alloc::Global;
 use std::marker::Model;
 
 /// A line of a list.
-#[derive(Debug, Drop)]
+#[derive(Drop)]
 pub struct ListLine {
     pub item: u32,
     pub label: Label,
 }
 
 /// The lines of a list, with the links to the pages of their items.
-#[derive(Debug, Drop)]
+#[derive(Drop)]
 pub struct ListLines {
     lines: Listed<ListLine>,
     links: ItemLinks,

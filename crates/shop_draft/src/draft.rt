@@ -7,7 +7,7 @@ use shop_model::Refusal;
 use shop_text::Memory;
 
 /// A page before its settle: a status of HTTP, and its text.
-#[derive(Debug, Drop)]
+#[derive(Drop)]
 pub struct Draft {
     pub status: u16,
     pub page: Template,

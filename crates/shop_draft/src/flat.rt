@@ -7,7 +7,7 @@ use std::alloc::Global;
 use std::marker::Model;
 
 /// Bytes that are written one piece after another into room that is there.
-#[derive(Debug, Drop)]
+#[derive(Drop)]
 pub(crate) struct Flat {
     bytes: Vec<u8>,
     /// How many of them are written.

@@ -14,7 +14,7 @@ use shop_text::{day_bytes, syllable};
 pub(crate) const HOLE_ROOM: usize = 20;
 
 /// What a settle draws, as a page shows it.
-#[derive(Clone, Copy, Debug, PartialEq, Eq)]
+#[derive(Clone, Copy)]
 pub enum Hole {
     /// The id of the new cart.
     CartId,

@@ -6,7 +6,7 @@ ghost use Rattle.shop_draft.specs.Links.{HasIds, ids_behind};
 use shop_model::IdsAsked;
 
 /// An id that a page names: one that is known, or the one of a row that the settle makes.
-#[derive(Clone, Copy, Debug, PartialEq, Eq)]
+#[derive(Clone, Copy)]
 pub enum Id {
     Known(u32),
     NewCart,
@@ -15,7 +15,7 @@ pub enum Id {
 }
 
 /// The ids that a page hands on: of a customer and of a cart.
-#[derive(Clone, Copy, Debug, PartialEq, Eq)]
+#[derive(Clone, Copy)]
 pub struct PageIds {
     pub c: Option<Id>,
     pub cart: Option<Id>,

@@ -17,7 +17,7 @@ use std::marker::Model;
 const LENGTH: usize = 96;
 
 /// Links to the pages of items, but for the ids that they hand on.
-#[derive(Debug, Drop)]
+#[derive(Drop)]
 pub struct ItemLinks {
     text: Flat,
     /// How many bytes stand before the first place of the ids, and from each place to the next.
@@ -36,8 +36,26 @@ impl Model for ItemLinks {
     ghost invariant = { λ l. AreWithin l.text l.gaps.items l.front };
 }
 
-/// Adds what stands in a link behind the ids.
+/// Adds the label of a link.
+#[inline(always)]
 #[tactic(auto, using(shop_text::proofs::cited::Plain::escape_append), unfolding(shop_model::specs::pages::Lists::line_label))]
+fn put_label(
+    text: &mut Flat,
+    title: &Caption,
+    first: &Caption,
+    last: &Caption,
+) -> Result<(), Memory>
+    ensures text { OnOk result (text.new ≡ text.old ++ escape (line_label title.now first.now last.now)) }
+    ensures longer { length text.old ≤ length text.new }
+{
+    text.put_caption(title)?;
+    text.put(b" by ")?;
+    text.put_caption(first)?;
+    text.put(b" ")?;
+    text.put_caption(last)
+}
+
+/// Adds what stands in a link behind the ids.
 fn push_label(
     text: &mut Flat,
     title: &Caption,
@@ -48,13 +66,8 @@ fn push_label(
     ensures longer { length text.old ≤ length text.new }
 {
     text.put(b"\">")?;
-    text.put_caption(title)?;
-    text.put(b" by ")?;
-    text.put_caption(first)?;
-    text.put(b" ")?;
-    text.put_caption(last)?;
-    text.put(b"</a>\n")?;
-    Ok(())
+    put_label(text, title, first, last)?;
+    text.put(b"</a>\n")
 }
 
 impl ItemLinks {

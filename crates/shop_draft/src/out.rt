@@ -5,7 +5,7 @@ use std::alloc::Global;
 use std::marker::Model;
 
 /// Bytes whose room is made before they are written.
-#[derive(Debug, Drop)]
+#[derive(Drop)]
 pub struct Out {
     items: Vec<u8>,
 }

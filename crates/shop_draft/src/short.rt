@@ -10,7 +10,7 @@ use std::marker::Model;
 pub(crate) const SHORT_ROOM: usize = 40;
 
 /// A text of a few bytes. It is copied together with the room behind it, since so many bytes are copied at once.
-#[derive(Debug, Drop)]
+#[derive(Drop)]
 pub(crate) struct Short {
     bytes: [u8; SHORT_ROOM],
     len: usize,

@@ -15,7 +15,7 @@ use std::marker::Model;
 const MORE_LENGTH: usize = 5;
 
 /// What stands in front of ids.
-#[derive(Clone, Copy, Debug, PartialEq, Eq)]
+#[derive(Clone, Copy)]
 pub(crate) enum Sign {
     /// `?`, where they are the first parameters of a target.
     First,
@@ -37,7 +37,7 @@ impl Sign {
 }
 
 /// Ids whose text is known, as it stands behind `&`.
-#[derive(Debug, Drop)]
+#[derive(Drop)]
 pub(crate) struct Tail {
     ids: IdsAsked,
     text: Short,

@@ -21,7 +21,7 @@ use std::marker::Model;
 pub const HEAD_ROOM: usize = 256;
 
 /// A hole, so many bytes behind the one before it.
-#[derive(Clone, Copy, Debug, PartialEq, Eq)]
+#[derive(Clone, Copy)]
 pub struct Gap {
     pub len: usize,
     pub hole: Hole,
@@ -29,7 +29,7 @@ pub struct Gap {
 
 /// The text of a page, with holes for what a settle draws, and a head right before it. It serves one
 /// page after another, and keeps its room.
-#[derive(Debug, Drop)]
+#[derive(Drop)]
 pub struct Template {
     /// Room for a head, and the text.
     bytes: Flat,

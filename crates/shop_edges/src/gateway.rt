@@ -42,7 +42,7 @@ pub enum Verdict {
 }
 
 /// A charge, and what was said to it.
-#[derive(Debug, Drop)]
+#[derive(Drop)]
 pub struct Answer {
     pub charge: Charge,
     pub verdict: Verdict,

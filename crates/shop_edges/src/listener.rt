@@ -4,14 +4,14 @@ ghost use Rattle.shop_edges.specs.Links.{Links, OpenCause, LinkCause, links_afte
 use crate::{LinkIn, LinkOut};
 
 /// Whether a port was opened.
-#[derive(Clone, Copy, Debug, PartialEq, Eq)]
+#[derive(Clone, Copy, PartialEq, Eq)]
 pub enum Opened {
     Open,
     Failed,
 }
 
 /// A link with a peer: what comes from it and what goes to it.
-#[derive(Debug, Drop)]
+#[derive(Drop)]
 pub enum Linked<I, O> {
     Linked(I, O),
     Failed,

@@ -2,7 +2,7 @@ use crate::{BytesIn, BytesOut, Linked, Listener, Opened};
 use std::marker::Model;
 
 /// Opens no port and gives no link: every call is a fault. Contracts see how many there were.
-#[derive(Debug, Drop)]
+#[derive(Drop)]
 pub struct NoListener {
     faults: u64,
 }

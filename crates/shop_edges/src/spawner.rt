@@ -4,14 +4,14 @@ use std::marker::Model;
 use std::thread::Threads;
 
 /// What became of a job that was to be started; where it failed, the job is dropped.
-#[derive(Debug, Drop)]
+#[derive(Drop)]
 pub enum Start<T> {
     Started(T),
     Failed,
 }
 
 /// How jobs are run.
-#[derive(Debug, Drop)]
+#[derive(Drop)]
 pub enum Way {
     /// Each in a thread of its own. It fails where no thread can be made.
     Threads,
@@ -44,7 +44,7 @@ impl Way {
 /// each up to `u64::MAX`.
 ///
 /// Trusted: that the system runs the threads.
-#[derive(Debug, Drop)]
+#[derive(Drop)]
 pub struct Spawner {
     way: Way,
     calls: u64,

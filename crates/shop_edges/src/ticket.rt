@@ -40,7 +40,7 @@ impl<J: Job> Running<J> {
 }
 
 /// A job that was started: what it gave, or what still runs it.
-#[derive(Debug, Drop)]
+#[derive(Drop)]
 pub enum Begun<R, T> {
     Done(T),
     Running(R),

@@ -27,7 +27,7 @@ pub enum PointKind {
 }
 
 /// What an answer stands on.
-#[derive(Debug, Drop)]
+#[derive(Drop)]
 pub struct Point {
     pub kind: PointKind,
     /// So many changes came before it; 0 where rows kept changing, and where the gateway failed.
@@ -78,7 +78,7 @@ pub enum Ended {
 }
 
 /// What became of a message.
-#[derive(Debug, Drop)]
+#[derive(Drop)]
 pub enum Answered {
     /// The bytes of the reply, and what it stands on.
     Reply(Text, Point),
@@ -87,7 +87,7 @@ pub enum Answered {
 }
 
 /// What became of a connection: its end, and a point for each answer.
-#[derive(Debug, Drop)]
+#[derive(Drop)]
 pub struct Report {
     pub end: Ended,
     pub points: Listed<Point>,

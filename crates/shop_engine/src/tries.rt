@@ -37,7 +37,7 @@ pub(crate) struct Job<'a, 'r> {
 }
 
 /// What came of one try.
-#[derive(Debug, Drop)]
+#[derive(Drop)]
 pub(crate) enum Tried {
     /// This decided, at this front, and the reply is made.
     Settled(PointKind, u64),
@@ -53,7 +53,7 @@ pub(crate) enum Tried {
 
 /// What decided a request, at which front, how many attempts were settled, and the lines of a list that
 /// was read. The reply is made.
-#[derive(Debug, Drop)]
+#[derive(Drop)]
 pub(crate) struct Outcome {
     pub(crate) kind: PointKind,
     pub(crate) front: u64,

@@ -72,7 +72,7 @@ fn asks_list(request: &Request) -> bool
 }
 
 /// An accepted request: its moment, its number among the caller's, and its word.
-#[derive(Clone, Copy, Debug)]
+#[derive(Clone, Copy)]
 struct Accepted {
     moment: u64,
     call: u64,

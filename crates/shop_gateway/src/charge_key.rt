@@ -6,7 +6,7 @@ use shop_edges::Charge;
 use shop_model::{CardNumber, CardType, Month};
 
 /// All of a charge, to find it by.
-#[derive(Debug, PartialEq, Eq, Hash, Drop)]
+#[derive(PartialEq, Eq, Hash, Drop)]
 pub(crate) struct ChargeKey {
     caller: u32,
     call: u64,

@@ -12,7 +12,7 @@ use std::marker::Model;
 /// A gateway in memory, which decides by its ledger and never fails. The ledger has one entry for
 /// each key, with the verdict that the first charge of this key got. An emulator serves one run of
 /// one shop, since callers and their calls begin anew with each run.
-#[derive(Debug, Drop)]
+#[derive(Drop)]
 pub struct Emulator {
     ledger: Vec<Shared<Answer>>,
     entries: HashMap<(u32, u64, u64), Shared<Answer>>,

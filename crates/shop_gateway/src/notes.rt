@@ -11,7 +11,7 @@ use std::collections::HashSet;
 use std::marker::Model;
 
 /// The answers of a gateway, and the first one to each charge.
-#[derive(Debug, Drop)]
+#[derive(Drop)]
 pub(crate) struct Notes {
     firsts: Vec<Answer>,
     charges: HashSet<ChargeKey>,

@@ -8,7 +8,7 @@ use std::marker::Model;
 
 /// Asks another gateway, but fails at each listed call, counted from 1. Its count of faults has
 /// every call that failed.
-#[derive(Debug, Drop)]
+#[derive(Drop)]
 pub struct ScriptGateway<G: Gateway> {
     inner: G,
     fails: Listed<u64>,

@@ -2,7 +2,7 @@ use shop_model::{AdminConfirm, AuthId, BuyConfirm, BuyRequest, CartRequest};
 use shop_text::Shared;
 
 /// What an accepted request does.
-#[derive(Debug, Drop)]
+#[derive(Drop)]
 pub enum Act {
     /// What Shopping Cart makes of a cart, with the word that was drawn for the request.
     Cart(CartRequest, u32),
@@ -16,7 +16,7 @@ pub enum Act {
 }
 
 /// An accepted change.
-#[derive(Debug, Drop)]
+#[derive(Drop)]
 pub struct Entry {
     /// The number of the caller, from 1.
     pub caller: u32,
@@ -37,7 +37,7 @@ pub struct Ids {
 }
 
 /// What a settle drew.
-#[derive(Clone, Copy, Debug, PartialEq, Eq)]
+#[derive(Clone, Copy, PartialEq, Eq)]
 pub struct Drawn {
     /// How many entries the page is shown after.
     pub front: u64,

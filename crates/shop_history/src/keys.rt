@@ -40,7 +40,7 @@ pub enum Key {
 }
 
 /// How an item is named in lists: its title, and its author's names.
-#[derive(Debug, Drop)]
+#[derive(Drop)]
 pub struct Label {
     pub item: Shared<ItemDetails>,
     pub author: Shared<Author>,
@@ -87,7 +87,7 @@ impl Label {
 }
 
 /// What a key shows.
-#[derive(Debug, Drop)]
+#[derive(Drop)]
 pub enum Row {
     /// There is no row with this id.
     Absent,

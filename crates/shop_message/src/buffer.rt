@@ -21,7 +21,7 @@ const CAPACITY: usize = 32_768;
 const FIELDS_LIMIT: usize = 64;
 
 /// The first bytes of some: how many, and how many line feeds are among them.
-#[derive(Clone, Copy, Debug, PartialEq, Eq)]
+#[derive(Clone, Copy)]
 pub(crate) struct Prefix {
     pub(crate) len: usize,
     pub(crate) lines: usize,
@@ -30,7 +30,7 @@ pub(crate) struct Prefix {
 const NOTHING: Prefix = Prefix { len: 0, lines: 0 };
 
 /// What a search for the end of a head comes to.
-#[derive(Clone, Copy, Debug, PartialEq, Eq)]
+#[derive(Clone, Copy)]
 enum Search {
     /// The head.
     Found(Prefix),

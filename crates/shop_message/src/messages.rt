@@ -43,7 +43,7 @@ pub enum Next {
 }
 
 /// What stands at a message's place.
-#[derive(Debug, Drop)]
+#[derive(Drop)]
 enum Look {
     Message(Message),
     /// A message that is refused.
@@ -54,7 +54,7 @@ enum Look {
 }
 
 /// How bytes came behind those that are held.
-#[derive(Clone, Copy, Debug, PartialEq, Eq)]
+#[derive(Clone, Copy)]
 enum Filled {
     Enough,
     End,

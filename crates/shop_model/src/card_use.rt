@@ -6,7 +6,7 @@ use std::alloc::Global;
 use std::marker::Model;
 
 /// The payment of an order by card.
-#[derive(Debug, Drop)]
+#[derive(Drop)]
 pub struct CardUse {
     pub card: CardType,
     pub number: CardNumber,

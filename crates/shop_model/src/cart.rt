@@ -4,7 +4,7 @@ use shop_text::{Listed, Memory, Shared};
 use std::marker::Model;
 
 /// A shopping cart.
-#[derive(Debug, Drop)]
+#[derive(Drop)]
 pub struct Cart {
     pub id: u32,
     /// Pairs of an item's id and a quantity, 999 at most, in the order in which the items came.

@@ -1,14 +1,14 @@
 use shop_text::{Listed, Text};
 
 /// An input of a form.
-#[derive(Debug, Drop)]
+#[derive(Drop)]
 pub struct Field {
     pub name: Text,
     pub value: Text,
 }
 
 /// A part of a page. Its texts are not escaped yet.
-#[derive(Debug, Drop)]
+#[derive(Drop)]
 pub enum Block {
     Heading(Text),
     Para(Text),
@@ -20,7 +20,7 @@ pub enum Block {
 }
 
 /// What answers a request: a status of HTTP, and a page of HTML.
-#[derive(Debug, Drop)]
+#[derive(Drop)]
 pub struct Page {
     pub status: u16,
     pub title: Text,

@@ -10,7 +10,7 @@ use shop_text::{Listed, Shared, Text};
 use std::marker::Model;
 
 /// The web interactions that are served.
-#[derive(Clone, Copy, Debug, PartialEq, Eq)]
+#[derive(Clone, Copy, PartialEq, Eq)]
 pub enum Interaction {
     Home,
     NewProducts,

@@ -21,7 +21,7 @@ use shop_text::{Memory, Shared};
 use std::alloc::Global;
 
 /// What came of a purchase whose rows are read.
-#[derive(Debug, Drop)]
+#[derive(Drop)]
 pub enum Paid {
     /// The gateway approved: this attempt does it, and its page is written.
     Approved(Attempt),

@@ -20,7 +20,7 @@ mod texts;
 mod unread;
 
 /// What a page links to.
-#[derive(Debug, Drop)]
+#[derive(Drop)]
 pub enum Links {
     /// The targets of the page's links, in order.
     Found(Vec<Text>),

@@ -13,7 +13,7 @@ use std::marker::Model;
 const FIRST_ROOM: usize = 8_192;
 
 /// What a reply says of its connection, and whether it has its page.
-#[derive(Clone, Copy, Debug, PartialEq, Eq)]
+#[derive(Clone, Copy)]
 pub struct Form {
     /// The connection ends after the reply.
     pub close: bool,
@@ -48,7 +48,7 @@ fn join(page: &mut Template, out: &mut Out, drawn: &Drawn, form: Form) -> bool
 
 /// The draft of a page, and room for the whole reply with it, which is made before its settle; it is
 /// then finished without taking memory. It serves one reply after another, and keeps its room.
-#[derive(Debug, Drop)]
+#[derive(Drop)]
 pub struct Reply {
     draft: Draft,
     /// The reply stands in the draft's room, and else in the buffer.

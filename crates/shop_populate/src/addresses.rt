@@ -1,4 +1,4 @@
-ghost use Rattle.std.specs.Prelude.{◌≡◌, ◌≤◌, ◌++◌, IfOk};
+ghost use Rattle.std.specs.Prelude.{◌≡◌, ◌≤◌, ◌+◌, ◌%◌, ◌++◌, IfOk};
 ghost use Rattle.shop_model.specs.population.Population as spec;
 
 use shop_model::words::{adjective, last_name, noun};
@@ -15,13 +15,20 @@ const LONGEST_CITY: usize = b"Parkerton".len();
 
 const ZIP: usize = 5;
 
+/// A number from 1 to 200.
+fn house_number(word: u32) -> u64
+    ensures { result ≡ 1 + word % 200 }
+{
+    1 + word as u64 % 200
+}
+
 /// `NUMBER NOUN Street`.
 #[tactic(auto, unfolding(shop_model::specs::population::Population::street))]
 fn street(alloc: Global, number_word: u32, noun_word: u32) -> Result<Text, Memory>
     ensures { IfOk result (λ text. text ≡ spec.street number_word noun_word) }
 {
     let mut text = Text::with_capacity(alloc, LONGEST_STREET)?;
-    text.push_decimal(1 + number_word as u64 % 200)?;
+    text.push_decimal(house_number(number_word))?;
     text.push(b" ")?;
     text.push(noun(noun_word))?;
     text.push(b" Street")?;

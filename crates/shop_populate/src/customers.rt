@@ -1,4 +1,4 @@
-ghost use Rattle.std.specs.Prelude.{◌≡◌, ◌≤◌, ◌++◌, IfOk};
+ghost use Rattle.std.specs.Prelude.{◌≡◌, ◌≤◌, ◌+◌, ◌%◌, ◌++◌, IfOk};
 ghost use Rattle.shop_model.specs.population.Population as spec;
 
 use shop_model::words::{first_name, last_name};
@@ -13,13 +13,20 @@ const LONGEST_EMAIL: usize = b"alinngngng@shop.example".len();
 
 const PHONE: usize = 10;
 
+/// A number of ten digits.
+fn phone_number(word: u32) -> u64
+    ensures { result ≡ 2_000_000_000 + word % 1_000_000_000 }
+{
+    2_000_000_000 + word as u64 % 1_000_000_000
+}
+
 /// Ten digits.
 #[tactic(auto, unfolding(shop_model::specs::population::Population::phone))]
 fn phone(alloc: Global, word: u32) -> Result<Caption, Memory>
     ensures { IfOk result (λ text. text ≡ spec.phone word) }
 {
     let mut text = Text::with_capacity(alloc, PHONE)?;
-    text.push_decimal(2_000_000_000 + word as u64 % 1_000_000_000)?;
+    text.push_decimal(phone_number(word))?;
     Ok(Caption::of(text))
 }
 

@@ -1,5 +1,6 @@
-ghost use Rattle.std.specs.Prelude.{◌≡◌, ◌≤◌, ◌<◌, ◌++◌, IfOk};
+ghost use Rattle.std.specs.Prelude.{◌≡◌, ◌≤◌, ◌<◌, ◌++◌, [], codes, IfOk};
 ghost use Rattle.shop_model.specs.population.Population as spec;
+ghost use Rattle.shop_model.specs.population.Words.{entry, publishers};
 
 use shop_model::words::{adjective, noun, publisher};
 use shop_model::{Backing, Item, ItemDetails, Scale, Subject, drawn};
@@ -97,6 +98,41 @@ fn stock(word: u32) -> u32
     10 + word % 21
 }
 
+/// What pages show of an item in words and pictures.
+#[derive(Drop)]
+struct ItemTexts {
+    title: Caption,
+    publisher: Caption,
+    about: Caption,
+    thumb: Caption,
+    image: Caption,
+}
+
+/// The texts of the item with this id, by the drawn words of its title, its publisher and what it is about.
+fn texts_of(
+    alloc: Global,
+    id: u32,
+    title_adjective: u32,
+    title_noun: u32,
+    house: u32,
+    about_adjective: u32,
+    about_noun: u32,
+) -> Result<ItemTexts, Memory>
+    ensures title { IfOk result (λ texts. texts.title ≡ spec.title title_adjective title_noun id) }
+    ensures publisher { IfOk result (λ texts. texts.publisher ≡ entry [] publishers house) }
+    ensures about { IfOk result (λ texts. texts.about ≡ spec.about about_adjective about_noun) }
+    ensures thumb { IfOk result (λ texts. texts.thumb ≡ spec.picture (codes "/img/thumb_") id) }
+    ensures image { IfOk result (λ texts. texts.image ≡ spec.picture (codes "/img/image_") id) }
+{
+    Ok(ItemTexts {
+        title: title(alloc, title_adjective, title_noun, id)?,
+        publisher: Caption::copy(alloc, publisher(house))?,
+        about: about(alloc, about_adjective, about_noun)?,
+        thumb: picture(alloc, b"/img/thumb_", id)?,
+        image: picture(alloc, b"/img/image_", id)?,
+    })
+}
+
 /// The item with this id.
 #[tactic(auto, unfolding(shop_model::specs::population::Population::item_row))]
 fn item_row(alloc: Global, seed: u32, scale: &Scale, id: u32) -> Result<Item, Memory>
@@ -118,15 +154,24 @@ fn item_row(alloc: Global, seed: u32, scale: &Scale, id: u32) -> Result<Item, Me
         about_adjective,
         about_noun,
     ] = drawn::<12>(seed, scale, ITEMS, id);
+    let texts = texts_of(
+        alloc,
+        id,
+        title_adjective,
+        title_noun,
+        house,
+        about_adjective,
+        about_noun,
+    )?;
     let details = ItemDetails {
-        title: title(alloc, title_adjective, title_noun, id)?,
+        title: texts.title,
         author: 1 + (id - 1) % scale.authors,
         subject: Subject::picked(subject),
-        publisher: Caption::copy(alloc, publisher(house))?,
-        about: about(alloc, about_adjective, about_noun)?,
+        publisher: texts.publisher,
+        about: texts.about,
         related: followers(scale.items, id),
-        thumb: picture(alloc, b"/img/thumb_", id)?,
-        image: picture(alloc, b"/img/image_", id)?,
+        thumb: texts.thumb,
+        image: texts.image,
         srp: srp(price),
         cost: cost(price, discount),
         first_stock: stock(level),

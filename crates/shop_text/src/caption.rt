@@ -32,7 +32,7 @@ fn is_plain(bytes: &[u8]) -> bool
 
 /// A text that pages show. It knows whether each of its bytes stands for itself there, so that it is
 /// mostly written by a copy. A contract sees the list of its bytes.
-#[derive(Debug, Drop)]
+#[derive(Drop)]
 pub struct Caption {
     text: Text,
     plain: bool,

@@ -11,7 +11,7 @@ use shop_model::Scale;
 use shop_text::number_of;
 
 /// A shop, and what each browser or worker does there.
-#[derive(Clone, Copy, Debug)]
+#[derive(Clone, Copy)]
 pub(crate) struct Workload {
     shop: Session,
     steps: u32,

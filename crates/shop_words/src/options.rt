@@ -10,7 +10,7 @@ use shop_text::Text;
 use std::alloc::{AllocError, AllocFailed, Global};
 
 /// Why words give no command.
-#[derive(Clone, Copy, Debug, PartialEq, Eq)]
+#[derive(Clone, Copy)]
 pub(crate) enum Refusal {
     /// They are not in the grammar.
     Bad,

@@ -2,7 +2,7 @@ use shop_model::Parameter;
 use shop_text::Memory;
 
 /// Why pairs are no request.
-#[derive(Clone, Copy, Debug, PartialEq, Eq)]
+#[derive(Clone, Copy)]
 pub(crate) enum Fault {
     /// This parameter is missing, or not in its form.
     Parameter(Parameter),

@@ -1,7 +1,7 @@
 use shop_text::Memory;
 
 /// Why bytes were not read as a part of a page.
-#[derive(Clone, Copy, Debug, PartialEq, Eq)]
+#[derive(Clone, Copy)]
 pub(crate) enum Unread {
     NotAPage,
     Memory,

@@ -6,14 +6,13 @@ unfolding spec.item_row
 returns c =
     let details =
     rw (
-      c.in_ok-title.ensures,
+      c.in_ok-texts.ensures.title,
       c.picked.ensures,
-      c.in_ok-copy.ensures,
-      c.publisher.ensures,
-      c.in_ok-about.ensures,
+      c.in_ok-texts.ensures.publisher,
+      c.in_ok-texts.ensures.about,
       c.followers.ensures,
-      c.in_ok-picture.ensures,
-      c.in_ok-picture-2.ensures,
+      c.in_ok-texts.ensures.thumb,
+      c.in_ok-texts.ensures.image,
       c.srp.ensures.value,
       c.cost.ensures.value,
       c.stock.ensures.value,
