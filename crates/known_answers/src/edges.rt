@@ -43,10 +43,12 @@ fn hello<K: Sink>(sink: &mut K) -> bool {
 }
 
 /// The first reading, and one of a twin.
-fn two_readings<C: Clock + Drop>(clock: &mut C) -> [u64; 2] {
+fn two_readings<C: Clock + Drop>(clock: &mut C) -> Result<[u64; 2], Memory> {
     let first = clock.now();
-    let mut twin = clock.twin();
-    [first, twin.now()]
+    match clock.twin() {
+        Some(mut twin) => Ok([first, twin.now()]),
+        None => Err(Memory),
+    }
 }
 
 fn source(alloc: Global, piece: usize, fails: &[u64]) -> Result<BytesIn, Memory>
@@ -95,22 +97,24 @@ fn clock(alloc: Global, readings: &[u64]) -> Result<ListClock, Memory> {
 }
 
 /// Readings of a clock twice, and then of the clock and of a twin.
-fn four_readings(mut clock: ListClock) -> [[u64; 2]; 4] {
-    let (first, second) = (two_readings(&mut clock), two_readings(&mut clock));
-    let mut twin = clock.twin();
-    [
+fn four_readings(mut clock: ListClock) -> Result<[[u64; 2]; 4], Memory> {
+    let (first, second) = (two_readings(&mut clock)?, two_readings(&mut clock)?);
+    let Some(mut twin) = clock.twin() else {
+        return Err(Memory);
+    };
+    Ok([
         first,
         second,
-        two_readings(&mut clock),
-        two_readings(&mut twin),
-    ]
+        two_readings(&mut clock)?,
+        two_readings(&mut twin)?,
+    ])
 }
 
 fn print_readings(rt: &(impl Print + AllocGlobal)) -> Result<(), Stop> {
     heading(rt, "a list of readings ends with its last")?;
-    let four = four_readings(clock(rt.alloc(), &[5, 9, 7])?);
+    let four = four_readings(clock(rt.alloc(), &[5, 9, 7])?)?;
     answer(rt, &[5, 9, 7], &four)?;
-    let two = two_readings(&mut clock(rt.alloc(), &[])?);
+    let two = two_readings(&mut clock(rt.alloc(), &[])?)?;
     answer(rt, &"no readings", &two)
 }
 
@@ -194,7 +198,7 @@ const START_OF_2020: u64 = 1_577_836_800_000;
 
 fn print_clock(rt: HostRuntime) -> Result<(), Stop> {
     heading(&rt, "the system clock is past 2020")?;
-    let [first, second] = two_readings(&mut SystemClock::new(rt));
+    let [first, second] = two_readings(&mut SystemClock::new(rt))?;
     answer(
         &rt,
         &"readings",

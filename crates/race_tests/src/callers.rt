@@ -48,12 +48,9 @@ type Sale = (u32, u64, u64);
 /// The version of a cart, and its first lines.
 type Seen = (u64, [Option<(u32, u32)>; 3]);
 
-/// What a desk shows of cart 1.
-fn cart_at<R: Wait + Drop>(desk: &mut Desk<R>) -> Option<Seen>
-    ensures { (seat_of desk.new).shop ≡ (seat_of desk.old).shop }
-{
-    let (row, version) = desk.read(&Key::Cart(1)).ok()?;
-    let Row::Cart(cart) = &row else {
+/// What a row of this version shows, if it is a cart's.
+fn cart_in(row: &Row, version: u64) -> Option<Seen> {
+    let Row::Cart(cart) = row else {
         return None;
     };
     let lines = cart.lines.get().as_slice();
@@ -63,14 +60,31 @@ fn cart_at<R: Wait + Drop>(desk: &mut Desk<R>) -> Option<Seen>
     Some((version, [first, second, third]))
 }
 
-/// What is told of an order.
-fn order_of(book: &mut Book, order: u32) -> Option<Sale> {
-    let (row, version) = book.read(&Key::Order(order)).ok()?;
-    let Row::Order(order) = &row else {
+/// What a desk shows of cart 1.
+fn cart_at<R: Wait + Drop>(desk: &mut Desk<R>) -> Option<Seen>
+    ensures { (seat_of desk.new).shop ≡ (seat_of desk.old).shop }
+{
+    match desk.read(&Key::Cart(1)) {
+        Ok((row, version)) => cart_in(&row, version),
+        Err(_) => None,
+    }
+}
+
+/// What is told of a row of this version, if it is an order's.
+fn order_in(row: &Row, version: u64) -> Option<Sale> {
+    let Row::Order(order) = row else {
         return None;
     };
     let order = order.get();
     Some((order.customer, order.card.total, version))
+}
+
+/// What is told of an order.
+fn order_of(book: &mut Book, order: u32) -> Option<Sale> {
+    match book.read(&Key::Order(order)) {
+        Ok((row, version)) => order_in(&row, version),
+        Err(_) => None,
+    }
 }
 
 /// What is told of a charge that was authorised.

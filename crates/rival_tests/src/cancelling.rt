@@ -150,13 +150,19 @@ fn told_of(fronts: Option<[u64; 3]>, book: &mut Book) -> Told {
     }
 }
 
-fn version_of(book: &mut Book, id: u32) -> Option<(u64, bool)> {
-    let (row, version) = book.read(&Key::Cart(id)).ok()?;
-    let Row::Cart(cart) = &row else {
+fn version_in(row: &Row, version: u64) -> Option<(u64, bool)> {
+    let Row::Cart(cart) = row else {
         return None;
     };
     let lines = cart.lines.get().as_slice();
     Some((version, lines == [(46, 1)].as_slice()))
+}
+
+fn version_of(book: &mut Book, id: u32) -> Option<(u64, bool)> {
+    match book.read(&Key::Cart(id)) {
+        Ok((row, version)) => version_in(&row, version),
+        Err(_) => None,
+    }
 }
 
 /// What came of it at the desk. The book comes last, so that no refusal has it to let go.

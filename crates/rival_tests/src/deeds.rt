@@ -10,6 +10,7 @@ ghost use Rattle.rival_tests.specs.Rivals.{LeavesOthers};
 use shop_attempt::{Attempt, Settle, Store};
 use shop_browse::{Ask, Attempted};
 use shop_draft::Draft;
+use shop_edges::Call;
 use shop_gateway::Emulator;
 use shop_history::{Act, Drawn, Key};
 use shop_model::{
@@ -290,14 +291,17 @@ fn buying<St: Store>(
     let Attempted::Pay(attempt) = buy_confirm(alloc, store, ask, asked.get(), draft) else {
         return None;
     };
+    let call = Call {
+        caller: 2,
+        number: 2,
+    };
     let mut kept = None;
     let mut gateway = Emulator::new(alloc);
     let paid = pay(
         alloc,
         ask,
         asked,
-        2,
-        2,
+        call,
         attempt,
         &mut kept,
         &mut gateway,

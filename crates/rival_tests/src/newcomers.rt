@@ -183,11 +183,17 @@ fn told_in_turn(
 
 /// The id of a customer's address, and the customer's version.
 fn address_of(book: &mut Book, customer: u32) -> Option<(u32, u64)> {
-    let (row, version) = book.read(&Key::Customer(customer)).ok()?;
-    let Row::Customer(customer) = &row else {
-        return None;
-    };
-    Some((customer.address, version))
+    match book.read(&Key::Customer(customer)) {
+        Ok((row, version)) => address_shown(&row, version),
+        Err(_) => None,
+    }
+}
+
+fn address_shown(row: &Row, version: u64) -> Option<(u32, u64)> {
+    match row {
+        Row::Customer(customer) => Some((customer.address, version)),
+        _ => None,
+    }
 }
 
 /// What the callers were told, and the addresses of the three customers from 41, with their versions.

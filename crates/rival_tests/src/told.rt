@@ -119,13 +119,19 @@ fn charge_at(gateway: &Emulator, at: usize) -> Option<Charge> {
     Some((charge.caller, charge.call, charge.cents))
 }
 
-fn order_of(book: &mut Book, order: u32) -> Option<Sale> {
-    let (row, version) = book.read(&Key::Order(order)).ok()?;
-    let Row::Order(order) = &row else {
+fn order_in(row: &Row, version: u64) -> Option<Sale> {
+    let Row::Order(order) = row else {
         return None;
     };
     let order = order.get();
     Some((order.customer, order.card.total, order.card.auth, version))
+}
+
+fn order_of(book: &mut Book, order: u32) -> Option<Sale> {
+    match book.read(&Key::Order(order)) {
+        Ok((row, version)) => order_in(&row, version),
+        Err(_) => None,
+    }
 }
 
 /// Whether conflicts are those of cart 1 with one change after another.

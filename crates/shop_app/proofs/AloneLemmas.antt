@@ -4,6 +4,7 @@ use Rattle.std.specs.Prelude.{All, flat_map, option_map, option_to_list}
 use Rattle.std.proofs.lemmas.List.{map-append}
 use Rattle.std.proofs.lemmas.List.Concat.{flat_map-append}
 use Rattle.std.proofs.lemmas.List.Elements.{All-cons, All-nil, All-append}
+use Rattle.shop_message.specs.declared.messages.Message.{Message}
 use Rattle.shop_model.specs.declared.refusal.Refusal.{Refusal as Refused}
 use Rattle.shop_model.specs.declared.requests.Request.{Request}
 use Rattle.shop_history.specs.declared.acts.Entry.{Entry}
@@ -17,8 +18,8 @@ use Rattle.shop_engine.specs.declared.report.PointKind.{PointKind}
 use Rattle.shop_engine.specs.declared.report.PointKind.TheVariants as kind
 use Rattle.shop_engine.specs.declared.report.PointKind.TheVariants.{Plain, At, Change, Busy}
 use Rattle.shop_engine.specs.Decided.{CauseAs, tries_alone}
-use Rattle.shop_engine.specs.Served.{Served, Streams}
-use Rattle.shop_engine.specs.Steps.{Step, IsStepFor, AreSteps, GivesUp, decision_of, plain_point}
+use Rattle.shop_engine.specs.Served.{IsAbandoned, Served, Streams}
+use Rattle.shop_engine.specs.Steps.{Step, IsStepFor, AreSteps, decision_of, plain_point}
 use Rattle.shop_engine.specs.Workers.{Standing}
 use Rattle.shop_app.specs.Session.{IsAtOnce, IsSettled, moment_as, moments_of}
 
@@ -95,11 +96,11 @@ moments_told (Some refusal) = refl
 
 -- what came behind the last answer left the tables and the log
 
-after_alone : (end : Ended) (mid new : Standing) → (new ≡ mid) ⊎ ((end ≡ ended.Memory) × GivesUp mid new) → IsSome mid.seat.latest
+after_alone : (end : Ended) (given : List ℕ) (messages : List Message) (mid new : Standing) → (new ≡ mid) ⊎ ((end ≡ ended.Memory) × IsAbandoned given messages mid new) → IsSome mid.seat.latest
     → (new.seat.opening ≡ mid.seat.opening) × (new.seat.seen ≡ mid.seat.seen)
-after_alone end mid new after told = ⊎_elim
+after_alone end given messages mid new after told = ⊎_elim
     (λ (same : new ≡ mid). (ap (λ (s : Standing). s.seat.opening) same, ap (λ (s : Standing). s.seat.seen) same))
-    (λ (gave : (end ≡ ended.Memory) × GivesUp mid new). (gave.1.stays.follows.opening, gave.1.stays.alone told ∙ append-nil mid.seat.seen))
+    (λ (gave : (end ≡ ended.Memory) × IsAbandoned given messages mid new). (gave.1.gave.stays.follows.opening, gave.1.gave.stays.alone told ∙ append-nil mid.seat.seen))
     after
 
 -- a connection of the only caller
@@ -108,10 +109,10 @@ module _ (old new : Standing) (streams streams' : Streams) (end : Ended) (points
   still_told = subst IsSome (sym (served.stays.stamp alone.stamp alone.latest).1) refl
 
   pub opening_same : new.seat.opening ≡ old.seat.opening
-  opening_same = (after_alone end served.mid new served.after still_told).0 ∙ served.stays.follows.opening
+  opening_same = (after_alone end served.given (map (λ s. s.message) served.steps) served.mid new served.after still_told).0 ∙ served.stays.follows.opening
 
   pub log_made : new.seat.seen ≡ old.seat.seen ++ flat_map (λ s. s.made) served.steps
-  log_made = (after_alone end served.mid new served.after still_told).1 ∙ served.stays.alone (is_told old alone)
+  log_made = (after_alone end served.given (map (λ s. s.message) served.steps) served.mid new served.after still_told).1 ∙ served.stays.alone (is_told old alone)
 
   pub all_at_once : All (λ p. (p ≡ plain_point) ⊎ IsAtOnce p) points
   all_at_once =

@@ -1,8 +1,9 @@
 -- Over a shop that one caller has, each turn of a browser is settled at once, and the log is what the changes made.
-use Rattle.std.proofs.Common.{◌≡◌, false, true, ℕ, ◌≤◌, List, [], ◌∷◌, ◌++◌, map, Option, Some, Result, Ok, Err, OnErr, inl, inr, arith, refl, sym, subst, ◌∙◌, ap}
+use Rattle.std.proofs.Common.{◌≡◌, false, true, ℕ, ◌≤◌, List, [], ◌∷◌, ◌++◌, map, Option, Some, Result, Ok, Err, OnErr, ◌⊎◌, inl, inr, arith, refl, sym, subst, ◌∙◌, ap}
 use Rattle.std.specs.Prelude.{All, IsErr, MatchResult, flat_map}
 use Rattle.std.proofs.lemmas.List.{map-append}
 use Rattle.std.proofs.lemmas.List.Elements.{All-cons, All-nil}
+use Rattle.std.proofs.lemmas.Bool.{false≢true}
 use Rattle.shop_text.specs.declared.memory.Memory.{Memory}
 use Rattle.shop_edges.specs.Gateways.{Answered}
 use Rattle.shop_edges.specs.declared.gateway.Answer.{Answer}
@@ -22,7 +23,8 @@ use Rattle.shop_words.specs.declared.command.Drive.{Drive}
 use Rattle.shop_engine.specs.Workers.{WorkerState, standing}
 use Rattle.shop_engine.proofs.cited.Fresh.{all_fresh}
 use Rattle.shop_app.specs.declared.driven.Driven.{Driven}
-use Rattle.shop_app.specs.Driving.{DroveTo, NotedAs, Outside, TellsOf, Unfinished, first_browsers, first_stage}
+use Rattle.shop_app.specs.Driving.{DroveTo, Outside, Unfinished, first_browsers, first_stage}
+use Rattle.shop_app.specs.Noted.{NotedAs, TellsOf}
 use Rattle.shop_app.specs.Session.{IsFirst, first_seat, first_standing, moment_as, moments_of}
 use Rattle.shop_app.specs.Summaries.{drive_lines}
 use Rattle.shop_app.proofs.AloneLemmas.{IsAlone, IsQuick, alone_next, quick, stamps_of}
@@ -43,9 +45,6 @@ turns_stamped from to (turn ∷ turns) (next, is, are) alone =
     ∙ ap (λ (l : List ℕ). moment_as turn.step.point.moment turn.step.point.kind ++ l)
     (turns_stamped next to turns are (alone_next _ from.worker next.worker turn.step (asked turn.step.message) is.asks.answered alone))
 
-no_error : false ≡ true → ⊥
-no_error e = cc
-
 -- what holds anyway holds where memory ran out
 pub on_err : {A : Type 0} (P : Type 0) (result : Result A Memory) → P → OnErr result P
 on_err P (Ok value) holds = tt
@@ -57,7 +56,7 @@ pub noted_by : (marked : ℕ → ℕ → Type 0) (all : List Answer) (from to : 
 noted_by marked all from to steps tally answers (Ok driven) drives (is, same) first =
     let drove : (drove : Drove from to steps driven.tally) × AreFresh marked to drove.turns = subst (Drives marked from to steps) is drives in
     (drove.0, drove.1, same ∙ first)
-noted_by marked all from to steps (Ok tally) answers (Err memory) drives failed first = absurd (no_error failed)
+noted_by marked all from to steps (Ok tally) answers (Err memory) drives failed first = absurd (false≢true failed)
 noted_by marked all from to steps (Err gone) answers (Err memory) drives failed first = drives
 
 -- where the browsers of the words and the first worker stand
@@ -105,11 +104,20 @@ module _ (drive : Drive) (from to : Stage) (old new : Outside) (all : List Answe
       injected : {xs ys : List Answer} → ◌≡◌ {A = Option (List Answer)} (Some xs) (Some ys) → xs ≡ ys
       injected e = cc
 
-  stopped_short : StoppedAmid from to drive.steps → Unfinished drive old new
-  stopped_short amid = inr (to, inl (rw is_first at amid), clock, failed, kept)
+  abbrev Went : Type 0
+  Went = StoppedAmid (first_stage drive old.clock old.failures) to drive.steps ⊎ ((tally : Tally) × Drove (first_stage drive old.clock old.failures) to drive.steps tally)
 
-  driven_short : (tally : Tally) → Drove from to drive.steps tally → Unfinished drive old new
-  driven_short tally drove = inr (to, inr (tally, rw is_first at drove), clock, failed, kept)
+  broken_off : Went → to.worker.told ≡ Some all → Answered old.told new.told all → Unfinished drive old new
+  broken_off went noted told = inr (record {
+    after = to;
+    all = all;
+    went = went;
+    noted = noted;
+    told = told;
+    clock = clock;
+    failed = failed;
+    kept = kept;
+  })
 
   pub drove_by : (marked : ℕ → ℕ → Type 0) (result : Result Driven Memory) (book : BookValue) (lines : List ℕ) → NotedAs marked all from to drive.steps result → TellsOf result book lines → to.worker.told ≡ Some all
       → Answered old.told new.told all → IsLawful to.worker.seat.opening to.worker.seat.seen → book.opening.tables ≡ to.worker.seat.opening → book.log ≡ to.worker.seat.seen → DroveTo drive old new lines
@@ -117,6 +125,6 @@ module _ (drive : Drive) (from to : Stage) (old new : Outside) (all : List Answe
       let all_of : (drove : Drove from to drive.steps driven.tally) × AreFresh marked to drove.turns × (driven.answers ≡ firsts all) = subst (NotedAs marked all from to drive.steps) is noted in
       drove_to marked driven.tally driven.answers book lines all_of.0 all_of.1 all_of.2 said told lawful opened entries printed
 
-  pub unfinished : (marked : ℕ → ℕ → Type 0) (result : Result Driven Memory) → NotedAs marked all from to drive.steps result → Unfinished drive old new
-  unfinished marked (Ok driven) (drove, fresh, same) = driven_short driven.tally drove
-  unfinished marked (Err memory) amid = stopped_short amid
+  pub unfinished : (marked : ℕ → ℕ → Type 0) (result : Result Driven Memory) → NotedAs marked all from to drive.steps result → to.worker.told ≡ Some all → Answered old.told new.told all → Unfinished drive old new
+  unfinished marked (Ok driven) (drove, fresh, same) = broken_off (inr (driven.tally, rw is_first at drove))
+  unfinished marked (Err memory) amid = broken_off (inl (rw is_first at amid))

@@ -4,12 +4,11 @@ use Rattle.std.specs.Prelude.{flat_map, nat_le, ◌&&◌, if◌then◌else◌}
 use Rattle.std.specs.List.{All, AllZip, Contains, concat, range_with_len}
 use Rattle.std.proofs.lemmas.List.Folds.{concat-append}
 use Rattle.std.proofs.lemmas.List.FromFn.{map-range_with_len_more}
-use Rattle.std.proofs.lemmas.Bool.{cases_lt, eq-eqb, leb-true}
+use Rattle.std.proofs.lemmas.Bool.{cases_lt, eq-eqb, leb-true, false≢true}
 use Rattle.std.proofs.lemmas.List.{get_or_append_left, get_or-append_right}
 use Rattle.std.proofs.lemmas.List.Elements.{All-cons, All-nil, All-contains}
 use Rattle.std.proofs.lemmas.Option.{get_or_from_slice_get, slice_get_within}
 use Rattle.shop_log.specs.Histories.{Extends}
-use Rattle.shop_edges.specs.Clocks.{IsTwin}
 use Rattle.shop_edges.specs.Starts.{Spawning}
 use Rattle.shop_edges.specs.declared.gateway.Answer.{Answer}
 use Rattle.shop_gateway.specs.Verdicts.{AreVerdicts}
@@ -102,9 +101,6 @@ contains_later y xs x has = (suc has.0, omega (arith, has.1), has.2)
 contains_first : {A : Type 0} (y : A) (xs : List A) → Contains (y ∷ xs) y
 contains_first y xs = (0, omega arith, refl)
 
-differ : false ≡ true → ⊥
-differ e = cc
-
 -- a caller who has no entry made none
 none_made : (c : ℕ) (log : List Entry) → entries_of c log ≡ [] → All (λ (e : Entry). ¬ (e.caller ≡ c)) log
 none_made c [] none = All-nil (λ (e : Entry). ¬ (e.caller ≡ c))
@@ -112,7 +108,7 @@ none_made c (e ∷ log) none = by (e.caller == c) refl (none_made c log)
   where
     by : (b : Bool) → (e.caller == c) ≡ b → (entries_of c log ≡ [] → All (λ (x : Entry). ¬ (x.caller ≡ c)) log) → All (λ (x : Entry). ¬ (x.caller ≡ c)) (e ∷ log)
     by true is rest = let some : e ∷ entries_of c log ≡ [] = rw is at none in absurd (omega (arith, ap length some))
-    by false is rest = All-cons (λ (x : Entry). ¬ (x.caller ≡ c)) e log (λ same. differ (sym is ∙ eq-eqb e.caller c same)) (rest (rw is at none))
+    by false is rest = All-cons (λ (x : Entry). ¬ (x.caller ≡ c)) e log (λ same. false≢true (sym is ∙ eq-eqb e.caller c same)) (rest (rw is at none))
 
 abbrev desk_of : RacedValue → DeskValue
 desk_of one = one.desk
@@ -198,7 +194,7 @@ module _ {C : Type 0} (readings : C → Option (List ℕ)) (race : Race) (clock 
 
     -- where a caller begins
     stage_is : (number : ℕ) (task : TaskValue C) → IsFirstTask readings race clock (new_desk opens.opens.table (new_book race.shop) callers number) task
-        → first_stage readings task ≡ first_stage_at (shop_name opens.opens.table (opening_view (new_book race.shop) callers).origin) race number (readings task.clock)
+        → first_stage readings task ≡ first_stage_at (shop_name opens.opens.table (opening_view (new_book race.shop) callers).origin) race number clock
     unfolding first_seat_at new_book
     stage_is number task first = λ i. record {
       worker = record {
@@ -206,7 +202,7 @@ module _ {C : Type 0} (readings : C → Option (List ℕ)) (race : Race) (clock 
         progress = at_first;
         kept = [];
         seat = seat_of (first.desk_is i);
-        clock = readings task.clock;
+        clock = first.readings_are i;
         told = Some [];
       };
       browsers = new_browser (first.caller i).seed (first.caller i).number (first.mix_is i) (first.caller i).scale ∷ [];
@@ -219,7 +215,7 @@ module _ {C : Type 0} (readings : C → Option (List ℕ)) (race : Race) (clock 
         let r = racer number least most in
         let shop = shop_name opens.opens.table (opening_view (new_book race.shop) callers).origin in
         let after : Stage = r.kept.after in
-        let begins : Stage = first_stage_at shop race number (readings r.task.clock) in
+        let begins : Stage = first_stage_at shop race number clock in
         let marked : ℕ → ℕ → Type 0 = marks_of r.one.desk in
         let moved : (drove : Drove begins after race.steps r.one.tally) × AreFresh marked after drove.turns
         = subst (λ (s : Stage × ℕ). (drove : Drove s.0 after s.1 r.one.tally) × AreFresh marked after drove.turns) (λ i. (stage_is number r.task r.first i, r.first.steps_are i)) r.kept.drives in
@@ -231,8 +227,6 @@ module _ {C : Type 0} (readings : C → Option (List ℕ)) (race : Race) (clock 
         let caller : after.worker.seat.caller ≡ r.one.desk.number = ap (λ (s : Seat). s.caller) r.kept.seat in
         record {
           shop = shop;
-          readings = readings r.task.clock;
-          twin = r.first.twin;
           after = after;
           tally = r.one.tally;
           drove = drove;
@@ -413,11 +407,11 @@ posted_at session all number table desk index is named valid = record {
 
 -- the task of a desk
 pub first_task : {C : Type 0} (readings : C → Option (List ℕ)) (race : Race) (clock : Option (List ℕ)) (desk : DeskValue) (number : ℕ) (task : TaskValue C) (twin : C)
-    → task ≡ record { desk = desk; clock = twin; caller = caller_of race.shop number; mix = race.mix; steps = race.steps } → desk.number ≡ number → IsTwin clock (readings twin) → IsFirstTask readings race clock desk task
+    → task ≡ record { desk = desk; clock = twin; caller = caller_of race.shop number; mix = race.mix; steps = race.steps } → desk.number ≡ number → readings twin ≡ clock → IsFirstTask readings race clock desk task
 first_task readings race clock desk number task twin is same told = record {
   desk_is = ap (λ (t : TaskValue _). t.desk) is;
   caller = ap (λ (t : TaskValue _). t.caller) is ∙ ap (caller_of race.shop) (sym same);
-  twin = subst (λ c. IsTwin clock (readings c)) (sym (ap (λ (t : TaskValue _). t.clock) is)) told;
+  readings_are = ap (λ (t : TaskValue _). readings t.clock) is ∙ told;
   mix_is = ap (λ (t : TaskValue _). t.mix) is;
   steps_are = ap (λ (t : TaskValue _). t.steps) is;
 }

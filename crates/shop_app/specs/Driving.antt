@@ -1,5 +1,5 @@
 -- What a drive does, by its status.
-use Rattle.std.specs.Prelude.{◌≡◌, ◌≤◌, ◌⊎◌, ℕ, List, [], map, All, Option, Some, Result, Ok, Err}
+use Rattle.std.specs.Prelude.{◌≡◌, ◌≤◌, ◌⊎◌, ℕ, List, [], map, All, Option, Some}
 use Rattle.std.specs.List.{flat_map, range_with_len}
 use Rattle.std.specs.Io.KnownBytes.{Appends}
 use Rattle.shop_edges.specs.Causes.{Rose}
@@ -14,11 +14,9 @@ use Rattle.shop_browsers.specs.Browsers.{BrowserState, new_browser}
 use Rattle.shop_engine.specs.Lists.{IsFreshIn}
 use Rattle.shop_engine.specs.Steps.{plain_point}
 use Rattle.shop_drive.specs.declared.tally.Tally.{Tally}
-use Rattle.shop_drive.specs.Drives.{AreFresh, Drove, StoppedAmid, points_of}
+use Rattle.shop_drive.specs.Drives.{Drove, StoppedAmid, points_of}
 use Rattle.shop_drive.specs.Turns.{Stage}
-use Rattle.shop_text.specs.declared.memory.Memory.{Memory}
 use Rattle.shop_words.specs.declared.command.Drive.{Drive}
-use Rattle.shop_app.specs.declared.driven.Driven.{Driven}
 use Rattle.shop_app.specs.declared.status.Status.{Status}
 use Rattle.shop_app.specs.declared.status.Status.TheVariants as status
 use Rattle.shop_app.specs.Session.{IsAtOnce, Run, first_standing, moments_of}
@@ -63,22 +61,21 @@ pub record DroveTo (drive : Drive) (old new : Outside) (lines : List ℕ) : Type
   pub entries : book.log ≡ after.worker.seat.seen
   pub printed : lines ≡ drive_lines tally (firsts (flat_map (λ t. t.step.answers) drove.turns)) book
 
--- browsers were driven from one stage to another, where the store keeps these marks, and these were the first answers
--- among all that the gateway gave; or memory ran out
-abbrev pub NotedAs : (ℕ → ℕ → Type 0) → List Answer → Stage → Stage → ℕ → Result Driven Memory → Type 0
-NotedAs marked all from to steps (Ok driven) =
-    (drove : Drove from to steps driven.tally) × AreFresh marked to drove.turns × (driven.answers ≡ firsts all)
-NotedAs marked all from to steps (Err memory) = StoppedAmid from to steps
+-- memory ran out amid the turns, or behind them: how far they went, and what the gateway answered until then
+pub record BreaksOff (drive : Drive) (old new : Outside) : Type 0 where
+  pub after : Stage
+  pub all : List Answer
+  pub went : StoppedAmid (first_stage drive old.clock old.failures) after drive.steps
+      ⊎ ((tally : Tally) × Drove (first_stage drive old.clock old.failures) after drive.steps tally)
+  pub noted : after.worker.told ≡ Some all
+  pub told : Answered old.told new.told all
+  pub clock : after.worker.clock ≡ new.clock
+  pub failed : after.failures ≡ new.failures
+  pub kept : old.failures ≤ new.failures
 
--- the browsers were driven, and the lines tell of it over this book
-abbrev pub TellsOf : Result Driven Memory → BookValue → List ℕ → Type 0
-TellsOf result book lines = (driven : Driven) × (result ≡ Ok driven) × (lines ≡ drive_lines driven.tally driven.answers book)
-
--- memory ran out: before any turn, amid the turns, or behind them
+-- memory ran out, before any turn or later
 abbrev pub Unfinished : Drive → Outside → Outside → Type 0
-Unfinished drive old new = (new ≡ old) ⊎ ((after : Stage)
-    × (StoppedAmid (first_stage drive old.clock old.failures) after drive.steps ⊎ ((tally : Tally) × Drove (first_stage drive old.clock old.failures) after drive.steps tally))
-    × (after.worker.clock ≡ new.clock) × (after.failures ≡ new.failures) × (old.failures ≤ new.failures))
+Unfinished drive old new = (new ≡ old) ⊎ BreaksOff drive old new
 
 -- what the status of a drive says; nothing is read, and where memory runs out nothing is written
 abbrev pub IsDriven : Drive → Run → Run → Status → Type 0

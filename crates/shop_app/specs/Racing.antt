@@ -5,7 +5,6 @@ use Rattle.std.specs.Io.KnownBytes.{Appends}
 use Rattle.atomic_table.specs.Seated.{TableId}
 use Rattle.shop_log.specs.Histories.{Extends}
 use Rattle.shop_edges.specs.Causes.{Rose}
-use Rattle.shop_edges.specs.Clocks.{IsTwin}
 use Rattle.shop_edges.specs.Starts.{Spawning}
 use Rattle.shop_edges.specs.Streams.{AppendsFront}
 use Rattle.shop_gateway.specs.Verdicts.{verdict}
@@ -18,12 +17,13 @@ use Rattle.shop_book.specs.Books.{BookValue}
 use Rattle.shop_turn.specs.Desks.{DeskValue, seat_of}
 use Rattle.shop_turn.specs.Shops.{Opens, new_desk}
 use Rattle.shop_browsers.specs.Browsers.{new_browser}
-use Rattle.shop_engine.specs.Failures.{RoseBy, failures}
+use Rattle.shop_engine.specs.Failures.{failures}
 use Rattle.shop_engine.specs.Lists.{IsFreshIn}
 use Rattle.shop_engine.specs.Workers.{Caller, at_first}
 use Rattle.shop_drive.specs.declared.tally.Tally.{Tally}
 use Rattle.shop_drive.specs.Drives.{Drove, greatest_moment, points_of}
 use Rattle.shop_drive.specs.Turns.{Stage}
+use Rattle.shop_tasks.specs.Counts.{counted}
 use Rattle.shop_tasks.specs.TaskValues.{TaskValue}
 use Rattle.shop_words.specs.declared.command.Race.{Race}
 use Rattle.shop_words.specs.declared.command.Session.{Session}
@@ -74,7 +74,7 @@ first_stage_at shop race number clock = record {
 pub record IsFirstTask {C : Type 0} (readings : C → Option (List ℕ)) (race : Race) (clock : Option (List ℕ)) (desk : DeskValue) (task : TaskValue C) : Type 0 where
   pub desk_is : task.desk ≡ desk
   pub caller : task.caller ≡ caller_of race.shop desk.number
-  pub twin : IsTwin clock (readings task.clock)
+  pub readings_are : readings task.clock ≡ clock
   pub mix_is : task.mix ≡ race.mix
   pub steps_are : task.steps ≡ race.steps
 
@@ -99,11 +99,9 @@ pub record OpensRace {C : Type 0} (readings : C → Option (List ℕ)) (race : R
 -- fresh of it; the gateway never failed, and each of its verdicts is that of an empty ledger
 pub record RacedBy (race : Race) (clock : Option (List ℕ)) (log : List Entry) (number : ℕ) : Type 0 where
   pub shop : List ℕ
-  pub readings : Option (List ℕ)
-  pub twin : IsTwin clock readings
   pub after : Stage
   pub tally : Tally
-  pub drove : Drove (first_stage_at shop race number readings) after race.steps tally
+  pub drove : Drove (first_stage_at shop race number clock) after race.steps tally
   pub grows : Extends after.worker.seat.seen log
   pub made : entries_of number log ≡ flat_map (λ t. t.step.made) drove.turns
   pub fresh : All (IsFreshIn log) (points_of drove.turns)
@@ -137,9 +135,9 @@ IsUnraced old new _ = ⊥
 -- what the status of a race says; unless all browsers took their turns, nothing is written
 abbrev pub IsRaced : Race → Option (List ℕ) → Shared → Shared → Status → Type 0
 IsRaced race clock old new status.Done = (lines : List ℕ) × RacedTo race clock lines × Appends old.held new.held lines
-    × RoseBy old.spawning.starts race.workers new.spawning.starts
+    × (new.spawning.starts ≡ counted race.workers old.spawning.starts)
 IsRaced race clock old new status.WriteFault = (lines : List ℕ) × RacedTo race clock lines × AppendsFront old.held new.held lines
-    × RoseBy old.spawning.starts race.workers new.spawning.starts × Rose old.writes new.writes
+    × (new.spawning.starts ≡ counted race.workers old.spawning.starts) × Rose old.writes new.writes
 IsRaced race clock old new status.WorkerFault = Rose old.spawning.faults new.spawning.faults × (new.held ≡ old.held)
 IsRaced race clock old new status.Memory = new.held ≡ old.held
 IsRaced race clock old new _ = ⊥

@@ -2,6 +2,7 @@
 use Rattle.std.specs.Prelude.{◌≡◌, ◌⊎◌, ℕ, List, Option, Some, codes, slice_get}
 use Rattle.std.specs.Io.KnownBytes.{Appends}
 use Rattle.shop_edges.specs.Causes.{Rose}
+use Rattle.shop_edges.specs.Streams.{AppendsFront}
 use Rattle.shop_words.specs.declared.command.Command.{Command}
 use Rattle.shop_words.specs.declared.command.Command.TheVariants as command
 use Rattle.shop_words.specs.Commands.{IsCommand}
@@ -31,6 +32,7 @@ abbrev pub IsRun : List (List ℕ) → Run → Run → Status → Type 0
 IsRun words old new outcome =
     ((outcome ≡ status.Memory) × (new ≡ old)) ⊎ ((given : Command) × IsCommand words given × Obeys given old new outcome)
 
--- the line of a status stands on the faults sink, or that sink failed
+-- the line of a status stands on the faults sink, or that sink failed, and a front of the line stands there
 abbrev pub IsTold : Option (List ℕ) → Option (List ℕ) → ℕ → ℕ → Status → Type 0
-IsTold held held' faults faults' outcome = Appends held held' (fault_line outcome) ⊎ Rose faults faults'
+IsTold held held' faults faults' outcome =
+    Appends held held' (fault_line outcome) ⊎ (AppendsFront held held' (fault_line outcome) × Rose faults faults')

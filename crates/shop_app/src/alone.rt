@@ -1,4 +1,6 @@
 ghost use Rattle.std.specs.Prelude.{◌≡◌, ◌≢◌, ◌≤◌, IfOk};
+ghost use Rattle.std.specs.Arc.{arc_value};
+ghost use Rattle.shop_model.specs.lists.Catalogues.{catalogue};
 ghost use Rattle.shop_words.specs.declared.command.Command.{Command};
 ghost use Rattle.shop_words.specs.Commands.{IsCommand};
 ghost use Rattle.shop_app.specs.Statuses as spec;
@@ -10,6 +12,7 @@ use crate::driven::drive_browsers;
 use shop_book::{Book, Solo};
 use shop_edges::{Clock, Gateway, Sink, Source, write_all};
 use shop_engine::{Ended, Worker, serve_connection};
+use shop_model::Tables;
 use shop_populate::populate;
 use shop_search::Index;
 use shop_text::{Memory, Text};
@@ -75,13 +78,21 @@ fn run<S: Source, K: Sink, C: Clock, G: Gateway>(
     }
 }
 
+/// The index of the items of tables, which workers may share.
+pub(crate) fn index_of(alloc: Global, tables: &Tables) -> Result<Arc<Index, Global>, Memory>
+    ensures { IfOk result (λ index. arc_value index ≡ catalogue tables.now) }
+{
+    let index = Index::build(alloc, tables)?;
+    let index = Arc::new(alloc, index)?;
+    Ok(index)
+}
+
 /// A worker of caller 1, who has the shop of a session alone, that has served no request.
 pub fn first_worker(alloc: Global, asked: Session) -> Result<Worker<Solo>, Memory>
     ensures { IfOk result (IsFirst asked) }
 {
     let tables = populate(alloc, asked.seed, &asked.scale)?;
-    let index = Index::build(alloc, &tables)?;
-    let index = Arc::new(alloc, index)?;
+    let index = index_of(alloc, &tables)?;
     let book = Book::open(alloc, tables, LIMIT)?;
     Worker::new(
         alloc,

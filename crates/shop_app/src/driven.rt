@@ -7,6 +7,7 @@ ghost use Rattle.shop_book.specs.Solos.{marks_of, seat_of};
 ghost use Rattle.shop_engine.specs.Workers.{standing};
 ghost use Rattle.shop_drive.specs.Drives.{Drives};
 ghost use Rattle.shop_app.specs.Driving as spec;
+ghost use Rattle.shop_app.specs.Noted.{NotedAs, TellsOf};
 ghost use Rattle.shop_app.specs.Session.{IsFirst};
 ghost use Rattle.shop_app.specs.Summaries.{drive_lines};
 
@@ -53,7 +54,7 @@ fn first_browsers(alloc: Global, asked: &Drive) -> Result<Vec<Browser>, Memory>
 }
 
 /// Drives browsers, notes what the gateway answers, and gives it back.
-fn drive_noting<'a, C: Clock, G: Gateway, T: Told>(
+fn drive_and_give_back<'a, C: Clock, G: Gateway, T: Told>(
     alloc: Global,
     worker: &mut Worker<Solo>,
     clock: &mut C,
@@ -65,7 +66,7 @@ fn drive_noting<'a, C: Clock, G: Gateway, T: Told>(
     requires told { G.answers gateway.old ≡ T.told }
     ensures name { result.gateway.ghost_name ≡ gateway.entry.ghost_name }
     ensures driven { (all : List AnswerValue) × Answered (G.answers gateway.old) (G.answers result.gateway.now) all
-        × spec.NotedAs (marks_of worker.new.store) all (record { worker = standing seat_of worker.old (C.readings clock.old) (Some []); browsers = browsers.old; failures = G.faults gateway.old })
+        × NotedAs (marks_of worker.new.store) all (record { worker = standing seat_of worker.old (C.readings clock.old) (Some []); browsers = browsers.old; failures = G.faults gateway.old })
         (record { worker = standing seat_of worker.new (C.readings clock.new) (Some all); browsers = browsers.new; failures = G.faults result.gateway.now })
         steps result.outcome }
     ensures lawful { IsLawful (seat_of worker.new.store).opening (seat_of worker.new.store).seen }
@@ -84,7 +85,7 @@ fn drive_noting<'a, C: Clock, G: Gateway, T: Told>(
 }
 
 /// Drives browsers, and notes what the gateway answers.
-fn drive_noted<C: Clock, G: Gateway>(
+fn drive_with_notes<C: Clock, G: Gateway>(
     alloc: Global,
     worker: &mut Worker<Solo>,
     clock: &mut C,
@@ -93,13 +94,15 @@ fn drive_noted<C: Clock, G: Gateway>(
     steps: u32,
 ) -> Result<Driven, Memory>
     ensures driven { (all : List AnswerValue) × Answered (G.answers gateway.old) (G.answers gateway.new) all
-        × spec.NotedAs (marks_of worker.new.store) all (record { worker = standing seat_of worker.old (C.readings clock.old) (Some []); browsers = browsers.old; failures = G.faults gateway.old })
+        × NotedAs (marks_of worker.new.store) all (record { worker = standing seat_of worker.old (C.readings clock.old) (Some []); browsers = browsers.old; failures = G.faults gateway.old })
         (record { worker = standing seat_of worker.new (C.readings clock.new) (Some all); browsers = browsers.new; failures = G.faults gateway.new })
         steps result }
     ensures lawful { IsLawful (seat_of worker.new.store).opening (seat_of worker.new.store).seen }
     ensures later { G.faults gateway.old ≤ G.faults gateway.new }
 {
-    drive_noting::<C, G, Brand>(alloc, worker, clock, gateway, browsers, steps).into_outcome()
+    drive_and_give_back::<C, G, Brand>(
+        alloc, worker, clock, gateway, browsers, steps,
+    ).into_outcome()
 }
 
 /// The lines that tell what a drive came to.
@@ -111,8 +114,12 @@ fn lines_of(alloc: Global, driven: &Driven, book: &Book) -> Result<Text, Memory>
 }
 
 /// The lines of a drive, where memory did not run out.
-fn lines_for(alloc: Global, driven: &Result<Driven, Memory>, book: &Book) -> Result<Text, Memory>
-    ensures { IfOk result (spec.TellsOf driven.now book.now) }
+fn lines_if_driven(
+    alloc: Global,
+    driven: &Result<Driven, Memory>,
+    book: &Book,
+) -> Result<Text, Memory>
+    ensures { IfOk result (TellsOf driven.now book.now) }
 {
     match driven {
         Ok(driven) => lines_of(alloc, driven, book),
@@ -121,7 +128,7 @@ fn lines_for(alloc: Global, driven: &Result<Driven, Memory>, book: &Book) -> Res
 }
 
 /// Drives the browsers over the first worker; the lines that tell what came of it.
-fn told_by<C: Clock, G: Gateway>(
+fn drive_first_worker<C: Clock, G: Gateway>(
     alloc: Global,
     asked: &Drive,
     mut browsers: Vec<Browser>,
@@ -136,7 +143,7 @@ fn told_by<C: Clock, G: Gateway>(
     ensures err { OnErr result (spec.Unfinished asked.now (record { clock = C.readings clock.old; told = G.answers gateway.old; failures = G.faults gateway.old })
         (record { clock = C.readings clock.new; told = G.answers gateway.new; failures = G.faults gateway.new })) }
 {
-    let driven = drive_noted(
+    let driven = drive_with_notes(
         alloc,
         &mut worker,
         clock,
@@ -145,11 +152,11 @@ fn told_by<C: Clock, G: Gateway>(
         asked.steps,
     );
     let book = worker.into_store().into_book();
-    lines_for(alloc, &driven, &book)
+    lines_if_driven(alloc, &driven, &book)
 }
 
 /// Drives the browsers that the words name over a shop of their own; the lines that tell what came of it.
-fn told<C: Clock, G: Gateway>(
+fn drive_new_shop<C: Clock, G: Gateway>(
     alloc: Global,
     asked: &Drive,
     clock: &mut C,
@@ -162,7 +169,7 @@ fn told<C: Clock, G: Gateway>(
 {
     let browsers = first_browsers(alloc, asked)?;
     let worker = first_worker(alloc, asked.shop)?;
-    told_by(alloc, asked, browsers, worker, clock, gateway)
+    drive_first_worker(alloc, asked, browsers, worker, clock, gateway)
 }
 
 /// Drives browsers, and prints what came of it.
@@ -179,7 +186,7 @@ pub(crate) fn drive_browsers<K: Sink, C: Clock, G: Gateway>(
         result }
     ensures good_words { result ≢ Status.BadWords }
 {
-    match told(alloc, &asked, clock, gateway) {
+    match drive_new_shop(alloc, &asked, clock, gateway) {
         Ok(lines) => {
             if write_all(sink, lines.bytes()) {
                 Status::Done

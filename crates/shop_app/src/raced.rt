@@ -1,16 +1,17 @@
 //! The command `race`.
 ghost use Rattle.std.specs.Prelude.{◌≡◌, ◌≢◌, ◌+◌, ◌≤◌, length, IfOk, OnOk, IfErr};
 ghost use Rattle.std.specs.Arc.{arc_value};
-ghost use Rattle.shop_engine.specs.Failures.{RoseBy};
 ghost use Rattle.shop_engine.specs.Workers.{IsPosted};
 ghost use Rattle.shop_model.specs.lists.Catalogues.{catalogue};
 ghost use Rattle.shop_model.specs.population.Population.{populated};
+ghost use Rattle.shop_tasks.specs.Counts.{counted};
 ghost use Rattle.shop_turn.specs.Desks.{seat_of};
 ghost use Rattle.shop_turn.specs.Shops.{Opens, most_callers};
+ghost use Rattle.shop_app.specs.RaceEnds.{TellsOfRan};
 ghost use Rattle.shop_app.specs.Racing as spec;
 
 use crate::Status;
-use crate::alone::LIMIT;
+use crate::alone::{LIMIT, index_of};
 use crate::summary::race_lines;
 use shop_book::Book;
 use shop_edges::{Clock, Sink, Spawner, write_all};
@@ -36,8 +37,7 @@ fn open_shop<R: Wait + Clone + Drop>(
     ensures index { IfOk result (λ opened. arc_value opened.1 ≡ catalogue (populated asked.seed asked.scale)) }
 {
     let tables = populate(alloc, asked.seed, &asked.scale)?;
-    let index = Index::build(alloc, &tables)?;
-    let index = Arc::new(alloc, index)?;
+    let index = index_of(alloc, &tables)?;
     let book = Book::open(alloc, tables, LIMIT)?;
     let desks = Shop::open(rt, alloc, book, callers)?;
     Ok((desks, index))
@@ -87,7 +87,10 @@ fn tasks_of<R: Wait + Drop, C: Clock + Drop>(
     for desk in desks {
         number += 1;
         let index = Arc::try_clone(index)?;
-        tasks.push(task_of(alloc, asked, desk, number, index, clock.twin()))?;
+        let Some(clock) = clock.twin() else {
+            return Err(Memory);
+        };
+        tasks.push(task_of(alloc, asked, desk, number, index, clock))?;
     }
     Ok(tasks)
 }
@@ -110,6 +113,20 @@ fn open_race<R: Wait + Clone + Drop, C: Clock + Drop>(
     Ok((own, tasks))
 }
 
+/// The lines that tell what came of tasks, or why there are none.
+fn lines_of(alloc: Global, ran: &Ran, workers: u32) -> Result<Text, Status>
+    ensures { TellsOfRan workers ran.now result }
+{
+    match ran {
+        Ran::Done(book) => match race_lines(alloc, book, workers) {
+            Ok(lines) => Ok(lines),
+            Err(Memory) => Err(Status::Memory),
+        },
+        Ran::NotStarted(_) => Err(Status::WorkerFault),
+        Ran::Memory => Err(Status::Memory),
+    }
+}
+
 /// Has the browsers take their turns; the lines that tell what came of it, or why there are none.
 fn told<R: Threads + Wait + Clone + Drop + Send + 'static, C: Clock + Drop + Send + 'static>(
     rt: &R,
@@ -120,20 +137,14 @@ fn told<R: Threads + Wait + Clone + Drop + Send + 'static, C: Clock + Drop + Sen
 ) -> Result<Text, Status>
     requires { spec.IsWithin asked.now }
     ensures ok { IfOk result (spec.RacedTo asked.now (C.readings clock.now)) }
-    ensures starts { OnOk result (RoseBy spawner.old.starts asked.now.workers spawner.new.starts) }
+    ensures starts { OnOk result (spawner.new.starts ≡ counted asked.now.workers spawner.old.starts) }
     ensures err { IfErr result (spec.IsUnraced spawner.old spawner.new) }
 {
     let Ok((own, tasks)) = open_race(rt, alloc, asked, clock) else {
         return Err(Status::Memory);
     };
-    match race(rt, alloc, spawner, own, tasks) {
-        Ran::Done(book) => match race_lines(alloc, &book, asked.workers) {
-            Ok(lines) => Ok(lines),
-            Err(Memory) => Err(Status::Memory),
-        },
-        Ran::NotStarted => Err(Status::WorkerFault),
-        Ran::Memory => Err(Status::Memory),
-    }
+    let ran = race(rt, alloc, spawner, own, tasks);
+    lines_of(alloc, &ran, asked.workers)
 }
 
 /// Has the browsers take their turns, and prints what came of it.

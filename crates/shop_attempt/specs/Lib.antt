@@ -1,4 +1,5 @@
 pub mod Reads
+pub mod Conflicts
 pub mod Stocks
 pub mod StockView
 pub mod Writes

@@ -1,5 +1,5 @@
 -- What an attempt read, and how it stands to the log.
-use Rattle.std.specs.Prelude.{◌≡◌, ◌≢◌, ℕ, ◌-◌, ◌==◌, ◌<◌, ◌≤◌, List, [], ◌∷◌, length, Option, Some, None, slice_get, if◌then◌else◌}
+use Rattle.std.specs.Prelude.{◌≡◌, ◌==◌, ◌≤◌, List, [], ◌∷◌, length, Option, Some, None, if◌then◌else◌}
 use Rattle.shop_log.specs.Histories as histories
 use Rattle.shop_model.specs.declared.tables.Tables.{Tables}
 use Rattle.shop_model.specs.rows.Sound.{Sound, Room}
@@ -38,16 +38,6 @@ first_stale t log (read ∷ reads) =
     if version_of t log read.key == read.version
     then first_stale t log reads
     else Some (record { key = read.key; read = read.version; found = version_of t log read.key })
-
--- a row was changed after it was read, by the entry that the version found names
-pub record IsOvertaken (t : Tables) (log : List Entry) (c : Conflict) : Type 0 where
-  pub later : c.read < c.found
-  pub changed : histories.ChangedAt history t log c.key c.found
-
--- and that entry is another caller's
-pub record IsConflict (t : Tables) (log : List Entry) (caller : ℕ) (c : Conflict) : Type 0 where
-  pub overtaken : IsOvertaken t log c
-  pub other : (entry : Entry) → slice_get log (c.found - 1) ≡ Some entry → entry.caller ≢ caller
 
 -- a read of a key in the log seen
 pub record IsReadOf (seat : Seat) (key : Key) (read : ReadOf) : Type 0 where

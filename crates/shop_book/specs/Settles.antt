@@ -14,7 +14,8 @@ use Rattle.shop_attempt.specs.declared.attempts.Settle.{Settle}
 use Rattle.shop_attempt.specs.declared.attempts.Settle.TheVariants.{Done, Stale, Full, Memory}
 use Rattle.shop_attempt.specs.declared.attempts.Write.{Write}
 use Rattle.shop_attempt.specs.Faithful.{Makes}
-use Rattle.shop_attempt.specs.Reads.{first_stale, IsOvertaken}
+use Rattle.shop_attempt.specs.Reads.{first_stale}
+use Rattle.shop_attempt.specs.Conflicts.{IsOvertaken}
 use Rattle.shop_book.specs.Books.{BookValue, tables_of}
 
 -- the entry of a change, and none where nothing changes

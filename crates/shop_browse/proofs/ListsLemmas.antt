@@ -10,7 +10,8 @@ use Rattle.shop_model.specs.pages.Targets.{nav}
 use Rattle.shop_cache.specs.declared.lines.ListLine.{ListLine}
 use Rattle.shop_draft.specs.Pages.{page_front}
 use Rattle.shop_draft.proofs.cited.PageTexts.{both, written}
-use Rattle.shop_browse.specs.Lists.{lines_in, list_end, page_in}
+use Rattle.shop_browse.specs.Lists.{lines_in, page_in}
+use Rattle.shop_browse.specs.ListEnds.{list_end}
 
 -- the word for no lines
 pub no_lines : (ids : IdsAsked) (lines : List ListLine) → length lines ≡ 0 → lines_in ids lines ≡ Para (codes "Nothing found.") ∷ []

@@ -2,6 +2,7 @@ pub mod Fitting
 pub mod Baskets
 pub mod Footprints
 pub mod Lists
+pub mod ListEnds
 pub mod Attempts
 pub mod Driver
 pub mod Related

@@ -1,6 +1,5 @@
 -- The pages of lists, by their lines, and the lines that tables show.
 use Rattle.std.specs.Prelude.{◌≡◌, ℕ, List, [], ◌∷◌, ◌++◌, map, codes, All, Option, Some, None}
-use Rattle.std.specs.List.{flat_map}
 use Rattle.shop_model.specs.asked.Kinds.{kind_name}
 use Rattle.shop_model.specs.asked.SearchAsked.{SearchAsked}
 use Rattle.shop_model.specs.declared.page.Block.{Block}
@@ -14,7 +13,6 @@ use Rattle.shop_model.specs.declared.requests.Request.TheVariants.{NewProducts, 
 use Rattle.shop_model.specs.declared.tables.Tables.{Tables}
 use Rattle.shop_model.specs.lists.Catalogues.{catalogue, found}
 use Rattle.shop_model.specs.lists.Rankings.{newest, best}
-use Rattle.shop_model.specs.pages.PageText.{block_line}
 use Rattle.shop_model.specs.pages.Targets.{nav}
 use Rattle.shop_model.specs.rows.Subjects.{subject_name}
 use Rattle.shop_history.specs.declared.keys.Key.TheVariants.{Label}
@@ -25,7 +23,6 @@ use Rattle.shop_cache.specs.declared.keys.ListKey.TheVariants.{New, Best, Found}
 use Rattle.shop_cache.specs.declared.lines.ListLine.{ListLine}
 use Rattle.shop_cache.specs.Keys.{key_asked}
 use Rattle.shop_cache.specs.Lines.{line_in}
-use Rattle.shop_draft.specs.Pages.{page_end}
 
 -- pages
 
@@ -33,10 +30,6 @@ use Rattle.shop_draft.specs.Pages.{page_end}
 abbrev pub lines_in : IdsAsked → List ListLine → List Block
 lines_in ids [] = Para (codes "Nothing found.") ∷ []
 lines_in ids (line ∷ lines) = map (line_in ids) (line ∷ lines)
-
--- the text of a list behind its first blocks, to the end of its page
-abbrev pub list_end : IdsAsked → List ListLine → List ℕ
-list_end ids lines = flat_map block_line (lines_in ids lines) ++ (flat_map block_line (nav ids) ++ page_end)
 
 -- the page of a list, with this title and behind these first blocks
 abbrev pub page_in : IdsAsked → List ℕ → List Block → List ListLine → Page

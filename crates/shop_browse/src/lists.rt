@@ -10,6 +10,7 @@ ghost use Rattle.shop_cache.specs.Keys.{key_asked};
 ghost use Rattle.shop_draft.specs.Pages.{Shows};
 ghost use Rattle.shop_draft.specs.Templates.{Says};
 ghost use Rattle.shop_browse.specs.Lists as spec;
+ghost use Rattle.shop_browse.specs.ListEnds.{list_end};
 
 use crate::{best_sellers, new_products, search_results};
 use shop_cache::ListLines;
@@ -33,7 +34,7 @@ fn add_lines(page: &mut Template, ids: IdsAsked, lines: &ListLines) -> Result<()
 
 /// Adds the lines of a list and the links behind them, and ends the page.
 pub(crate) fn finish(page: &mut Template, ids: IdsAsked, lines: &ListLines) -> Result<(), Memory>
-    ensures { OnOk result (Says page.old page.new (spec.list_end ids lines.now)) }
+    ensures { OnOk result (Says page.old page.new (list_end ids lines.now)) }
 {
     add_lines(page, ids, lines)?;
     page.nav(PageIds::of(ids))?;

@@ -2,7 +2,7 @@
 use Rattle.std.proofs.Common.{◌≡◌, ℕ, zero, suc, ◌+◌, ◌<◌, ◌==◌, ◌||◌, ⊎_elim, Bool, true, false, List, [], ◌∷◌, ◌++◌, length, take, drop, get_or, take-append-drop, arith, refl, sym, ap, subst, ◌∙◌, append-nil}
 use Rattle.std.specs.Prelude.{if◌then◌else◌}
 use Rattle.std.specs.List.{All, before_first, after_first, position_or_len}
-use Rattle.std.proofs.lemmas.Bool.{cases_eq, ne_eqb}
+use Rattle.std.proofs.lemmas.Bool.{cases_eq, ne_eqb, false≢true, true≢false}
 use Rattle.std.proofs.lemmas.List.Elements.{All-cons}
 use Rattle.shop_text.specs.Escape.{escape, escape_byte}
 use Rattle.shop_text.proofs.cited.Escaped.{escape_plain, byte_cases}
@@ -14,10 +14,7 @@ none_of p [] = true
 none_of p (x ∷ xs) = if p x then false else none_of p xs
 
 pub none_tail : (b c : Bool) → (if b then false else c) ≡ true → (b ≡ false) × (c ≡ true)
-none_tail true c e = absurd (differ e)
-  where
-    differ : false ≡ true → ⊥
-    differ e = cc
+none_tail true c e = absurd (false≢true e)
 none_tail false c e = (refl, e)
 
 pub none_append : (p : ℕ → Bool) (xs ys : List ℕ) → none_of p xs ≡ true → none_of p ys ≡ true → none_of p (xs ++ ys) ≡ true
@@ -100,19 +97,13 @@ query_escaped (byte ∷ text) = ⊎_elim at_mark (other (query_escaped text)) (c
         ∙ ap escape (sym (after_no (λ b. b == 63) byte text (ne_eqb byte 63 apart)))
 
 neither : (b c : Bool) → (b || c) ≡ false → (b ≡ false) × (c ≡ false)
-neither true c e = absurd (differ e)
-  where
-    differ : true ≡ false → ⊥
-    differ e = cc
+neither true c e = absurd (true≢false e)
 neither false c e = (refl, e)
 
 -- a mark or a quote that is no mark
 pub other_byte : (byte : ℕ) → (byte == 63 || byte == 34) ≡ true → (byte ≡ 63 → ⊥) → byte ≡ 34
 other_byte byte either other =
-    ⊎_elim (λ is. is) (λ no. absurd (differ (sym either ∙ ap (λ b. b || byte == 34) (ne_eqb byte 63 other) ∙ ne_eqb byte 34 no))) (cases_eq byte 34)
-  where
-    differ : true ≡ false → ⊥
-    differ e = cc
+    ⊎_elim (λ is. is) (λ no. absurd (true≢false (sym either ∙ ap (λ b. b || byte == 34) (ne_eqb byte 63 other) ∙ ne_eqb byte 34 no))) (cases_eq byte 34)
 
 -- the query of what stands before a quote
 abbrev query_of : List ℕ → List ℕ

@@ -4,7 +4,7 @@ use Rattle.std.specs.Prelude.{if◌then◌else◌, nat_le}
 use Rattle.std.specs.List.{list_all, starts_with}
 use Rattle.std.specs.Char.{is_ascii_digit}
 use Rattle.std.specs.Str.Parse.{digits_value}
-use Rattle.std.proofs.lemmas.Bool.{ne_eqb, eq-eqb}
+use Rattle.std.proofs.lemmas.Bool.{ne_eqb, eq-eqb, false≢true}
 use Rattle.std.proofs.lemmas.Bool.Decides.{Decides-eqb, nat_tests}
 use Rattle.std.proofs.lemmas.Grind.{flat_map-append}
 use Rattle.std.proofs.lemmas.Int.Digits.{digits_value_push}
@@ -19,12 +19,9 @@ use Rattle.shop_browsers.specs.Scanned.{AreDigits, Begins, IsLeft, Stops, TakesN
 use Rattle.shop_browsers.specs.Shown.{number_behind}
 use Rattle.shop_browsers.proofs.Reading.{all_left}
 
-differ : false ≡ true → ⊥
-differ e = cc
-
 both_true : (b c : Bool) → (b && c) ≡ true → (b ≡ true) × (c ≡ true)
 both_true true c e = (refl, e)
-both_true false c e = absurd (differ e)
+both_true false c e = absurd (false≢true e)
 
 refused : (a b d : Bool) (x : Option ℕ) → (if a && b && false && d then x else None) ≡ None
 refused true true d x = refl
@@ -44,10 +41,10 @@ ArePlain (byte ∷ bytes) = IsPlain byte × ArePlain bytes
 -- a digit stands for itself
 digit_plain : (byte : ℕ) → is_ascii_digit byte ≡ true → IsPlain byte
 digit_plain byte digit = record {
-  amp = λ e. differ (sym (ap is_ascii_digit e) ∙ digit);
-  less = λ e. differ (sym (ap is_ascii_digit e) ∙ digit);
-  more = λ e. differ (sym (ap is_ascii_digit e) ∙ digit);
-  quote = λ e. differ (sym (ap is_ascii_digit e) ∙ digit);
+  amp = λ e. false≢true (sym (ap is_ascii_digit e) ∙ digit);
+  less = λ e. false≢true (sym (ap is_ascii_digit e) ∙ digit);
+  more = λ e. false≢true (sym (ap is_ascii_digit e) ∙ digit);
+  quote = λ e. false≢true (sym (ap is_ascii_digit e) ∙ digit);
 }
 
 pub digits_plain : (digits : List ℕ) → list_all is_ascii_digit digits ≡ true → ArePlain digits
@@ -94,7 +91,7 @@ abbrev pub Follows : List ℕ → List ℕ → List ℕ → List ℕ → Type 0
 Follows front query tail left = (others : List ℕ) × (query ≡ front ++ others) × Begins left others tail
 
 ended_not : (byte : ℕ) (bytes tail : List ℕ) → IsPlain byte → ends tail ≡ true → tail ≡ byte ∷ bytes → ⊥
-ended_not byte bytes tail plain ended is = differ (sym (ne_eqb byte 34 plain.quote) ∙ sym (ap ends is) ∙ ended)
+ended_not byte bytes tail plain ended is = false≢true (sym (ne_eqb byte 34 plain.quote) ∙ sym (ap ends is) ∙ ended)
 
 head_in : List ℕ → ℕ
 head_in [] = 0
@@ -165,7 +162,7 @@ number_cut digits left others tail more byte is stops = by (is_ascii_digit byte)
     by true digit =
         let stands = is ∙ ap (λ these. (these ++ escape others) ++ tail) (escape_plain byte (digit_plain byte digit)) in
         let sizes = length-append digits left in
-        ⊎_elim (λ other. absurd (differ (sym other ∙ digit)))
+        ⊎_elim (λ other. absurd (false≢true (sym other ∙ digit)))
         (λ ten. long_number (digits ++ byte ∷ more) (ten_long digits more byte (omega (arith, ten, ap length stands, sizes))))
         (subst (λ bytes. Stops (digits ++ left) bytes) stands stops)
 
@@ -180,7 +177,7 @@ number_over digits query others plain is over = ap first_pair is ∙ front_pair 
 -- digits that don't end a pair are no number
 pub number_not : (digits left query others tail : List ℕ) → ArePlain digits → query ≡ digits ++ others → left ≡ escape others ++ tail → Stops (digits ++ left) left
     → pair_over others ≡ false → number_of (first_pair query) ≡ None
-number_not digits left query [] tail plain is left_is stops goes = absurd (differ (sym goes))
+number_not digits left query [] tail plain is left_is stops goes = absurd (false≢true (sym goes))
 number_not digits left query (byte ∷ others) tail plain is left_is stops goes =
     ap number_of (ap first_pair is ∙ front_pair digits (byte ∷ others) plain ∙ ap (λ rest. digits ++ rest) (longer goes))
     ∙ number_cut digits left others tail (first_pair others) byte left_is stops
@@ -281,7 +278,7 @@ plain_byte : (byte : ℕ) → (byte == 38) ≡ false → (byte == 60) ≡ false 
 plain_byte byte amp less more quote = record { amp = differs 38 amp; less = differs 60 less; more = differs 62 more; quote = differs 34 quote }
   where
     differs : (n : ℕ) → (byte == n) ≡ false → byte ≡ n → ⊥
-    differs n other e = differ (sym other ∙ eq-eqb byte n e)
+    differs n other e = false≢true (sym other ∙ eq-eqb byte n e)
 
 pub plain_customer : ArePlain (codes "c=")
 plain_customer = (plain_byte 99 refl refl refl refl, (plain_byte 61 refl refl refl refl, tt))

@@ -1,7 +1,7 @@
 -- The links in the text of a page are those of its blocks.
 use Rattle.std.proofs.Common.{◌≡◌, ℕ, ◌==◌, true, false, List, [], ◌∷◌, ◌++◌, map, codes, refl, sym, ap, ◌∙◌, append_assoc, append-nil}
 use Rattle.std.specs.List.{flat_map}
-use Rattle.std.proofs.lemmas.Bool.{ne_eqb, eq-eqb}
+use Rattle.std.proofs.lemmas.Bool.{ne_eqb, eq-eqb, true≢false}
 use Rattle.shop_text.specs.Escape.{escape}
 use Rattle.shop_model.specs.declared.page.Block.{Block}
 use Rattle.shop_model.specs.declared.page.Block.TheVariants.{Heading, Para, Link, Picture, Table, Form}
@@ -22,13 +22,10 @@ abbrev pub Has : List ℕ → List (List ℕ) → Type 0
 Has piece links = (rest : List ℕ) → links_in (piece ++ rest) ≡ links ++ links_in rest
 
 turned : (a b : ℕ) → (a == b) ≡ false → (b == a) ≡ false
-turned a b apart = ne_eqb b a (λ e. differ (sym (same e) ∙ apart))
+turned a b apart = ne_eqb b a (λ e. true≢false (sym (same e) ∙ apart))
   where
     same : b ≡ a → (a == b) ≡ true
     same e = eq-eqb a b (sym e)
-
-    differ : true ≡ false → ⊥
-    differ e = cc
 
 pub has_none : (bytes : List ℕ) → none_of (λ b. b == 60) bytes ≡ true → Has bytes []
 has_none [] none rest = refl

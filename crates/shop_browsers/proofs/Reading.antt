@@ -1,15 +1,12 @@
 -- A query that stands escaped before a tail is read, pair by pair.
 use Rattle.std.proofs.Common.{◌≡◌, ℕ, ◌==◌, Bool, true, false, List, [], ◌∷◌, ◌++◌, Option, Some, None, refl, sym, ap, ◌∙◌, append_assoc, append-nil}
 use Rattle.std.specs.Prelude.{if◌then◌else◌}
-use Rattle.std.proofs.lemmas.Bool.{ne_eqb}
+use Rattle.std.proofs.lemmas.Bool.{ne_eqb, false≢true}
 use Rattle.std.proofs.lemmas.List.Splits.{slice_split_none, slice_split_at}
 use Rattle.shop_text.specs.Escape.{escape, escape_byte, first_read}
 use Rattle.shop_text.proofs.cited.Escaped.{escape_plain, byte_cases, escaped_read}
 use Rattle.shop_browsers.specs.Scanned.{Begins, IsLeft, IsNextPair, ends, first_pair, split}
 use Rattle.shop_browsers.proofs.Escaped.{none_of, none_all}
-
-differ : false ≡ true → ⊥
-differ e = cc
 
 byte_in : Option (ℕ × List ℕ) → ℕ
 byte_in None = 0
@@ -50,7 +47,7 @@ pair_longer byte others other = rw other refl
 
 one_more : (query tail rest after passed : List ℕ) (byte : ℕ) (others : List ℕ) → first_pair query ≡ passed ++ first_pair others → query ≡ passed ++ others
     → rest ≡ escape others ++ tail → ends tail ≡ true → first_read rest ≡ Some (byte, after) → ends rest ≡ false → (byte == 38) ≡ false → IsLeft query tail after
-one_more query tail rest after passed byte [] pair all is ended read goes other = absurd (differ (sym goes ∙ ap ends is ∙ ended))
+one_more query tail rest after passed byte [] pair all is ended read goes other = absurd (false≢true (sym goes ∙ ap ends is ∙ ended))
 one_more query tail rest after passed byte (x ∷ others) pair all is ended read goes other =
     let both = read_is x byte others tail rest after is read in
     let differs : (x == 38) ≡ false = ap (λ b. b == 38) both.0 ∙ other in
@@ -86,7 +83,7 @@ split_last query is = ap split is ∙ slice_split_none (λ b. b == 38) (first_pa
 
 pair_found : (query tail rest after passed others : List ℕ) → first_pair query ≡ passed ++ first_pair others → query ≡ passed ++ others
     → rest ≡ escape others ++ tail → ends tail ≡ true → first_read rest ≡ Some (38, after) → ends rest ≡ false → IsNextPair query tail (Some after)
-pair_found query tail rest after passed [] pair all is ended read goes = absurd (differ (sym goes ∙ ap ends is ∙ ended))
+pair_found query tail rest after passed [] pair all is ended read goes = absurd (false≢true (sym goes ∙ ap ends is ∙ ended))
 pair_found query tail rest after passed (x ∷ others) pair all is ended read goes =
     let both = read_is x 38 others tail rest after is read in
     let whole : first_pair query ≡ passed = pair ∙ ap (λ b. passed ++ first_pair (b ∷ others)) both.0 ∙ append-nil passed in (
@@ -103,7 +100,7 @@ next_found query tail rest after left read goes =
 last_found : (query tail rest passed others : List ℕ) → first_pair query ≡ passed ++ first_pair others → query ≡ passed ++ others
     → rest ≡ escape others ++ tail → ends rest ≡ true → IsNextPair query tail None
 last_found query tail rest passed [] pair all is over = split_last query (all ∙ sym pair)
-last_found query tail rest passed (x ∷ others) pair all is over = absurd (differ (sym (no_end x (escape others) tail) ∙ ap ends (sym is) ∙ over))
+last_found query tail rest passed (x ∷ others) pair all is over = absurd (false≢true (sym (no_end x (escape others) tail) ∙ ap ends (sym is) ∙ over))
 
 -- the target ends
 pub next_none : (query tail rest : List ℕ) → IsLeft query tail rest → ends rest ≡ true → IsNextPair query tail None
@@ -111,7 +108,7 @@ next_none query tail rest left over = last_found query tail rest left.passed lef
 
 -- what is left is read, since it is escaped
 unread : (tail rest others : List ℕ) → rest ≡ escape others ++ tail → ends tail ≡ true → ends rest ≡ false → first_read rest ≡ None → ⊥
-unread tail rest [] is ended goes none = differ (sym goes ∙ ap ends is ∙ ended)
+unread tail rest [] is ended goes none = false≢true (sym goes ∙ ap ends is ∙ ended)
 unread tail rest (x ∷ others) is ended goes none = none_some (x, escape others ++ tail) (sym none ∙ target_read x others tail rest is)
 
 pub next_unread : (query tail rest : List ℕ) → IsLeft query tail rest → ends rest ≡ false → first_read rest ≡ None → IsNextPair query tail None

@@ -1,4 +1,5 @@
 pub mod Keys
 pub mod Lines
+pub mod LineLinks
 pub mod Caches
 pub mod Ends

@@ -1,18 +1,11 @@
 -- The lines of lists, and the links to the pages of their items.
-use Rattle.std.specs.Prelude.{◌≡◌, List, map, codes}
-use Rattle.std.specs.List.{flat_map}
+use Rattle.std.specs.Prelude.{codes}
 use Rattle.shop_model.specs.declared.page.Block.{Block}
 use Rattle.shop_model.specs.declared.requests.IdsAsked.{IdsAsked}
 use Rattle.shop_model.specs.pages.Lists.{line_label}
-use Rattle.shop_model.specs.pages.PageText.{block_line}
 use Rattle.shop_model.specs.pages.Targets.{item_link}
-use Rattle.shop_draft.specs.Links.{LinkTexts, links_with}
 use Rattle.shop_cache.specs.declared.lines.ListLine.{ListLine}
 
 -- a link to the page of the item on a line
 abbrev pub line_in : IdsAsked → ListLine → Block
 line_in ids line = item_link (codes "/product_detail") line.item ids (line_label line.label.title line.label.first line.label.last)
-
--- with whatever ids, they are the links of these lines
-abbrev pub AreLinksOf : List ListLine → LinkTexts → Type 0
-AreLinksOf lines links = (ids : IdsAsked) → links_with ids links ≡ flat_map block_line (map (line_in ids) lines)

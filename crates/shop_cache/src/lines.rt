@@ -3,6 +3,7 @@ ghost use Rattle.std.specs.List.{flat_map};
 ghost use Rattle.shop_model.specs.declared.requests.IdsAsked.{IdsAsked};
 ghost use Rattle.shop_model.specs.pages.PageText.{block_line};
 ghost use Rattle.shop_draft.specs.Links.{links_with};
+ghost use Rattle.shop_cache.specs.LineLinks.{AreLinksOf};
 ghost use Rattle.shop_cache.specs.Lines as spec;
 
 use shop_draft::ItemLinks;
@@ -28,7 +29,7 @@ pub struct ListLines {
 impl Model for ListLines {
     ghost use Rattle.std.specs.Prelude.{List};
     ghost use Rattle.shop_cache.specs.declared.lines.ListLine.{ListLine as LineValue};
-    ghost use Rattle.shop_cache.specs.Lines.{AreLinksOf};
+    ghost use Rattle.shop_cache.specs.LineLinks.{AreLinksOf};
 
     ghost Value = { List LineValue };
 
@@ -39,7 +40,7 @@ impl Model for ListLines {
 
 /// The links of lines.
 fn links_of(alloc: Global, lines: &[ListLine]) -> Result<ItemLinks, Memory>
-    ensures { IfOk result (spec.AreLinksOf lines.now) }
+    ensures { IfOk result (AreLinksOf lines.now) }
 {
     let mut links = ItemLinks::with_capacity(alloc, lines.len())?;
     for line in lines {

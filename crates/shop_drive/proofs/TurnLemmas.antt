@@ -1,5 +1,5 @@
 -- How turns come together, one after another.
-use Rattle.std.proofs.Common.{◌≡◌, ℕ, zero, suc, ◌+◌, ◌-◌, ◌≤◌, ◌<◌, Bool, true, false, not, cond, List, [], ◌∷◌, ◌++◌, length, replicate, Some, Result, Ok, Err, codes, inr, length-append, append_assoc, append-nil, refl, sym, ap, ◌∙◌, arith, subst, slice_set, slice_get, get_or}
+use Rattle.std.proofs.Common.{◌≡◌, ℕ, zero, suc, ◌+◌, ◌-◌, ◌≤◌, ◌<◌, Bool, true, false, not, cond, List, [], ◌∷◌, ◌++◌, length, replicate, Some, Result, Ok, Err, codes, inl, inr, ⊎_elim, length-append, append_assoc, append-nil, refl, sym, ap, ◌∙◌, arith, subst, slice_set, slice_get, get_or}
 use Rattle.std.specs.List.{concat, range_with_len}
 use Rattle.std.specs.Prelude.{IsErr, flat_map, sum_by, count_by}
 use Rattle.std.specs.Str.{bytes_eq}
@@ -7,6 +7,7 @@ use Rattle.std.proofs.lemmas.List.{map-append, length-set, replicate_more, repli
 use Rattle.std.proofs.lemmas.List.Elements.{All-nil}
 use Rattle.std.proofs.lemmas.List.Folds.{concat-append}
 use Rattle.std.proofs.lemmas.List.Sums.{sum_by-append, sum_by-cons}
+use Rattle.std.proofs.lemmas.Bool.{false≢true}
 use Rattle.shop_text.specs.declared.memory.Memory.{Memory}
 use Rattle.shop_attempt.specs.Marks.{KeepsMarks}
 use Rattle.shop_attempt.specs.Seats.{Follows}
@@ -31,14 +32,13 @@ use Rattle.shop_engine.specs.Lists.{IsFreshPoint}
 use Rattle.shop_engine.specs.Steps.{Answers, Step, IsStep, IsStepFor, GivesUp, form_of}
 use Rattle.shop_engine.specs.declared.report.Point.{Point}
 use Rattle.shop_engine.specs.Workers.{Standing}
-use Rattle.shop_engine.proofs.ConnectionLemmas.{nothing_begun}
 use Rattle.shop_engine.proofs.KeptLemmas.{points_more}
 use Rattle.shop_engine.proofs.Seats.{stays_same}
 use Rattle.shop_engine.proofs.cited.Stepping.{step_last, stays_then, told_then}
 use Rattle.shop_drive.specs.declared.tally.Tally.{Tally}
-use Rattle.shop_drive.specs.Drives.{AreFresh, Drives, StoppedAmid, in_turn, places_of, points_of}
+use Rattle.shop_drive.specs.Drives.{AreFresh, Drives, StoppedAmid, StopsAt, in_turn, places_of, points_of}
 use Rattle.shop_drive.specs.Tallies.{counted, no_requests, tally_of}
-use Rattle.shop_drive.specs.Turns.{Pair, Stage, Turn, Asks, IsTurn, AreTurns, TurnAs, is_page, pair_at}
+use Rattle.shop_drive.specs.Turns.{Pair, Stage, Turn, Asks, GivesUpFor, IsTurn, AreTurns, TurnAs, is_page, pair_at}
 
 -- the page of a reply
 
@@ -229,37 +229,56 @@ not_begun from steps = record {
   run = refl;
   left = in_turn (length from.browsers) steps;
   order = refl;
-  gave = nothing_begun from.worker;
+  gave = inl refl;
 }
 
 -- memory ran out in a turn
 pub stopped : (marked : ℕ → ℕ → Type 0) (from now to : Stage) (steps round place : ℕ) (tally : Tally) → SoFar marked from now tally (in_turn (length from.browsers) round ++ range_with_len 0 place)
-    → round < steps → place < length from.browsers → GivesUp now.worker to.worker → StoppedAmid from to steps
-stopped marked from now to steps round place tally so_far early inside gave = record {
+    → round < steps → place < length from.browsers → (browser : BrowserState) → slice_get now.browsers place ≡ Some browser → GivesUpFor (pair_at now browser) to.worker → StoppedAmid from to steps
+stopped marked from now to steps round place tally so_far early inside browser there gave = record {
   turns = so_far.turns;
   mid = now;
   run = so_far.run;
   left = range_with_len place (length from.browsers - place) ++ in_turn (length from.browsers) (steps - (round + 1));
   order = places_left (length from.browsers) steps round place early inside
       ∙ ap (λ (l : List ℕ). l ++ (range_with_len place (length from.browsers - place) ++ in_turn (length from.browsers) (steps - (round + 1)))) (sym so_far.order);
-  gave = gave;
+  gave = inr (record {
+    place = place;
+    behind = range_with_len (place + 1) (length from.browsers - (place + 1)) ++ in_turn (length from.browsers) (steps - (round + 1));
+    next = ap (λ k. range_with_len place k ++ in_turn (length from.browsers) (steps - (round + 1)))
+        (let one : length from.browsers - place ≡ suc (length from.browsers - (place + 1)) = omega (arith, inside) in one);
+    browser = browser;
+    there = there;
+    gave = gave;
+  });
 }
 
 -- by the result, where memory ran out
 
-differ : false ≡ true → ⊥
-differ e = cc
-
-pub turn_failed : (marked : ℕ → ℕ → Type 0) (from to : Pair) (result : Result Bool Memory) → IsErr result → GivesUp from.worker to.worker → TurnAs marked from to result
-turn_failed marked from to (Ok good) failed gave = absurd (differ failed)
+pub turn_failed : (marked : ℕ → ℕ → Type 0) (from to : Pair) (result : Result Bool Memory) → IsErr result → GivesUpFor from to.worker → TurnAs marked from to result
+turn_failed marked from to (Ok good) failed gave = absurd (false≢true failed)
 turn_failed marked from to (Err memory) failed gave = gave
 
 pub drive_failed : (marked : ℕ → ℕ → Type 0) (from to : Stage) (steps : ℕ) (result : Result Tally Memory) → IsErr result → StoppedAmid from to steps → Drives marked from to steps result
-drive_failed marked from to steps (Ok tally) failed amid = absurd (differ failed)
+drive_failed marked from to steps (Ok tally) failed amid = absurd (false≢true failed)
 drive_failed marked from to steps (Err memory) failed amid = amid
 
 -- whatever came of it, the seat follows
+
+stands : (from to : Standing) → to ≡ from → Follows from.seat to.seat
+stands from to same = subst (λ (s : Standing). Follows from.seat s.seat) (sym same) (stays_same from.seat from.progress.last).follows
+
+follows_for : (from : Pair) (to : Standing) → GivesUpFor from to → Follows from.worker.seat to.seat
+follows_for from to gave = ⊎_elim
+    (λ (same : to ≡ from.worker). stands from.worker to same)
+    (λ (given : (message : Message) × AreMessages (message_bytes from.browser) (message ∷ []) Between × GivesUp (asked message) from.worker to). given.2.stays.follows)
+    gave
+
 pub drives_follow : (marked : ℕ → ℕ → Type 0) (from to : Stage) (steps : ℕ) (result : Result Tally Memory) → Drives marked from to steps result → Follows from.worker.seat to.worker.seat
 drives_follow marked from to steps (Ok tally) (drove, fresh) = drove.stays.follows
 drives_follow marked from to steps (Err memory) amid =
-    follows_trans from.worker.seat amid.mid.worker.seat to.worker.seat (stays_of from amid.mid amid.turns amid.run).follows amid.gave.stays.follows
+    follows_trans from.worker.seat amid.mid.worker.seat to.worker.seat (stays_of from amid.mid amid.turns amid.run).follows
+    (⊎_elim
+    (λ (same : to.worker ≡ amid.mid.worker). stands amid.mid.worker to.worker same)
+    (λ (stop : StopsAt amid.mid amid.left to.worker). follows_for (pair_at amid.mid stop.browser) to.worker stop.gave)
+    amid.gave)

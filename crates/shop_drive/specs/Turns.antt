@@ -1,9 +1,11 @@
 -- The turns of browsers.
-use Rattle.std.specs.Prelude.{◌≡◌, ℕ, nat_eq, Bool, false, List, [], ◌∷◌, Some, Result, Ok, Err, codes, slice_get, slice_set}
+use Rattle.std.specs.Prelude.{◌≡◌, ◌⊎◌, ℕ, nat_eq, Bool, false, List, [], ◌∷◌, Some, Result, Ok, Err, codes, slice_get, slice_set}
 use Rattle.std.specs.List.{starts_with}
 use Rattle.shop_text.specs.declared.memory.Memory.{Memory}
+use Rattle.shop_message.specs.declared.messages.Message.{Message}
 use Rattle.shop_message.specs.Messages.{AreMessages, Between}
 use Rattle.shop_model.specs.declared.page.Page.{Page}
+use Rattle.shop_http.specs.Requests.{asked}
 use Rattle.shop_pages.specs.Replies.{reply}
 use Rattle.shop_browsers.specs.Browsers.{BrowserState, after_request}
 use Rattle.shop_browsers.specs.Requests.{message_bytes}
@@ -32,11 +34,17 @@ pub record Asks (from to : Pair) (step : Step) (page : Page) : Type 0 where
 abbrev pub is_page : List ℕ → Bool
 is_page reply = starts_with nat_eq reply (codes "HTTP/1.1 200 ")
 
+-- memory ran out before the browser was answered: nothing was begun, or it asked by one message, whose answer was
+-- given up
+abbrev pub GivesUpFor : Pair → Standing → Type 0
+GivesUpFor from to = (to ≡ from.worker)
+    ⊎ ((message : Message) × AreMessages (message_bytes from.browser) (message ∷ []) Between × GivesUp (asked message) from.worker to)
+
 -- what came of a browser's turn; a list that was kept is fresh by what the store marks after it
 abbrev pub TurnAs : (ℕ → ℕ → Type 0) → Pair → Pair → Result Bool Memory → Type 0
 TurnAs marked from to (Ok good) =
     (step : Step) × (page : Page) × Asks from to step page × (good ≡ is_page step.reply) × IsFreshPoint marked to.worker.seat.seen step.point
-TurnAs marked from to (Err memory) = GivesUp from.worker to.worker
+TurnAs marked from to (Err memory) = GivesUpFor from to.worker
 
 -- where a worker and all browsers stand
 pub record Stage : Type 0 where

@@ -8,6 +8,7 @@ use Rattle.shop_model.specs.asked.PurchaseAsked.{PurchaseAsked}
 use Rattle.shop_model.specs.rows.Lookups.{row_numbered}
 use Rattle.shop_model.specs.rows.Rows.{CustomerRow}
 use Rattle.shop_model.specs.trade.Sales.{price_of}
+use Rattle.shop_edges.specs.declared.charge.Call.{Call}
 use Rattle.shop_edges.specs.declared.gateway.Reason.{Reason}
 use Rattle.shop_edges.specs.declared.gateway.Reason.TheVariants.{Reused, Stolen, Limit}
 
@@ -25,11 +26,11 @@ pub record IsCharge (charge : ChargeValue) : Type 0 where
   pub number : IsCardNumber charge.number
   pub expiry : IsMonth charge.expiry
 
--- the charge of so many cents to the card of a purchase, which a caller asks for in a call
-abbrev pub charge_to : PurchaseAsked → ℕ → ℕ → ℕ → ChargeValue
-charge_to asked caller call cents = record {
-  caller = caller;
-  call = call;
+-- the charge of so many cents to the card of a purchase, which is asked for in a call
+abbrev pub charge_to : PurchaseAsked → Call → ℕ → ChargeValue
+charge_to asked call cents = record {
+  caller = call.caller;
+  call = call.number;
   cents = cents;
   card = asked.payment.card;
   number = asked.payment.number;
@@ -42,8 +43,8 @@ cents_due t asked None = 0
 cents_due t asked (Some customer) = (price_of t customer asked.cart).total
 
 -- what a purchase is charged
-abbrev pub charge_due : Tables → PurchaseAsked → ℕ → ℕ → ChargeValue
-charge_due t asked caller call = charge_to asked caller call (cents_due t asked (row_numbered t.customers asked.c))
+abbrev pub charge_due : Tables → PurchaseAsked → Call → ChargeValue
+charge_due t asked call = charge_to asked call (cents_due t asked (row_numbered t.customers asked.c))
 
 -- the refusal that tells why a card was denied
 abbrev pub denial : Reason → told.Refusal

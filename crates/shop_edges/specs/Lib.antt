@@ -4,7 +4,6 @@ pub mod Pieces
 pub mod Clocks
 pub mod BytesInView
 pub mod BytesOutView
-pub mod ListClockView
 pub mod Adapters
 pub mod Charges
 pub mod ChargeView

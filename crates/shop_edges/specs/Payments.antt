@@ -1,6 +1,7 @@
 -- How often a gateway is asked: never for the charge that it answered last.
 use Rattle.std.specs.Prelude.{◌≡◌, ◌≢◌, ℕ, ◌≤◌, List, [], ◌∷◌, length, All, Option, Some, None}
 use Rattle.shop_model.specs.asked.PurchaseAsked.{PurchaseAsked}
+use Rattle.shop_edges.specs.declared.charge.Call.{Call}
 use Rattle.shop_edges.specs.declared.gateway.Answer.{Answer}
 use Rattle.shop_edges.specs.Charges.{ChargeValue, charge_to}
 use Rattle.shop_edges.specs.Gateways.{Answered}
@@ -15,15 +16,15 @@ abbrev pub Keeps : Option Answer → List Answer → Option Answer → Type 0
 Keeps kept [] now = now ≡ kept
 Keeps kept (answer ∷ answers) now = IsOther kept answer.charge × Keeps (Some answer) answers now
 
--- an answer to a charge for a purchase, which a caller asks for in a call
-pub record IsFor (asked : PurchaseAsked) (caller call : ℕ) (answer : Answer) : Type 0 where
+-- an answer to a charge for a purchase, which is asked for in a call
+pub record IsFor (asked : PurchaseAsked) (call : Call) (answer : Answer) : Type 0 where
   pub cents : ℕ
-  pub charge : answer.charge ≡ charge_to asked caller call cents
+  pub charge : answer.charge ≡ charge_to asked call cents
 
 -- a gateway was asked once at most, for a purchase, and not for the charge of the answer that was kept
-pub record AsksOnce (asked : PurchaseAsked) (caller call : ℕ) (kept now : Option Answer) (told told' : Option (List Answer)) : Type 0 where
+pub record AsksOnce (asked : PurchaseAsked) (call : Call) (kept now : Option Answer) (told told' : Option (List Answer)) : Type 0 where
   pub answers : List Answer
   pub few : length answers ≤ 1
-  pub charges : All (IsFor asked caller call) answers
+  pub charges : All (IsFor asked call) answers
   pub keeps : Keeps kept answers now
   pub answered : Answered told told' answers

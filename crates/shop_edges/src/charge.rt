@@ -3,6 +3,13 @@ ghost use Rattle.std.specs.Prelude.{◌≡◌, ◌↔◌, IsTrue};
 use shop_model::{CardNumber, CardType, Month};
 use std::marker::Model;
 
+/// A call of a caller: which of its accepted requests, counted from 1.
+#[derive(Clone, Copy)]
+pub struct Call {
+    pub caller: u32,
+    pub number: u64,
+}
+
 /// What a gateway is to take from a card. Caller, call and cents together are its key.
 #[derive(Debug, Drop)]
 pub struct Charge {

@@ -28,7 +28,7 @@ mod writer_sink;
 
 pub use bytes_in::BytesIn;
 pub use bytes_out::BytesOut;
-pub use charge::Charge;
+pub use charge::{Call, Charge};
 pub use clock::Clock;
 pub use gateway::{Answer, Gateway, Reason, Verdict};
 pub use job::Job;

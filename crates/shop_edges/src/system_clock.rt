@@ -31,7 +31,7 @@ impl<T: rt::Clock + Copy> SystemClock<T> {
 }
 
 impl<T: rt::Clock + Copy> Clock for SystemClock<T> {
-    ghost use Rattle.std.specs.Prelude.{◌≡◌, None};
+    ghost use Rattle.std.specs.Prelude.{◌≡◌, None, IfSome};
 
     ghost readings = { λ _. None };
 
@@ -46,12 +46,12 @@ impl<T: rt::Clock + Copy> Clock for SystemClock<T> {
         self.last
     }
 
-    fn twin(&self) -> SystemClock<T>
-        ensures { result ≡ self.now }
+    fn twin(&self) -> Option<SystemClock<T>>
+        ensures { IfSome result (λ twin. twin ≡ self.now) }
     {
-        SystemClock {
+        Some(SystemClock {
             system: self.system,
             last: self.last,
-        }
+        })
     }
 }

@@ -13,7 +13,7 @@ use Rattle.shop_edges.proofs.cited.Answering.{answered_nothing, answered_more}
 use Rattle.shop_history.specs.declared.acts.Entry.{Entry}
 use Rattle.shop_history.specs.Logs.{history, version_of}
 use Rattle.shop_attempt.specs.declared.attempts.Conflict.{Conflict}
-use Rattle.shop_attempt.specs.Reads.{IsConflict}
+use Rattle.shop_attempt.specs.Conflicts.{IsConflict}
 use Rattle.shop_attempt.specs.Seats.{Seat, Follows}
 use Rattle.shop_engine.specs.declared.tries.Job.{Job}
 use Rattle.shop_engine.specs.declared.tries.Tried.{Tried}

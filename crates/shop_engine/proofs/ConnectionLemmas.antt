@@ -1,5 +1,5 @@
 -- What the steps of a connection leave together, and how what it has met goes on by one message.
-use Rattle.std.proofs.Common.{◌≡◌, ℕ, ◌+◌, ◌≤◌, ◌==◌, inr, Bool, false, List, [], ◌∷◌, ◌++◌, length, length-append, append-nil, refl, sym, ap, ◌∙◌, arith, subst, map, None}
+use Rattle.std.proofs.Common.{◌≡◌, ℕ, ◌+◌, ◌≤◌, ◌==◌, inr, Bool, false, List, [], ◌∷◌, ◌++◌, length, length-append, append-nil, refl, sym, ap, ◌∙◌, arith, subst, map, None, Result, Ok, Err}
 use Rattle.std.specs.declared.option.Option.{Option}
 use Rattle.std.specs.List.{concat}
 use Rattle.std.specs.Prelude.{flat_map, sum_by}
@@ -15,12 +15,14 @@ use Rattle.shop_edges.proofs.cited.Known.{Appends-nothing, Appends-more, Consume
 use Rattle.shop_message.specs.declared.messages.Message.{Message}
 use Rattle.shop_message.specs.Nexts.{GivesMessage}
 use Rattle.shop_message.proofs.cited.Beginnings.{HaveCome-none, HaveCome-message}
+use Rattle.shop_model.specs.declared.requests.Request.{Request}
+use Rattle.shop_http.specs.declared.requests.Refusal.{Refusal}
 use Rattle.shop_attempt.specs.Seats.{Seat}
 use Rattle.shop_engine.specs.declared.report.Point.{Point}
 use Rattle.shop_engine.specs.Connections.{Output, Turn, Adds, MessageAs, Came, SoFar}
 use Rattle.shop_engine.specs.Served.{Streams}
 use Rattle.shop_engine.specs.Seats.{Stays}
-use Rattle.shop_engine.specs.Steps.{ANSWERS, Step, IsStep, AreSteps, GivesUp}
+use Rattle.shop_engine.specs.Steps.{ANSWERS, Step, IsStep, AreSteps, BeginsOn, GivesUp}
 use Rattle.shop_engine.specs.Workers.{Standing, WorkerState, standing}
 use Rattle.shop_engine.proofs.Seats.{stays_same}
 use Rattle.shop_engine.proofs.cited.Stepping.{step_last, stays_then, told_then}
@@ -57,21 +59,25 @@ told_of answers from to (step ∷ steps) (next, is, are) =
 
 -- memory ran out before anything was done
 
-pub nothing_begun : (now : Standing) → GivesUp now now
-nothing_begun now = record {
-  accepts = inr refl;
+not_begun : (asks : Result Request Refusal) (now : Standing) → BeginsOn asks now now []
+not_begun (Ok request) now = inr (refl, refl)
+not_begun (Err refusal) now = (refl, refl)
+
+pub nothing_begun : (asks : Result Request Refusal) (now : Standing) → GivesUp asks now now
+nothing_begun asks now = record {
+  answers = [];
+  begins = not_begun asks now;
   settles = 0;
   few = omega arith;
   stays = stays_same now.seat now.progress.last;
-  answers = [];
   few_answers = omega arith;
   told = answered_nothing now.told;
   key = None;
   kept = refl;
 }
 
-pub left_alone : (from to : Standing) → to ≡ from → GivesUp from to
-left_alone from to same = subst (GivesUp from) (sym same) (nothing_begun from)
+pub left_alone : (asks : Result Request Refusal) (from to : Standing) → to ≡ from → GivesUp asks from to
+left_alone asks from to same = subst (GivesUp asks from) (sym same) (nothing_begun asks from)
 
 pub still_standing : {St : Type 0} (seat_of : St → Seat) (old new : WorkerState St) (clock : Option (List ℕ)) (told : Option (List Answer))
     → new ≡ record { store = old.store; caller = old.caller; progress = old.progress; kept = old.kept; reply = new.reply } → standing seat_of new clock told ≡ standing seat_of old clock told

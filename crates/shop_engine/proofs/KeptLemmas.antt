@@ -10,6 +10,7 @@ use Rattle.shop_model.specs.declared.requests.NewProducts.{NewProducts as NewAsk
 use Rattle.shop_model.specs.asked.SearchAsked.{SearchAsked}
 use Rattle.shop_model.specs.declared.tables.Tables.{Tables}
 use Rattle.shop_model.specs.pages.Show.{show}
+use Rattle.shop_edges.specs.declared.charge.Call.{Call}
 use Rattle.shop_history.specs.declared.acts.Entry.{Entry}
 use Rattle.shop_history.specs.Logs.{tables}
 use Rattle.shop_cache.specs.declared.cache.Kept.{Kept}
@@ -22,7 +23,6 @@ use Rattle.shop_attempt.specs.Marks.{KeepsMarks}
 use Rattle.shop_attempt.specs.Seats.{Seat, Follows}
 use Rattle.shop_browse.specs.Lists.{AreLines, items_on, page_by}
 use Rattle.shop_browse.proofs.cited.Lists.{listed_shown}
-use Rattle.shop_order.specs.Payments.{Call}
 use Rattle.shop_pages.specs.declared.reply.Form.{Form}
 use Rattle.shop_pages.specs.Replies.{reply}
 use Rattle.shop_engine.specs.declared.report.Point.{Point}
@@ -30,7 +30,8 @@ use Rattle.shop_engine.specs.declared.report.PointKind.{PointKind}
 use Rattle.shop_engine.specs.declared.report.PointKind.TheVariants as kind
 use Rattle.shop_engine.specs.Decided.{CauseAs, Decision, IsDecided}
 use Rattle.shop_engine.specs.Keeping.{IsFoundList, KeepsLines, found_for, kept_now}
-use Rattle.shop_engine.specs.Lists.{AreKept, IsFresh, IsFreshAs, IsFreshPoint, IsKept, IsMarkedFresh, looked_for}
+use Rattle.shop_engine.specs.Lists.{IsFresh, IsFreshAs, IsFreshPoint, IsMarkedFresh, looked_for}
+use Rattle.shop_engine.specs.Keeping.{AreKept, IsKept}
 use Rattle.shop_engine.specs.Payments.{AreFor}
 use Rattle.shop_engine.specs.Steps.{KeepsAs}
 use Rattle.shop_engine.specs.Tries.{HasLines, LeavesMark}

@@ -1,5 +1,5 @@
 -- The last try, and what came of all of them.
-use Rattle.std.proofs.Common.{◌≡◌, ℕ, ◌+◌, ◌<◌, refl, List, [], ◌++◌, append_assoc, Option, Some, None, IsSome, sym, ◌∙◌, ap, subst, arith}
+use Rattle.std.proofs.Common.{◌≡◌, ◌≤◌, ℕ, ◌+◌, ◌<◌, refl, List, [], ◌++◌, append_assoc, Option, Some, None, IsSome, sym, ◌∙◌, ap, subst, arith}
 use Rattle.std.specs.Prelude.{IfSome}
 use Rattle.std.proofs.lemmas.Option.{IfSome_then}
 use Rattle.shop_model.specs.declared.refusal.Refusal.TheVariants.{RowsKeptChanging}
@@ -35,10 +35,11 @@ at_end now = record { seat = now.seat; kept = None; told = now.told }
 
 -- memory ran out
 
-module _ (start old new : Trying) (job : Job) (conflicts : List Conflict) (count : ℕ) (few : count < 8) (so_far : MetSoFar start old job conflicts count) (bytes : List ℕ) where
+module _ (start old new : Trying) (job : Job) (conflicts : List Conflict) (count : ℕ) (few : count < 8) (so_far : MetSoFar start old job conflicts count) (caller : start.seat.caller ≡ job.call.caller) (bytes : List ℕ) where
   given_up : (tried : Tried) → IsTried old new job bytes tried → StaysWithin old.seat new.seat [] 1 job.ask.moment → IsGivenUp start (at_end new) job
   given_up tried is more = record {
     answers = so_far.answers ++ is.answers;
+    asks = asked_for new.seat job (so_far.answers ++ is.answers) new.kept (more.stays.follows.caller ∙ so_far.stays.follows.caller ∙ caller) (all_asked start old new job conflicts count so_far bytes tried is);
     few = omega (arith, few, few_more start old new job conflicts count so_far bytes tried is);
     told = all_told start old new job conflicts count so_far bytes tried is;
     stays = within_trans start.seat old.seat new.seat [] [] count 1 8 job.ask.moment so_far.stays more (omega (arith, few));
@@ -58,6 +59,16 @@ module _ (start old new : Trying) (job : Job) (conflicts : List Conflict) (count
       let stays : Stays old.seat new.seat [] 1 job.ask.moment
       = subst (λ (l : List Entry). Stays old.seat new.seat l 1 job.ask.moment) denied.2.decided.cause.1.0 denied.2.decided.stays in
       given_up (Denied reason front) is (within_of old.seat new.seat [] 1 1 job.ask.moment stays (omega arith))
+
+-- behind all the tries
+pub behind_all : (start now : Trying) (job : Job) (conflicts : List Conflict) (count : ℕ) → count ≤ 8 → start.seat.caller ≡ job.call.caller → MetSoFar start now job conflicts count → IsGivenUp start (at_end now) job
+behind_all start now job conflicts count most caller so_far = record {
+  answers = so_far.answers;
+  asks = asked_for now.seat job so_far.answers now.kept (so_far.stays.follows.caller ∙ caller) so_far.asked;
+  few = omega (arith, most, so_far.few);
+  told = so_far.told;
+  stays = within_of start.seat now.seat [] count 8 job.ask.moment so_far.stays most;
+}
 
 -- what decided the last try decided the request, whose point has so many tries
 
@@ -190,7 +201,7 @@ denial_decides kept reason front tries charge result decides kept_is P there =
     IfSome_then result decides (λ outcome is. subst P (sym (is (record { charge = charge; verdict = verdict.Denied reason }) kept_is)) there)
 
 -- all the tries met conflicts
-pub busy_is : (start now : Trying) (job : Job) (bytes : List ℕ) (conflicts : List Conflict) (count : ℕ) → count ≡ 8 → now.seat.caller ≡ job.caller → MetSoFar start now job conflicts count
+pub busy_is : (start now : Trying) (job : Job) (bytes : List ℕ) (conflicts : List Conflict) (count : ℕ) → count ≡ 8 → now.seat.caller ≡ job.call.caller → MetSoFar start now job conflicts count
     → bytes ≡ reply (page_of RowsKeptChanging) job.form → IsOutcome start (at_end now) job bytes (record { kind = kind.Busy conflicts; front = 0; tries = 8; lines = None })
 busy_is start now job bytes conflicts count all caller so_far bytes_are = record {
   answers = so_far.answers;

@@ -6,18 +6,18 @@ use Rattle.shop_model.specs.declared.requests.Request.{Request}
 use Rattle.shop_model.specs.declared.requests.Request.TheVariants.{BuyConfirm}
 use Rattle.shop_model.specs.declared.tables.Tables.{Tables}
 use Rattle.shop_model.specs.asked.PurchaseAsked.{PurchaseAsked}
+use Rattle.shop_edges.specs.declared.charge.Call.{Call}
 use Rattle.shop_edges.specs.declared.gateway.Answer.{Answer}
 use Rattle.shop_edges.specs.Gateways.{Answered}
-use Rattle.shop_edges.specs.Payments.{Keeps, AsksOnce}
+use Rattle.shop_edges.specs.Payments.{Keeps, IsFor, AsksOnce}
 use Rattle.shop_edges.proofs.cited.Answering.{answered_nothing, answered_more}
 use Rattle.shop_history.specs.declared.acts.Act.{Act}
 use Rattle.shop_history.specs.declared.acts.Act.TheVariants.{Cart, Enter, Confirm, Admin}
 use Rattle.shop_attempt.specs.Seats.{Seat}
 use Rattle.shop_browse.specs.Attempts.{IsFree}
-use Rattle.shop_order.specs.Payments.{Call}
 use Rattle.shop_engine.specs.declared.tries.Job.{Job}
 use Rattle.shop_engine.specs.Payments.{AreFor}
-use Rattle.shop_engine.specs.Tries.{IsAnswerTo, IsPaidFor, HasAsked, Trying, Asks, called_by}
+use Rattle.shop_engine.specs.Tries.{IsAnswerTo, IsPaidFor, HasAsked, Trying, Asks}
 
 -- the answer that is kept
 
@@ -53,43 +53,48 @@ are_for : (request : Request) (call : Call) (answers : List Answer) (kept : Opti
 are_for (BuyConfirm asked) call answers kept charges keeps = ((kept, keeps), charges)
 are_for _ call answers kept charges keeps = none_asked answers charges
 
+-- nothing was asked
+pub asked_none : (request : Request) (call : Call) → AreFor request call []
+asked_none (BuyConfirm asked) call = ((None, refl), All-nil (IsFor asked call))
+asked_none _ call = refl
+
 -- by the caller who has a seat
-pub asked_for : (seat : Seat) (job : Job) (answers : List Answer) (kept : Option Answer) → seat.caller ≡ job.caller → HasAsked job answers kept
-    → AreFor job.request.now (record { caller = seat.caller; number = job.call }) answers
+pub asked_for : (seat : Seat) (job : Job) (answers : List Answer) (kept : Option Answer) → seat.caller ≡ job.call.caller → HasAsked job answers kept
+    → AreFor job.request.now (record { caller = seat.caller; number = job.call.number }) answers
 asked_for seat job answers kept caller asked =
-    subst (λ c. AreFor job.request.now (record { caller = c; number = job.call }) answers) (sym caller)
-    (are_for job.request.now (called_by job) answers kept asked.charges asked.keeps)
+    subst (λ c. AreFor job.request.now (record { caller = c; number = job.call.number }) answers) (sym caller)
+    (are_for job.request.now job.call answers kept asked.charges asked.keeps)
 
 pub asked_nothing : (job : Job) → HasAsked job [] None
-asked_nothing job = record { charges = All-nil (IsAnswerTo job.request.now (called_by job)); keeps = refl }
+asked_nothing job = record { charges = All-nil (IsAnswerTo job.request.now job.call); keeps = refl }
 
 -- nothing meanwhile
 pub asks_nothing : (old new : Trying) (job : Job) → new.kept ≡ old.kept → new.told ≡ old.told → Asks old new job []
 asks_nothing old new job kept told = record {
-  charges = All-nil (IsAnswerTo job.request.now (called_by job));
+  charges = All-nil (IsAnswerTo job.request.now job.call);
   keeps = kept;
   told = subst (λ (o : Option (List Answer)). Answered old.told o []) (sym told) (answered_nothing old.told);
 }
 
 -- once at most meanwhile
-pub asks_once : (old new : Trying) (job : Job) (asked : PurchaseAsked) → job.request.now ≡ BuyConfirm asked → (asks : AsksOnce asked job.caller job.call old.kept new.kept old.told new.told)
+pub asks_once : (old new : Trying) (job : Job) (asked : PurchaseAsked) → job.request.now ≡ BuyConfirm asked → (asks : AsksOnce asked job.call old.kept new.kept old.told new.told)
     → Asks old new job asks.answers
 asks_once old new job asked is asks = record {
-  charges = subst (λ (r : Request). All (IsAnswerTo r (called_by job)) asks.answers) (sym is) asks.charges;
+  charges = subst (λ (r : Request). All (IsAnswerTo r job.call) asks.answers) (sym is) asks.charges;
   keeps = asks.keeps;
   told = asks.answered;
 }
 
 pub asks_more : (a b c : Trying) (job : Job) (first then : List Answer) → Asks a b job first → Asks b c job then → Asks a c job (first ++ then)
 asks_more a b c job first then one more = record {
-  charges = All-append (IsAnswerTo job.request.now (called_by job)) first then one.charges more.charges;
+  charges = All-append (IsAnswerTo job.request.now job.call) first then one.charges more.charges;
   keeps = keeps_more a.kept b.kept c.kept first then one.keeps more.keeps;
   told = answered_more a.told b.told c.told first then one.told more.told;
 }
 
 pub has_asked : (job : Job) (before answers : List Answer) (old new : Trying) → HasAsked job before old.kept → Asks old new job answers → HasAsked job (before ++ answers) new.kept
 has_asked job before answers old new asked asks = record {
-  charges = All-append (IsAnswerTo job.request.now (called_by job)) before answers asked.charges asks.charges;
+  charges = All-append (IsAnswerTo job.request.now job.call) before answers asked.charges asks.charges;
   keeps = keeps_more None old.kept new.kept before answers asked.keeps asks.keeps;
 }
 

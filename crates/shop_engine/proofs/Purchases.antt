@@ -34,7 +34,7 @@ use Rattle.shop_order.specs.declared.buy_confirm.Paid.TheVariants as paid
 use Rattle.shop_order.specs.Payments.{PaidAs, PaidFor, IsDenied}
 use Rattle.shop_engine.specs.declared.tries.Job.{Job}
 use Rattle.shop_engine.specs.declared.tries.Tried.TheVariants.{Denied, Failed}
-use Rattle.shop_engine.specs.Tries.{HasAsked, IsPaidFor, MaySettle, TriedAs, asking_for, called_by}
+use Rattle.shop_engine.specs.Tries.{HasAsked, IsPaidFor, MaySettle, TriedAs, asking_for}
 use Rattle.shop_engine.proofs.Payments.{asked_for, kept_said}
 use Rattle.shop_engine.proofs.Seats.{stays_looked, stays_confirmed}
 use Rattle.shop_engine.proofs.SettleLemmas.{agrees_found}
@@ -43,14 +43,14 @@ use Rattle.shop_engine.proofs.SettleLemmas.{agrees_found}
 
 module _ (start now : Seat) (job : Job) (asked : PurchaseAsked) (given : Attempt) (draft : Draft) (kept : Option Answer) (buys : job.request.now ≡ BuyConfirm asked)
     (payable : IsPayable start now (asking_for job) given) where
-  pub paid_is : (result : Paid) → PaidFor (asking_of job.ask (BuyConfirm asked)) asked (called_by job) given draft kept result
-      → PaidAs start now (asking_for job) asked (called_by job) given draft kept result
+  pub paid_is : (result : Paid) → PaidFor (asking_of job.ask (BuyConfirm asked)) asked job.call given draft kept result
+      → PaidAs start now (asking_for job) asked job.call given draft kept result
   paid_is result is =
-      subst (λ (r : Request). PaidAs start now (asking_of job.ask r) asked (called_by job) given draft kept result) (sym buys)
+      subst (λ (r : Request). PaidAs start now (asking_of job.ask r) asked job.call given draft kept result) (sym buys)
       (is start now (subst (λ (r : Request). IsPayable start now (asking_of job.ask r) given) buys payable))
 
-  pub approved_may : (attempt : Attempt) (answers : List Answer) → now.caller ≡ job.caller → HasAsked job answers kept
-      → PaidFor (asking_of job.ask (BuyConfirm asked)) asked (called_by job) given draft kept (paid.Approved attempt) → MaySettle start now job answers draft attempt
+  pub approved_may : (attempt : Attempt) (answers : List Answer) → now.caller ≡ job.call.caller → HasAsked job answers kept
+      → PaidFor (asking_of job.ask (BuyConfirm asked)) asked job.call given draft kept (paid.Approved attempt) → MaySettle start now job answers draft attempt
   approved_may attempt answers caller has is =
       let was = paid_is (paid.Approved attempt) is in
       record {
@@ -60,21 +60,21 @@ module _ (start now : Seat) (job : Job) (asked : PurchaseAsked) (given : Attempt
         ready = was.ready;
         unlisted = λ none. absurd (cc (none, was.act));
         paid = λ t agrees.
-            subst (λ (o : Option Act). IsPaidFor o t (called_by job) answers) (sym was.act)
-            (kept_said answers (record { charge = charge_due t asked job.caller job.call; verdict = verdict.Approved was.auth }) (subst (Keeps None answers) (was.settled t agrees).1 has.keeps));
+            subst (λ (o : Option Act). IsPaidFor o t job.call answers) (sym was.act)
+            (kept_said answers (record { charge = charge_due t asked job.call; verdict = verdict.Approved was.auth }) (subst (Keeps None answers) (was.settled t agrees).1 has.keeps));
       }
 
 -- a settle of a purchase that was denied
 
 pub denied_is : (start old new : Seat) (job : Job) (asked : PurchaseAsked) (kept : Option Answer) (answers : List Answer) (draft : Draft) (attempt : Attempt) (reason : Reason) (drawn : Drawn) (bytes : List ℕ)
-    → Looked start old → Follows old new → IsSeat new → RoseOnce old.settles new.settles → old.caller ≡ job.caller → job.request.now ≡ BuyConfirm asked → HasAsked job answers kept
-    → IsDenied start old (asking_for job) asked (called_by job) draft kept attempt reason → DoneAs old new attempt attempt.act drawn
+    → Looked start old → Follows old new → IsSeat new → RoseOnce old.settles new.settles → old.caller ≡ job.call.caller → job.request.now ≡ BuyConfirm asked → HasAsked job answers kept
+    → IsDenied start old (asking_for job) asked job.call draft kept attempt reason → DoneAs old new attempt attempt.act drawn
     → ((page : Page) → IsPage draft drawn page → bytes ≡ reply page job.form) → TriedAs start new job answers bytes (Denied reason drawn.front)
 denied_is start old new job asked kept answers draft attempt reason drawn bytes looked follows seat rose caller buys has denied done bytes_are =
     let was : Confirmed old new attempt drawn = subst (λ o. DoneAs old new attempt o drawn) denied.reading done in
     let t : Tables = tables new.opening new.seen in
     let settled = denied.settled t (agrees_found old new new.seen attempt follows seat was.accepted.is_found.grows (extends_self new.seen) denied.attempts.faithful was.accepted.fresh) in
-    let charge : ChargeValue = charge_due t asked job.caller job.call in
+    let charge : ChargeValue = charge_due t asked job.call in
     let keeps : Keeps None answers (Some (record { charge = charge; verdict = verdict.Denied reason })) = subst (Keeps None answers) settled.1 has.keeps in (
       charge,
       keeps,
@@ -116,7 +116,7 @@ fresh_alone start now asking (read ∷ reads) same are =
     ∙ fresh_alone start now asking reads same are.1
 
 pub failed_is : (start now : Seat) (job : Job) (asked : PurchaseAsked) (kept : Option Answer) (answers : List Answer) (attempt : Attempt) (bytes : List ℕ)
-    → Looked start now → IsSeat start → start.caller ≡ job.caller → job.request.now ≡ BuyConfirm asked → HasAsked job answers kept
+    → Looked start now → IsSeat start → start.caller ≡ job.call.caller → job.request.now ≡ BuyConfirm asked → HasAsked job answers kept
     → IsPayable start now (asking_for job) attempt → ((t : Tables) → Agrees now.opening t attempt.reads → check t (BuyConfirm asked) ≡ None)
     → bytes ≡ reply (page_of GatewayFailed) job.form → TriedAs start now job answers bytes Failed
 failed_is start now job asked kept answers attempt bytes looked seat caller buys has payable passes bytes_are =

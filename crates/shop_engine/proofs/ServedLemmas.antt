@@ -1,5 +1,5 @@
 -- What a connection comes to at its end.
-use Rattle.std.proofs.Common.{◌≡◌, ℕ, ◌+◌, ◌<◌, ◌==◌, ◌⊎◌, inl, inr, Bool, false, List, [], ◌∷◌, ◌++◌, length, length-append, append_assoc, append-nil, refl, sym, ap, ◌∙◌, arith, take, Some, None}
+use Rattle.std.proofs.Common.{◌≡◌, ℕ, ◌+◌, ◌<◌, ◌==◌, ◌⊎◌, inl, inr, ⊎_elim, Bool, false, List, [], ◌∷◌, ◌++◌, length, length-append, append_assoc, append-nil, refl, sym, ap, ◌∙◌, arith, take, Some, None}
 use Rattle.std.specs.declared.option.Option.{Option}
 use Rattle.std.specs.List.{concat}
 use Rattle.std.specs.Prelude.{All, option_map, option_to_list}
@@ -11,16 +11,16 @@ use Rattle.shop_edges.proofs.cited.Known.{Appends-nothing, Appends-more, Consume
 use Rattle.shop_message.specs.declared.messages.Message.{Message}
 use Rattle.shop_message.specs.Messages.{Between, Inside, Refusing}
 use Rattle.shop_message.specs.Nexts.{GivesMessage, Stops, Breaks}
-use Rattle.shop_message.proofs.cited.Beginnings.{HaveCome-begin}
+use Rattle.shop_message.proofs.cited.Beginnings.{HaveCome-begin, HaveCome-message}
 use Rattle.shop_model.specs.declared.refusal.Refusal.{Refusal as Refused}
 use Rattle.shop_engine.specs.declared.report.Ended.{Ended}
 use Rattle.shop_engine.specs.declared.report.Ended.TheVariants as ended
 use Rattle.shop_engine.specs.declared.report.Point.{Point}
 use Rattle.shop_engine.specs.Connections.{Output, Adds, MessageAs, RefusalAs, SoFar}
-use Rattle.shop_engine.specs.Served.{Streams, Served, Wrote, EndsAs, told_page}
-use Rattle.shop_engine.specs.Steps.{ANSWERS, Step, GivesUp, plain_point}
+use Rattle.shop_engine.specs.Served.{Streams, Served, IsAbandoned, Wrote, EndsAs, told_page}
+use Rattle.shop_engine.specs.Steps.{ANSWERS, Step, plain_point}
 use Rattle.shop_engine.specs.Workers.{Standing}
-use Rattle.shop_engine.proofs.ConnectionLemmas.{messages_of, points_of, replies_of, stays_of, told_of, left_alone, counted, whole-one, one_more}
+use Rattle.shop_engine.proofs.ConnectionLemmas.{messages_of, points_of, replies_of, stays_of, told_of, counted, whole-one, one_more}
 
 -- what was written at the end
 
@@ -53,7 +53,7 @@ last_message (first ∷ messages) all = last_one first messages
 module _ (old now : Standing) (streams streams' : Streams) (unread : List ℕ) (points : List Point) (so_far : SoFar old now streams streams' unread points) where
   served : (new : Standing) (end : Ended) (piece : List ℕ) (before : List Message) (last : Option Message) (told : Option Refused) (points' : List Point) (left' held' : Option (List ℕ))
       → messages_of so_far.steps ≡ before ++ option_to_list last → All (λ m. m.close ≡ false) before → length before < ANSWERS
-      → Consumes streams'.left left' piece → EndsAs end before last told (unread ++ piece) left' → (new ≡ now) ⊎ ((end ≡ ended.Memory) × GivesUp now new)
+      → Consumes streams'.left left' piece → EndsAs end before last told (unread ++ piece) left' → (new ≡ now) ⊎ ((end ≡ ended.Memory) × IsAbandoned (so_far.came.given ++ piece) (messages_of so_far.steps) now new)
       → points' ≡ points ++ option_to_list (option_map (λ _. plain_point) told) → Wrote end streams'.held held' (option_to_list (option_map told_page told))
       → Served old new streams (record { left = left'; held = held' }) end points'
   served new end piece before last told points' left' held' are stay few taken ends after added written = record {
@@ -80,7 +80,7 @@ module _ (old now : Standing) (streams streams' : Streams) (unread : List ℕ) (
 
   -- where one message more may be answered
   behind : (new : Standing) (end : Ended) (piece : List ℕ) (told : Option Refused) (points' : List Point) (left' held' : Option (List ℕ)) → length points < 1000
-      → Consumes streams'.left left' piece → EndsAs end (messages_of so_far.steps) None told (unread ++ piece) left' → (new ≡ now) ⊎ ((end ≡ ended.Memory) × GivesUp now new)
+      → Consumes streams'.left left' piece → EndsAs end (messages_of so_far.steps) None told (unread ++ piece) left' → (new ≡ now) ⊎ ((end ≡ ended.Memory) × IsAbandoned (so_far.came.given ++ piece) (messages_of so_far.steps) now new)
       → points' ≡ points ++ option_to_list (option_map (λ _. plain_point) told) → Wrote end streams'.held held' (option_to_list (option_map told_page told))
       → Served old new streams (record { left = left'; held = held' }) end points'
   behind new end piece told points' left' held' few =
@@ -105,10 +105,12 @@ module _ (old now : Standing) (streams streams' : Streams) (unread : List ℕ) (
       behind now ended.ReadFault breaks.gathers.piece None points left' streams'.held few breaks.gathers.taken breaks.none (inl refl) (sym (append-nil points)) (Appends-nothing streams'.held)
 
   -- without an answer, for want of memory
-  pub Served-memory : (new : Standing) (left' : Option (List ℕ)) (piece : List ℕ) → length points < 1000 → Consumes streams'.left left' piece → GivesUp now new
+  pub Served-memory : (new : Standing) (left' : Option (List ℕ)) (piece : List ℕ) → length points < 1000 → Consumes streams'.left left' piece
+      → (new ≡ now) ⊎ IsAbandoned (so_far.came.given ++ piece) (messages_of so_far.steps) now new
       → Served old new streams (record { left = left'; held = streams'.held }) ended.Memory points
-  Served-memory new left' piece few taken gives_up =
-      behind new ended.Memory piece None points left' streams'.held few taken tt (inr (refl, gives_up)) (sym (append-nil points)) (Appends-nothing streams'.held)
+  Served-memory new left' piece few taken after =
+      behind new ended.Memory piece None points left' streams'.held few taken tt (⊎_elim (λ (same : new ≡ now). inl same) (λ (gave : IsAbandoned (so_far.came.given ++ piece) (messages_of so_far.steps) now new). inr (refl, gave)) after)
+      (sym (append-nil points)) (Appends-nothing streams'.held)
 
   -- all answers are spent
   pub Served-spent : length points ≡ 1000 → Served old now streams streams' ended.Spent points
@@ -129,7 +131,7 @@ module _ (old now : Standing) (streams streams' : Streams) (unread : List ℕ) (
       behind new ended.WriteFault stops.gathers.piece (Some refusal) points' left' held' few stops.gathers.taken stops.none (inl same) added (cut-one streams'.held held' _ front)
   Served-refusal ended.Memory new after points' left' held' refusal few stops none same =
       rw (ap (λ (o : Output). o.points) none, ap (λ (o : Output). o.held) none)
-      (Served-memory new left' stops.gathers.piece few stops.gathers.taken (left_alone now new same))
+      (Served-memory new left' stops.gathers.piece few stops.gathers.taken (inl same))
   Served-refusal _ new after points' left' held' refusal few stops is same = absurd is
 
 -- behind a message that was answered
@@ -174,5 +176,12 @@ Served-message ended.WriteFault old now next streams streams' unread rest points
     Served-step ended.WriteFault old now next streams streams' unread rest points points' message last left' held' step so_far few last_is gives adds tt (cut-one streams'.held held' step.reply front)
 Served-message ended.Memory old now next streams streams' unread rest points points' message last left' held' so_far few last_is gives (gives_up, same) =
     rw (ap (λ (o : Output). o.points) same, ap (λ (o : Output). o.held) same)
-    (Served-memory old now streams streams' unread points so_far next left' gives.piece few gives.taken gives_up)
+    (Served-memory old now streams streams' unread points so_far next left' gives.piece few gives.taken
+    (inr (record {
+      next = message;
+      rest = rest;
+      begin = HaveCome-begin (so_far.came.given ++ gives.piece) rest (messages_of so_far.steps ++ message ∷ [])
+          (HaveCome-message streams'.left left' so_far.came.given unread rest (messages_of so_far.steps) message so_far.came.come gives);
+      gave = gives_up;
+    })))
 Served-message _ old now next streams streams' unread rest points points' message last left' held' so_far few last_is gives is = absurd is

@@ -39,7 +39,7 @@ use Rattle.shop_browse.specs.Attempts.{IsDraftOf, IsList, IsReady, Becomes}
 use Rattle.shop_engine.specs.declared.report.PointKind.TheVariants.{At, Change, Full as FullKind}
 use Rattle.shop_engine.specs.declared.tries.Job.{Job}
 use Rattle.shop_engine.specs.Payments.{IsPaid}
-use Rattle.shop_engine.specs.Tries.{HasAsked, HasLines, IsAnswer, IsPaidFor, MaySettle, asking_for, called_by}
+use Rattle.shop_engine.specs.Tries.{HasAsked, HasLines, IsAnswer, IsPaidFor, MaySettle, asking_for}
 use Rattle.shop_engine.proofs.Payments.{asked_for}
 use Rattle.shop_engine.proofs.Seats.{stamp_raised, entries_one, stays_found, stays_refused, stays_confirmed}
 
@@ -68,7 +68,7 @@ some_act (Some act) is = (act, refl)
 -- a settle that was done without a change
 
 read_is : (start old new : Seat) (job : Job) (answers : List Answer) (kept : Option Answer) (draft : Draft) (attempt : Attempt) (lines : Option (List ListLine)) (drawn : Drawn) (bytes : List ℕ)
-    → Looked start old → Follows old new → IsSeat new → RoseOnce old.settles new.settles → old.caller ≡ job.caller → HasAsked job answers kept → IsReady start old (asking_for job) draft attempt → attempt.act ≡ None
+    → Looked start old → Follows old new → IsSeat new → RoseOnce old.settles new.settles → old.caller ≡ job.call.caller → HasAsked job answers kept → IsReady start old (asking_for job) draft attempt → attempt.act ≡ None
     → (Agrees old.opening (tables new.opening new.seen) attempt.reads → HasLines new job.request.now At lines) → DoneAs old new attempt attempt.act drawn
     → ((page : Page) → IsPage draft drawn page → bytes ≡ reply page job.form) → IsAnswer start new job answers bytes (record { kind = At; front = drawn.front; tries = 1; lines = lines })
 read_is start old new job answers kept draft attempt lines drawn bytes looked follows seat rose caller has ready none lined done bytes_are =
@@ -103,7 +103,7 @@ shown_is start old new job answers draft attempt drawn bytes looked follows seat
 
 -- of a list
 pub list_is : (start old new : Seat) (job : Job) (answers : List Answer) (kept : Option Answer) (draft : Draft) (attempt : Attempt) (lines : List ListLine) (drawn : Drawn) (bytes : List ℕ)
-    → Looked start old → Follows old new → IsSeat new → RoseOnce old.settles new.settles → old.caller ≡ job.caller → HasAsked job answers kept → IsList start old (asking_for job) draft attempt lines
+    → Looked start old → Follows old new → IsSeat new → RoseOnce old.settles new.settles → old.caller ≡ job.call.caller → HasAsked job answers kept → IsList start old (asking_for job) draft attempt lines
     → DoneAs old new attempt attempt.act drawn → ((page : Page) → IsPage draft drawn page → bytes ≡ reply page job.form)
     → IsAnswer start new job answers bytes (record { kind = At; front = drawn.front; tries = 1; lines = Some lines })
 list_is start old new job answers kept draft attempt lines drawn bytes looked follows seat rose caller has list done bytes_are =
@@ -151,7 +151,7 @@ changed_is start old new job answers draft attempt drawn bytes looked follows se
     let agrees : Agrees old.opening t attempt.reads
     = agrees_found old new was.before attempt follows seat accepted.is_found.grows begins ready.attempts.faithful accepted.fresh in
     let becomes : Becomes t was.entry.stamp act draft = drafts.1 t was.entry.stamp agrees follow.bound in
-    let paid : IsPaid t (called_by job) answers act = subst (λ o. IsPaidFor o t (called_by job) answers) some.1 (may.paid t agrees) in
+    let paid : IsPaid t job.call answers act = subst (λ o. IsPaidFor o t job.call answers) some.1 (may.paid t agrees) in
     let ids_are : drawn.ids ≡ new_ids t (play t was.entry.stamp act).tables
     = was.ids
     ∙ ap (new_ids t) (ap (tables new.opening) was.seen ∙ tables_push new.opening was.before was.entry ∙ ap (λ a. (play t was.entry.stamp a).tables) was.does) in
@@ -186,8 +186,8 @@ changed_is start old new job answers draft attempt drawn bytes looked follows se
             caller = was.caller;
             does = subst (IsActOf asking.request asking.draw) (sym was.does) drafts.0;
             paid =
-                paid_there new.opening was.before (start.seen ++ begins_found.rest) job.caller new.caller job.call answers was.entry.act (sym begins_found.is) (follows.caller ∙ may.caller)
-                (subst (IsPaid t (called_by job) answers) (sym was.does) paid);
+                paid_there new.opening was.before (start.seen ++ begins_found.rest) job.call.caller new.caller job.call.number answers was.entry.act (sym begins_found.is) (follows.caller ∙ may.caller)
+                (subst (IsPaid t job.call answers) (sym was.does) paid);
             later = omega (arith, accepted.moment, ready.attempts.at, was.stamp);
             exact = λ told same.
                 was.stamp

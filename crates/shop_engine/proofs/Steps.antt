@@ -30,11 +30,13 @@ use Rattle.shop_engine.specs.Connections.{Adds}
 use Rattle.shop_engine.specs.Decided.{IsDecided, tries_alone}
 use Rattle.shop_engine.specs.Keeping.{IsFoundList, found_for, kept_now}
 use Rattle.shop_engine.specs.Lists.{IsFreshPoint, IsMarkedFresh, looked_for}
+use Rattle.shop_engine.specs.Payments.{AreFor}
 use Rattle.shop_engine.specs.Seats.{Stays}
-use Rattle.shop_engine.specs.Steps.{Accepts, Answers, AnswersRequest, GivesUp, IsAnswered, IsStepFor, KeepsAs, Step, form_of, draw_of, plain_point}
+use Rattle.shop_engine.specs.Steps.{Accepts, Answers, AnswersRequest, BeginsOn, GivesUp, IsAnswered, IsStepFor, KeepsAs, Step, form_of, draw_of, plain_point}
 use Rattle.shop_engine.specs.Tries.{IsOutcome, IsGivenUp, point_of}
 use Rattle.shop_engine.specs.Workers.{Caller, Progress, Standing, WorkerState, IsPosted, standing}
 use Rattle.shop_engine.proofs.KeptLemmas.{IsReadAlone, keeps_as, point_again, read_alone, shown_again}
+use Rattle.shop_engine.proofs.Payments.{asked_none}
 use Rattle.shop_engine.proofs.Seats.{stays_same}
 
 -- the caller is still posted at the seat
@@ -84,7 +86,7 @@ module _ {St : Type 0} (seat_of : St → Seat) (old inside new : WorkerState St)
   settled tried same job outcome answer =
       subst (λ (w : WorkerState St). IsOutcome (record { seat = seat_of inside.store; kept = None; told = told }) (record { seat = seat_of w.store; kept = None; told = told' }) job w.reply outcome) (sym same) answer
 
-  pub answers_is : (tried : WorkerState St) → new ≡ record { store = tried.store; caller = tried.caller; progress = tried.progress; kept = new.kept; reply = tried.reply } → (job : Job) (outcome : Outcome) → job.ask.moment ≡ moment → job.call ≡ call → job.ask.draw ≡ draw_of old.caller call → key ≡ key_asked job.request.now
+  pub answers_is : (tried : WorkerState St) → new ≡ record { store = tried.store; caller = tried.caller; progress = tried.progress; kept = new.kept; reply = tried.reply } → (job : Job) (outcome : Outcome) → job.ask.moment ≡ moment → job.call.number ≡ call → job.ask.draw ≡ draw_of old.caller call → key ≡ key_asked job.request.now
       → found_for key moment old.kept ≡ None → new.kept ≡ kept_now key outcome.front moment outcome.lines (looked_for key old.kept)
       → IsOutcome (record { seat = seat_of inside.store; kept = None; told = told }) (record { seat = seat_of tried.store; kept = None; told = told' }) job tried.reply outcome
       → AnswersRequest job.form (standing seat_of old clock told) (standing seat_of new clock' told') job.request.now (point_of job outcome) new.reply
@@ -113,17 +115,23 @@ module _ {St : Type 0} (seat_of : St → Seat) (old inside new : WorkerState St)
         },
       )
 
-  pub gives_up : (job : Job) (after : Option ListKey) → job.ask.moment ≡ moment → new.kept ≡ looked_for after old.kept
+  -- what the gateway was asked in a call is of the one that was accepted
+  begun : (request : Request) (answers : List Answer) (number : ℕ) → number ≡ call → AreFor request (record { caller = (seat_of new.store).caller; number = number }) answers
+      → BeginsOn (Ok request) (standing seat_of old clock told) (standing seat_of new clock' told') answers
+  begun request answers number number_is are =
+      inl (accepts, subst (λ n. AreFor request (record { caller = (seat_of new.store).caller; number = n }) answers) (number_is ∙ sym call_now) are)
+
+  pub gives_up : (job : Job) (after : Option ListKey) → job.ask.moment ≡ moment → job.call.number ≡ call → new.kept ≡ looked_for after old.kept
       → IsGivenUp (record { seat = seat_of inside.store; kept = None; told = told }) (record { seat = seat_of new.store; kept = None; told = told' }) job
-      → GivesUp (standing seat_of old clock told) (standing seat_of new clock' told')
-  gives_up job after moment_of kept gave = record {
-    accepts = inl accepts;
+      → GivesUp (Ok job.request.now) (standing seat_of old clock told) (standing seat_of new clock' told')
+  gives_up job after moment_of call_of kept gave = record {
+    answers = gave.answers;
+    begins = begun job.request.now gave.answers job.call.number call_of gave.asks;
     settles = gave.stays.made;
     few = gave.stays.few;
     stays =
         subst (λ (s : Seat). Stays s (seat_of new.store) [] gave.stays.made new.progress.last) same_seat
         (subst (λ m. Stays (seat_of inside.store) (seat_of new.store) [] gave.stays.made m) (moment_of ∙ sym last_now) gave.stays.stays);
-    answers = gave.answers;
     few_answers = gave.few;
     told = gave.told;
     key = after;
@@ -131,10 +139,10 @@ module _ {St : Type 0} (seat_of : St → Seat) (old inside new : WorkerState St)
   }
 
   -- behind a list that was read, and found no room
-  pub gives_up_late : (tried : WorkerState St) → new ≡ record { store = tried.store; caller = tried.caller; progress = tried.progress; kept = new.kept; reply = tried.reply } → (job : Job) (outcome : Outcome) (after : Option ListKey) → job.ask.moment ≡ moment → new.kept ≡ looked_for after old.kept → IsSome outcome.lines
+  pub gives_up_late : (tried : WorkerState St) → new ≡ record { store = tried.store; caller = tried.caller; progress = tried.progress; kept = new.kept; reply = tried.reply } → (job : Job) (outcome : Outcome) (after : Option ListKey) → job.ask.moment ≡ moment → job.call.number ≡ call → new.kept ≡ looked_for after old.kept → IsSome outcome.lines
       → IsOutcome (record { seat = seat_of inside.store; kept = None; told = told }) (record { seat = seat_of tried.store; kept = None; told = told' }) job tried.reply outcome
-      → GivesUp (standing seat_of old clock told) (standing seat_of new clock' told')
-  gives_up_late tried same job outcome after moment_of kept some given =
+      → GivesUp (Ok job.request.now) (standing seat_of old clock told) (standing seat_of new clock' told')
+  gives_up_late tried same job outcome after moment_of call_of kept some given =
       let answer = settled tried same job outcome given in
       let decided = answer.is.decided in
       let alone : IsReadAlone job.request.now (record { point = point_of job outcome; made = answer.is.made; answers = answer.answers }) outcome.kind
@@ -142,13 +150,13 @@ module _ {St : Type 0} (seat_of : St → Seat) (old inside new : WorkerState St)
       let stays : Stays (seat_of inside.store) (seat_of new.store) [] outcome.tries job.ask.moment
       = subst (λ (l : List Entry). Stays (seat_of inside.store) (seat_of new.store) l outcome.tries job.ask.moment) alone.none_made decided.stays in
       record {
-        accepts = inl accepts;
+        answers = [];
+        begins = begun job.request.now [] job.call.number call_of (asked_none job.request.now _);
         settles = outcome.tries;
         few = omega (arith, decided.few, ap tries_alone alone.kind_is);
         stays =
             subst (λ (s : Seat). Stays s (seat_of new.store) [] outcome.tries new.progress.last) same_seat
             (subst (λ m. Stays (seat_of inside.store) (seat_of new.store) [] outcome.tries m) (moment_of ∙ sym last_now) stays);
-        answers = [];
         few_answers = omega arith;
         told = subst (Answered told told') alone.none_asked_for answer.told;
         key = after;
@@ -156,13 +164,14 @@ module _ {St : Type 0} (seat_of : St → Seat) (old inside new : WorkerState St)
       }
 
   -- before anything was asked of the store
-  pub gives_up_early : new.store ≡ inside.store → told' ≡ told → (after : Option ListKey) → new.kept ≡ looked_for after old.kept → GivesUp (standing seat_of old clock told) (standing seat_of new clock' told')
-  gives_up_early stands untold after kept = record {
-    accepts = inl accepts;
+  pub gives_up_early : (request : Request) → new.store ≡ inside.store → told' ≡ told → (after : Option ListKey) → new.kept ≡ looked_for after old.kept
+      → GivesUp (Ok request) (standing seat_of old clock told) (standing seat_of new clock' told')
+  gives_up_early request stands untold after kept = record {
+    answers = [];
+    begins = begun request [] call refl (asked_none request _);
     settles = 0;
     few = omega arith;
     stays = subst (λ (s : Seat). Stays (seat_of old.store) s [] 0 new.progress.last) (sym (ap seat_of stands ∙ same_seat)) (stays_same (seat_of old.store) new.progress.last);
-    answers = [];
     few_answers = omega arith;
     told = subst (λ t. Answered told t []) (sym untold) (answered_nothing told);
     key = after;

@@ -114,7 +114,7 @@ unasked old new job bytes tried kept told is = record {
 }
 
 pub asked_once : (old new : Trying) (job : Job) (bytes : List ℕ) (tried : Tried) (asked : PurchaseAsked) → job.request.now ≡ BuyConfirm asked
-    → AsksOnce asked job.caller job.call old.kept new.kept old.told new.told
+    → AsksOnce asked job.call old.kept new.kept old.told new.told
     → ((all : List Answer) → HasAsked job all new.kept → TriedAs old.seat new.seat job all bytes tried) → IsTried old new job bytes tried
 asked_once old new job bytes tried asked buys once is =
     let asks = asks_once old new job asked buys once in

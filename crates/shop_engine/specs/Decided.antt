@@ -5,6 +5,7 @@ use Rattle.shop_model.specs.declared.refusal.Refusal.TheVariants as refusal
 use Rattle.shop_model.specs.declared.requests.Request.{Request}
 use Rattle.shop_model.specs.pages.Show.{is_changing, check, show}
 use Rattle.shop_model.specs.asked.Refusals.{page_of}
+use Rattle.shop_edges.specs.declared.charge.Call.{Call}
 use Rattle.shop_edges.specs.declared.gateway.Answer.{Answer}
 use Rattle.shop_edges.specs.Charges.{denial}
 use Rattle.shop_history.specs.declared.acts.Entry.{Entry}
@@ -12,10 +13,9 @@ use Rattle.shop_history.specs.Acts.{IsActOf}
 use Rattle.shop_history.specs.Logs.{tables, page_at}
 use Rattle.shop_cache.specs.Keys.{key_asked}
 use Rattle.shop_attempt.specs.declared.attempts.Conflict.{Conflict}
-use Rattle.shop_attempt.specs.Reads.{IsConflict}
+use Rattle.shop_attempt.specs.Conflicts.{IsConflict}
 use Rattle.shop_attempt.specs.Seats.{Seat}
 use Rattle.shop_browse.specs.Footprints.{InFootprint}
-use Rattle.shop_order.specs.Payments.{Call}
 use Rattle.shop_engine.specs.declared.report.Point.{Point}
 use Rattle.shop_engine.specs.declared.report.PointKind.{PointKind}
 use Rattle.shop_engine.specs.declared.report.PointKind.TheVariants.{Plain, At, Change, Busy, Full, Denied, GatewayFailed}

@@ -1,5 +1,5 @@
 -- How a worker answers by a list that it keeps, and keeps one that was read.
-use Rattle.std.specs.Prelude.{◌≡◌, ℕ, List, take, Option, Some, None}
+use Rattle.std.specs.Prelude.{◌≡◌, ℕ, ◌≤◌, List, length, take, All, Option, Some, None}
 use Rattle.shop_model.specs.declared.page.Page.{Page}
 use Rattle.shop_model.specs.declared.requests.Request.{Request}
 use Rattle.shop_model.specs.pages.Show.{show}
@@ -9,12 +9,25 @@ use Rattle.shop_cache.specs.declared.lines.ListLine.{ListLine}
 use Rattle.shop_cache.specs.declared.keys.ListKey.{ListKey}
 use Rattle.shop_cache.specs.Caches.{Entries, found, with_kept}
 use Rattle.shop_cache.specs.Keys.{key_asked}
+use Rattle.shop_attempt.specs.Marks.{AreMarks}
 use Rattle.shop_attempt.specs.Seats.{Seat}
-use Rattle.shop_browse.specs.Lists.{page_by}
+use Rattle.shop_browse.specs.Lists.{AreLines, items_on, page_by}
 use Rattle.shop_pages.specs.declared.reply.Form.{Form}
 use Rattle.shop_pages.specs.Replies.{reply}
-use Rattle.shop_engine.specs.Lists.{IsFresh, IsKept, IsMarkedFresh, looked_for}
+use Rattle.shop_engine.specs.Lists.{IsFresh, IsMarkedFresh, looked_for}
 use Rattle.shop_engine.specs.Workers.{WorkerState}
+
+-- the lines of a list that is kept are those of the tables at its front, which the store has marked, at a moment that
+-- is not after the last
+pub record IsKept (seat : Seat) (marked : ℕ → ℕ → Type 0) (last : ℕ) (key : ListKey) (kept : Kept) : Type 0 where
+  pub within : kept.front ≤ length seat.seen
+  pub lines : AreLines (tables seat.opening (take kept.front seat.seen)) (items_on (tables seat.opening (take kept.front seat.seen)) key) kept.lines
+  pub past : kept.taken ≤ last
+  pub mark : marked kept.front kept.taken
+  pub marks : AreMarks marked seat.seen
+
+abbrev pub AreKept : Seat → (ℕ → ℕ → Type 0) → ℕ → Entries → Type 0
+AreKept seat marked last entries = All (λ e. IsKept seat marked last e.0 e.1) entries
 
 -- the list of a key that is found at a moment, if a list is asked for
 abbrev pub found_for : Option ListKey → ℕ → Entries → Option Kept

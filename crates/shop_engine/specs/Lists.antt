@@ -1,13 +1,9 @@
 -- Lists that a worker keeps, and how fresh they are.
-use Rattle.std.specs.Prelude.{ℕ, ◌+◌, ◌≤◌, List, length, take, drop, All, Option, Some, None}
+use Rattle.std.specs.Prelude.{ℕ, ◌+◌, ◌≤◌, List, length, drop, All, Option, Some, None}
 use Rattle.shop_history.specs.declared.acts.Entry.{Entry}
-use Rattle.shop_history.specs.Logs.{tables}
-use Rattle.shop_cache.specs.declared.cache.Kept.{Kept}
 use Rattle.shop_cache.specs.declared.keys.ListKey.{ListKey}
 use Rattle.shop_cache.specs.Caches.{Entries, age_limit, looked}
 use Rattle.shop_attempt.specs.Marks.{AreMarks}
-use Rattle.shop_attempt.specs.Seats.{Seat}
-use Rattle.shop_browse.specs.Lists.{AreLines, items_on}
 use Rattle.shop_engine.specs.declared.report.Answered.{Answered}
 use Rattle.shop_engine.specs.declared.report.Answered.TheVariants as answered
 use Rattle.shop_engine.specs.declared.report.Point.{Point}
@@ -47,18 +43,6 @@ IsFreshIn log point = IsFreshInAs log point point.kind
 abbrev pub AnswersFresh : (ℕ → ℕ → Type 0) → List Entry → Answered → Type 0
 AnswersFresh marked log (answered.Reply text point) = IsFreshPoint marked log point
 AnswersFresh marked log answered.Memory = Unit {0}
-
--- the lines of a list that is kept are those of the tables at its front, which the store has marked, at a moment that
--- is not after the last
-pub record IsKept (seat : Seat) (marked : ℕ → ℕ → Type 0) (last : ℕ) (key : ListKey) (kept : Kept) : Type 0 where
-  pub within : kept.front ≤ length seat.seen
-  pub lines : AreLines (tables seat.opening (take kept.front seat.seen)) (items_on (tables seat.opening (take kept.front seat.seen)) key) kept.lines
-  pub past : kept.taken ≤ last
-  pub mark : marked kept.front kept.taken
-  pub marks : AreMarks marked seat.seen
-
-abbrev pub AreKept : Seat → (ℕ → ℕ → Type 0) → ℕ → Entries → Type 0
-AreKept seat marked last entries = All (λ e. IsKept seat marked last e.0 e.1) entries
 
 -- after a look, if a list is asked for
 abbrev pub looked_for : Option ListKey → Entries → Entries

@@ -6,6 +6,7 @@ use Rattle.shop_model.specs.declared.requests.Request.TheVariants.{BuyConfirm}
 use Rattle.shop_model.specs.declared.tables.Tables.{Tables}
 use Rattle.shop_model.specs.asked.PurchaseAsked.{PurchaseAsked}
 use Rattle.shop_model.specs.pages.Show.{check}
+use Rattle.shop_edges.specs.declared.charge.Call.{Call}
 use Rattle.shop_edges.specs.declared.gateway.Answer.{Answer}
 use Rattle.shop_edges.specs.declared.gateway.Reason.{Reason}
 use Rattle.shop_edges.specs.declared.gateway.Verdict.{Verdict}
@@ -16,19 +17,18 @@ use Rattle.shop_history.specs.declared.acts.Act.{Act}
 use Rattle.shop_history.specs.declared.acts.Act.TheVariants.{Confirm}
 use Rattle.shop_history.specs.Logs.{tables}
 use Rattle.shop_attempt.specs.Seats.{Seat}
-use Rattle.shop_order.specs.Payments.{Call}
 
 -- what it was asked for a request of a call, and said: for a purchase, charges of it, of which no two neighbours
 -- are equal; for another request nothing
 abbrev pub AreFor : Request → Call → List Answer → Type 0
 AreFor (BuyConfirm asked) call answers =
-    ((kept : Option Answer) × Keeps None answers kept) × All (IsFor asked call.caller call.number) answers
+    ((kept : Option Answer) × Keeps None answers kept) × All (IsFor asked call) answers
 AreFor _ call answers = answers ≡ []
 
 -- among these is this answer to what a purchase is charged in these tables
 abbrev pub Says : List Answer → Tables → PurchaseAsked → Call → Verdict → Type 0
 Says answers t asked call verdict =
-    Contains answers (record { charge = charge_due t asked call.caller call.number; verdict = verdict })
+    Contains answers (record { charge = charge_due t asked call; verdict = verdict })
 
 -- an act that is a purchase was paid: what it is charged in these tables was approved, with its authorisation
 abbrev pub IsPaid : Tables → Call → List Answer → Act → Type 0
@@ -40,7 +40,7 @@ pub record IsDenied (t : Tables) (request : Request) (call : Call) (answers : Li
   pub asked : PurchaseAsked
   pub buys : request ≡ BuyConfirm asked
   pub passes : check t request ≡ None
-  pub due : charge ≡ charge_due t asked call.caller call.number
+  pub due : charge ≡ charge_due t asked call
   pub said : Says answers t asked call (Denied reason)
 
 -- the request is a purchase; where the caller is the only one, the tables after the log seen don't refuse it

@@ -8,6 +8,7 @@ use Rattle.shop_model.specs.asked.Refusals.{page_of, status_of}
 use Rattle.shop_pages.specs.Replies.{reply}
 use Rattle.shop_message.specs.declared.messages.Message.{Message}
 use Rattle.shop_message.specs.Messages.{Begin, Between, Inside, Refusing, StopsAt}
+use Rattle.shop_http.specs.Requests.{asked}
 use Rattle.shop_engine.specs.declared.report.Ended.{Ended}
 use Rattle.shop_engine.specs.declared.report.Ended.TheVariants as ended
 use Rattle.shop_engine.specs.declared.report.Point.{Point}
@@ -44,6 +45,13 @@ Wrote ended.WriteFault held held' replies = (whole : List (List ℕ)) × (last :
     × (replies ≡ whole ++ last ∷ []) × (count < length last) × Appends held held' (concat whole ++ take count last)
 Wrote _ held held' replies = Appends held held' (concat replies)
 
+-- memory ran out before the answer to the message that comes behind these
+pub record IsAbandoned (given : List ℕ) (messages : List Message) (from to : Standing) : Type 0 where
+  pub next : Message
+  pub rest : List ℕ
+  pub begin : Begin given (messages ++ next ∷ []) rest
+  pub gave : GivesUp (asked next) from to
+
 -- a worker served a connection to this end, and left these points
 pub record Served (old new : Standing) (streams streams' : Streams) (end : Ended) (points : List Point) : Type 0 where
   pub given : List ℕ
@@ -67,7 +75,7 @@ pub record Served (old new : Standing) (streams streams' : Streams) (end : Ended
   pub run : AreSteps 0 old steps mid
   pub stays : Stays old.seat mid.seat (flat_map (λ s. s.made) steps) (sum_by (λ s. s.point.tries) steps) mid.progress.last
   pub asked : Answered old.told mid.told (flat_map (λ s. s.answers) steps)
-  pub after : (new ≡ mid) ⊎ ((end ≡ ended.Memory) × GivesUp mid new)
+  pub after : (new ≡ mid) ⊎ ((end ≡ ended.Memory) × IsAbandoned given (map (λ s. s.message) steps) mid new)
   -- a step has a point, in order, and a refusal one more; the replies were written in the same order
   pub all : points ≡ map (λ s. s.point) steps ++ option_to_list (option_map (λ _. plain_point) told)
   pub written : Wrote end streams.held streams'.held (map (λ s. s.reply) steps ++ option_to_list (option_map told_page told))

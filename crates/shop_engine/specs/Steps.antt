@@ -4,6 +4,7 @@ use Rattle.std.specs.Str.{bytes_eq}
 use Rattle.shop_edges.specs.Causes.{count_up}
 use Rattle.shop_edges.specs.Clocks.{Tells}
 use Rattle.shop_edges.specs.Gateways.{Answered as AnsweredBy}
+use Rattle.shop_edges.specs.declared.charge.Call.{Call}
 use Rattle.shop_edges.specs.declared.gateway.Answer.{Answer}
 use Rattle.shop_message.specs.declared.messages.Message.{Message}
 use Rattle.shop_model.specs.declared.page.Page.{Page}
@@ -31,6 +32,7 @@ use Rattle.shop_engine.specs.declared.report.PointKind.TheVariants as kind
 use Rattle.shop_engine.specs.declared.report.PointKind.TheVariants.{Plain}
 use Rattle.shop_engine.specs.Decided.{Decision, IsDecided}
 use Rattle.shop_engine.specs.Lists.{looked_for}
+use Rattle.shop_engine.specs.Payments.{AreFor}
 use Rattle.shop_engine.specs.Seats.{Stays}
 use Rattle.shop_engine.specs.Workers.{Caller, Standing}
 
@@ -133,14 +135,23 @@ AreSteps answers from [] to = to ≡ from
 AreSteps answers from (step ∷ steps) to =
     (next : Standing) × IsStep ((answers + 1) == ANSWERS) from step next × AreSteps (answers + 1) next steps to
 
--- memory ran out before an answer: a request was accepted, or none was; its settles, eight at most, made no entry,
--- the gateway gave eight answers at most, and of the lists that are kept one was looked for at most
-pub record GivesUp (from to : Standing) : Type 0 where
-  pub accepts : Accepts from to ⊎ (to ≡ from)
+-- the call of the request that was accepted last
+abbrev pub last_call : Standing → Call
+last_call s = record { caller = s.seat.caller; number = s.progress.accepted }
+
+-- a request was accepted, and what the gateway was asked was for it alone; or nothing was begun
+abbrev pub BeginsOn : Result Request Refusal → Standing → Standing → List Answer → Type 0
+BeginsOn (Ok request) from to answers = (Accepts from to × AreFor request (last_call to) answers) ⊎ ((to ≡ from) × (answers ≡ []))
+BeginsOn (Err refusal) from to answers = (to ≡ from) × (answers ≡ [])
+
+-- memory ran out before the answer to what was asked: the settles, eight at most, made no entry, the gateway gave
+-- eight answers at most, and of the lists that are kept one was looked for at most
+pub record GivesUp (asks : Result Request Refusal) (from to : Standing) : Type 0 where
+  pub answers : List Answer
+  pub begins : BeginsOn asks from to answers
   pub settles : ℕ
   pub few : settles ≤ 8
   pub stays : Stays from.seat to.seat [] settles to.progress.last
-  pub answers : List Answer
   pub few_answers : length answers ≤ 8
   pub told : AnsweredBy from.told to.told answers
   pub key : Option ListKey
@@ -159,4 +170,4 @@ Answers last from to message point reply = (made : List Entry) × (answers : Lis
 -- what became of a message
 abbrev pub AnsweredAs : Bool → Standing → Standing → Message → Answered → Type 0
 AnsweredAs last from to message (answered.Reply text point) = Answers last from to message point text
-AnsweredAs last from to message answered.Memory = GivesUp from to
+AnsweredAs last from to message answered.Memory = GivesUp (asked message) from to

@@ -4,6 +4,7 @@ use Rattle.shop_model.specs.declared.page.Page.{Page}
 use Rattle.shop_model.specs.declared.requests.Request.{Request}
 use Rattle.shop_model.specs.declared.requests.Request.TheVariants.{BuyConfirm}
 use Rattle.shop_model.specs.declared.tables.Tables.{Tables}
+use Rattle.shop_edges.specs.declared.charge.Call.{Call}
 use Rattle.shop_edges.specs.declared.gateway.Answer.{Answer}
 use Rattle.shop_edges.specs.declared.gateway.Verdict.TheVariants as verdict
 use Rattle.shop_edges.specs.Charges.{ChargeValue}
@@ -23,7 +24,6 @@ use Rattle.shop_attempt.specs.Seats.{Seat}
 use Rattle.shop_browse.specs.declared.attempted.Attempted.{Attempted}
 use Rattle.shop_browse.specs.Attempts.{Asking, AttemptedAs, IsReady, asking_of}
 use Rattle.shop_browse.specs.Lists.{AreListed}
-use Rattle.shop_order.specs.Payments.{Call}
 use Rattle.shop_pages.specs.Replies.{reply}
 use Rattle.shop_engine.specs.declared.report.Point.{Point}
 use Rattle.shop_engine.specs.declared.report.PointKind.{PointKind}
@@ -33,7 +33,7 @@ use Rattle.shop_engine.specs.declared.tries.Outcome.{Outcome}
 use Rattle.shop_engine.specs.declared.tries.Tried.{Tried}
 use Rattle.shop_engine.specs.declared.tries.Tried.TheVariants.{Settled, Listed, Denied, Again, Failed, Memory}
 use Rattle.shop_engine.specs.Decided.{IsMet, IsDecided, tries_alone}
-use Rattle.shop_engine.specs.Payments.{IsPaid}
+use Rattle.shop_engine.specs.Payments.{AreFor, IsPaid}
 use Rattle.shop_engine.specs.Seats.{Stays}
 
 -- the parts of a job: what is asked, and by whom, in which call
@@ -41,16 +41,13 @@ use Rattle.shop_engine.specs.Seats.{Stays}
 abbrev pub asking_for : Job → Asking
 asking_for job = asking_of job.ask job.request.now
 
-abbrev pub called_by : Job → Call
-called_by job = record { caller = job.caller; number = job.call }
-
 -- the point of what came of it
 abbrev pub point_of : Job → Outcome → Point
 point_of job outcome = record {
   kind = outcome.kind;
   front = outcome.front;
   moment = job.ask.moment;
-  call = job.call;
+  call = job.call.number;
   draw = job.ask.draw;
   tries = outcome.tries;
 }
@@ -59,12 +56,12 @@ point_of job outcome = record {
 
 -- an answer to a charge for the purchase that is asked for; another request has none
 abbrev pub IsAnswerTo : Request → Call → Answer → Type 0
-IsAnswerTo (BuyConfirm asked) call answer = IsFor asked call.caller call.number answer
+IsAnswerTo (BuyConfirm asked) call answer = IsFor asked call answer
 IsAnswerTo _ call answer = ⊥
 
 -- all that it was asked so far, and said, and the last of it is kept
 pub record HasAsked (job : Job) (answers : List Answer) (kept : Option Answer) : Type 0 where
-  pub charges : All (IsAnswerTo job.request.now (called_by job)) answers
+  pub charges : All (IsAnswerTo job.request.now job.call) answers
   pub keeps : Keeps None answers kept
 
 -- where the tries of a request stand: the seat, the answer that is kept, and what the gateway tells
@@ -75,7 +72,7 @@ pub record Trying : Type 0 where
 
 -- what it was asked meanwhile, and said
 pub record Asks (old new : Trying) (job : Job) (answers : List Answer) : Type 0 where
-  pub charges : All (IsAnswerTo job.request.now (called_by job)) answers
+  pub charges : All (IsAnswerTo job.request.now job.call) answers
   pub keeps : Keeps old.kept answers new.kept
   pub told : Answered old.told new.told answers
 
@@ -112,6 +109,7 @@ pub record StaysWithin (old new : Seat) (entries : List Entry) (settles moment :
 -- memory ran out: the settles, eight at most, made no entry, and the gateway gave eight answers at most
 pub record IsGivenUp (old new : Trying) (job : Job) : Type 0 where
   pub answers : List Answer
+  pub asks : AreFor job.request.now (record { caller = new.seat.caller; number = job.call.number }) answers
   pub few : length answers ≤ 8
   pub told : Answered old.told new.told answers
   pub stays : StaysWithin old.seat new.seat [] 8 job.ask.moment
@@ -159,12 +157,12 @@ IsPaidFor (Some act) t call answers = IsPaid t call answers act
 
 -- it is this caller's, its page is written, and in whichever tables agree with its reads, it is paid
 pub record MaySettle (start now : Seat) (job : Job) (answers : List Answer) (draft : Draft) (attempt : Attempt) : Type 0 where
-  pub caller : now.caller ≡ job.caller
+  pub caller : now.caller ≡ job.call.caller
   pub kept : Option Answer
   pub asked : HasAsked job answers kept
   pub ready : IsReady start now (asking_for job) draft attempt
   pub unlisted : attempt.act ≡ None → key_asked job.request.now ≡ None
-  pub paid : (t : Tables) → Agrees now.opening t attempt.reads → IsPaidFor attempt.act t (called_by job) answers
+  pub paid : (t : Tables) → Agrees now.opening t attempt.reads → IsPaidFor attempt.act t job.call answers
 
 -- what a list leaves that was read
 

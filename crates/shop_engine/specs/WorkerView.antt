@@ -1,5 +1,5 @@
 use Rattle.shop_engine.specs.declared.worker.Worker.TheInside.{Inside}
-use Rattle.shop_pages.specs.Replies.{bytes_of}
+use Rattle.shop_pages.specs.ReplyStates.{bytes_of}
 use Rattle.shop_engine.specs.Workers.{WorkerState}
 
 abbrev pub state_of : {St : Type 0} → Inside St → WorkerState St

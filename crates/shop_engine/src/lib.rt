@@ -2,6 +2,7 @@
 #![tactic(auto)]
 
 mod calls;
+mod connection;
 mod laws;
 mod replies;
 mod report;

@@ -3,7 +3,8 @@ ghost use Rattle.shop_model.specs.asked.Refusals.{page_of};
 ghost use Rattle.shop_model.specs.declared.page.Page.{Page};
 ghost use Rattle.shop_cache.specs.Keys.{key_asked};
 ghost use Rattle.shop_browse.specs.Lists.{page_by};
-ghost use Rattle.shop_pages.specs.Replies as replies;
+ghost use Rattle.shop_pages.specs.Replies.{reply as reply_bytes};
+ghost use Rattle.shop_pages.specs.ReplyStates.{bytes_of};
 
 use shop_browse::write_list;
 use shop_cache::ListLines;
@@ -27,7 +28,7 @@ const NOTHING: Drawn = Drawn {
 
 /// Makes the reply around the page of a refusal.
 pub(crate) fn refusal_reply(reply: &mut Reply, refusal: Refusal, form: Form) -> Result<(), Memory>
-    ensures { OnOk result (replies.bytes_of reply.new ≡ replies.reply (page_of refusal) form) }
+    ensures { OnOk result (bytes_of reply.new ≡ reply_bytes (page_of refusal) form) }
 {
     write_refusal(reply.draft(), refusal)?;
     reply.reserve()?;
@@ -43,7 +44,7 @@ pub(crate) fn list_reply(
     form: Form,
 ) -> Result<(), Memory>
     requires { IsSome (key_asked request.now) }
-    ensures { OnOk result ((page : Page) → page_by request.now lines.now ≡ Some page → replies.bytes_of reply.new ≡ replies.reply page form) }
+    ensures { OnOk result ((page : Page) → page_by request.now lines.now ≡ Some page → bytes_of reply.new ≡ reply_bytes page form) }
 {
     write_list(reply.draft(), request, lines)?;
     reply.reserve()?;

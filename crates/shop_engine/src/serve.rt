@@ -1,34 +1,23 @@
-ghost use Rattle.std.specs.Prelude.{◌≡◌, ℕ, ◌+◌, ◌≤◌, ◌<◌, [], ◌∷◌, ◌++◌, All, Some};
-ghost use Rattle.std.specs.Vec.{vec_len, vec_capacity};
+ghost use Rattle.std.specs.Prelude.{◌≡◌, ◌≤◌, All};
 ghost use Rattle.shop_edges.specs.Causes.{Rose};
 ghost use Rattle.shop_history.specs.Lawful.{IsLawful};
 ghost use Rattle.shop_attempt.specs.Marks.{KeepsMarks};
-ghost use Rattle.shop_engine.specs.Connections.{MessageAs, RefusalAs};
 ghost use Rattle.shop_engine.specs.Failures.{RoseBy, failures, failures_of};
 ghost use Rattle.shop_engine.specs.Lists.{AnswersFresh, IsFreshPoint};
 ghost use Rattle.shop_engine.specs.Served.{Served};
 ghost use Rattle.shop_engine.specs.Steps.{AnsweredAs};
 ghost use Rattle.shop_engine.specs.Workers.{standing};
 
-use crate::report::{Answered, Ended, Point, Report, plain_point};
+use crate::connection::serve_all;
+use crate::report::{Answered, Ended, Report};
 use crate::worker::Worker;
 use shop_attempt::Store;
-use shop_edges::{Clock, Gateway, Sink, Source, write_all};
-use shop_http::{Buffer, Message, Next, next_message};
-use shop_model::Refusal;
-use shop_pages::{Form, Reply};
+use shop_edges::{Clock, Gateway, Sink, Source};
+use shop_http::Message;
+use shop_pages::Reply;
 use shop_text::Listed;
 use std::alloc::Global;
 use std::mem;
-
-/// The most answers of a connection.
-const ANSWERS: usize = 1_000;
-
-/// The form of the last reply.
-const CLOSING: Form = Form {
-    close: true,
-    bodiless: false,
-};
 
 /// Answers one message, for the last time on its connection or not.
 pub fn serve_message<St: Store, C: Clock, G: Gateway>(
@@ -111,125 +100,4 @@ pub fn serve_connection<St: Store, S: Source, K: Sink, C: Clock, G: Gateway>(
         end,
         points: Listed::from_vec(points),
     }
-}
-
-/// Answers one message after another, until there is an end.
-fn serve_all<St: Store, S: Source, K: Sink, C: Clock, G: Gateway>(
-    alloc: Global,
-    worker: &mut Worker<St>,
-    source: &mut S,
-    sink: &mut K,
-    clock: &mut C,
-    gateway: &mut G,
-    points: &mut Vec<Point>,
-) -> Ended
-    requires { points.old.items ≡ [] }
-    ensures served { Served (standing St.seat worker.old (C.readings clock.old) (G.answers gateway.old)) (standing St.seat worker.new (C.readings clock.new) (G.answers gateway.new))
-        (record { left = S.left source.old; held = K.held sink.old }) (record { left = S.left source.new; held = K.held sink.new })
-        result points.new.items }
-    ensures caller { worker.new.caller ≡ worker.old.caller }
-    ensures marks { KeepsMarks (St.marked worker.old.store) (St.marked worker.new.store) (St.seat worker.old.store) (St.seat worker.new.store) }
-    ensures read_fault { result ≡ Ended.ReadFault → Rose (S.faults source.old) (S.faults source.new) }
-    ensures write_fault { result ≡ Ended.WriteFault → Rose (K.faults sink.old) (K.faults sink.new) }
-    ensures reads { S.faults source.old ≤ S.faults source.new }
-    ensures writes { K.faults sink.old ≤ K.faults sink.new }
-    ensures fresh { All (IsFreshPoint (St.marked worker.new.store) (St.seat worker.new.store).seen) points.new.items }
-    ensures failures { RoseBy (G.faults gateway.old) (failures points.new.items) (G.faults gateway.new) }
-    ensures asks { G.faults gateway.old ≤ G.faults gateway.new }
-{
-    let Ok(mut buffer) = Buffer::new(alloc) else {
-        return Ended::Memory;
-    };
-    while points.len() < ANSWERS {
-        let message = match next_message(alloc, source, &mut buffer) {
-            Next::Message(message) => message,
-            Next::End => return Ended::Closed,
-            Next::Cut => return Ended::Cut,
-            Next::Bad(refusal) => return refuse(worker, sink, points, refusal),
-            Next::ReadFault => return Ended::ReadFault,
-            Next::Memory => return Ended::Memory,
-        };
-        let last = points.len() + 1 == ANSWERS;
-        let ended = serve_one(alloc, worker, sink, clock, gateway, points, &message, last);
-        if let Some(end) = ended {
-            return end;
-        }
-        buffer.reuse(message);
-    }
-    Ended::Spent
-}
-
-/// Answers a message; the end of the connection, where it is one.
-fn serve_one<St: Store, K: Sink, C: Clock, G: Gateway>(
-    alloc: Global,
-    worker: &mut Worker<St>,
-    sink: &mut K,
-    clock: &mut C,
-    gateway: &mut G,
-    points: &mut Vec<Point>,
-    message: &Message,
-    last: bool,
-) -> Option<Ended>
-    ensures message { MessageAs (record { message = message.now; last = last }) (standing St.seat worker.old (C.readings clock.old) (G.answers gateway.old)) (standing St.seat worker.new (C.readings clock.new) (G.answers gateway.new))
-        (record { points = points.old.items; held = K.held sink.old }) (record { points = points.new.items; held = K.held sink.new }) result }
-    ensures caller { worker.new.caller ≡ worker.old.caller }
-    ensures marks { KeepsMarks (St.marked worker.old.store) (St.marked worker.new.store) (St.seat worker.old.store) (St.seat worker.new.store) }
-    ensures write_fault { result ≡ Some Ended.WriteFault → Rose (K.faults sink.old) (K.faults sink.new) }
-    ensures writes { K.faults sink.old ≤ K.faults sink.new }
-    ensures fresh { All (IsFreshPoint (St.marked worker.old.store) (St.seat worker.old.store).seen) points.old.items
-        → All (IsFreshPoint (St.marked worker.new.store) (St.seat worker.new.store).seen) points.new.items }
-    ensures failures { (before : ℕ) → RoseBy before (failures points.old.items) (G.faults gateway.old) → RoseBy before (failures points.new.items) (G.faults gateway.new) }
-    ensures asks { G.faults gateway.old ≤ G.faults gateway.new }
-{
-    // Room for the point, so that no answer is without one.
-    let Ok(()) = points.reserve(1) else {
-        return Some(Ended::Memory);
-    };
-    let Some(point) = worker.answer(alloc, message, last, clock, gateway) else {
-        return Some(Ended::Memory);
-    };
-    add_point(points, point);
-    if write_all(sink, worker.reply()) {
-        if message.close {
-            return Some(Ended::Asked);
-        }
-        return None;
-    }
-    Some(Ended::WriteFault)
-}
-
-/// Adds a point, for which there is room.
-fn add_point(points: &mut Vec<Point>, point: Point)
-    requires room { vec_len points.old < vec_capacity points.old }
-    ensures { points.new.items ≡ points.old.items ++ point ∷ [] }
-{
-    let Ok(()) = points.push(point) else {
-        unreachable!()
-    };
-}
-
-/// Tells that a message is refused: writes the page, and adds a plain point.
-fn refuse<St: Store, K: Sink>(
-    worker: &mut Worker<St>,
-    sink: &mut K,
-    points: &mut Vec<Point>,
-    refusal: Refusal,
-) -> Ended
-    ensures told { RefusalAs refusal (record { points = points.old.items; held = K.held sink.old }) (record { points = points.new.items; held = K.held sink.new }) result }
-    ensures write_fault { result ≡ Ended.WriteFault → Rose (K.faults sink.old) (K.faults sink.new) }
-    ensures writes { K.faults sink.old ≤ K.faults sink.new }
-    ensures fresh { All (IsFreshPoint (St.marked worker.old.store) (St.seat worker.old.store).seen) points.old.items
-        → All (IsFreshPoint (St.marked worker.new.store) (St.seat worker.new.store).seen) points.new.items }
-    ensures worker { worker.new ≡ record { store = worker.old.store; caller = worker.old.caller; progress = worker.old.progress; kept = worker.old.kept; reply = worker.new.reply } }
-{
-    let Ok(()) = worker.refuse(refusal, CLOSING) else {
-        return Ended::Memory;
-    };
-    let Ok(()) = points.push(plain_point()) else {
-        return Ended::Memory;
-    };
-    if write_all(sink, worker.reply()) {
-        return Ended::Refused(refusal.status());
-    }
-    Ended::WriteFault
 }

@@ -7,10 +7,10 @@ ghost use Rattle.shop_attempt.specs.Faithful.{Faithful};
 ghost use Rattle.shop_attempt.specs.Marks.{KeepsMarks};
 ghost use Rattle.shop_attempt.specs.Seats.{Seat, Looked};
 ghost use Rattle.shop_edges.specs.declared.gateway.Answer.{Answer};
-ghost use Rattle.shop_pages.specs.Replies.{bytes_of};
+ghost use Rattle.shop_pages.specs.ReplyStates.{bytes_of};
 ghost use Rattle.shop_order.specs.Payments.{IsDenied};
 ghost use Rattle.shop_browse.specs.Attempts.{IsList};
-ghost use Rattle.shop_engine.specs.Tries.{TriedAs, MaySettle, HasAsked, LeavesListMark, asking_for, called_by};
+ghost use Rattle.shop_engine.specs.Tries.{TriedAs, MaySettle, HasAsked, LeavesListMark, asking_for};
 
 use crate::replies::refusal_reply;
 use crate::report::PointKind;
@@ -71,7 +71,7 @@ pub(crate) fn settle_list<St: Store>(
     requires faithful { Faithful (St.seat store.old).opening (St.seat store.old).seen attempt }
     requires moment { attempt.moment ≤ stamp_limit }
     requires reading { attempt.act ≡ None }
-    requires caller { (St.seat store.old).caller ≡ job.now.caller }
+    requires caller { (St.seat store.old).caller ≡ job.now.call.caller }
     ensures tried { (start : Seat) (kept : Option Answer) (answers : List Answer) → Looked start (St.seat store.old)
         → HasAsked job.now answers kept → IsList start (St.seat store.old) (asking_for job.now) reply.old.draft attempt lines
         → TriedAs start (St.seat store.new) job.now answers (bytes_of reply.new) result }
@@ -104,10 +104,10 @@ pub(crate) fn settle_denied<St: Store>(
     requires faithful { Faithful (St.seat store.old).opening (St.seat store.old).seen attempt }
     requires moment { attempt.moment ≤ stamp_limit }
     requires reading { attempt.act ≡ None }
-    requires caller { (St.seat store.old).caller ≡ job.now.caller }
+    requires caller { (St.seat store.old).caller ≡ job.now.call.caller }
     ensures tried { (start : Seat) (asked : PurchaseAsked) (kept : Option Answer) (answers : List Answer) → Looked start (St.seat store.old)
         → job.now.request.now ≡ request_kinds.BuyConfirm asked → HasAsked job.now answers kept
-        → IsDenied start (St.seat store.old) (asking_for job.now) asked (called_by job.now) reply.old.draft kept attempt reason
+        → IsDenied start (St.seat store.old) (asking_for job.now) asked job.now.call reply.old.draft kept attempt reason
         → TriedAs start (St.seat store.new) job.now answers (bytes_of reply.new) result }
     ensures never { ¬ (result ≡ Tried.Failed) }
     ensures marks { KeepsMarks (St.marked store.old) (St.marked store.new) (St.seat store.old) (St.seat store.new) }

@@ -5,7 +5,7 @@ ghost use Rattle.shop_edges.specs.declared.gateway.Answer.{Answer as AnswerValue
 ghost use Rattle.shop_attempt.specs.Marks.{KeepsMarks};
 ghost use Rattle.shop_attempt.specs.Seats.{Seat, IsSeat, Looked};
 ghost use Rattle.shop_browse.specs.Attempts.{AttemptedAs, Suits};
-ghost use Rattle.shop_pages.specs.Replies.{bytes_of};
+ghost use Rattle.shop_pages.specs.ReplyStates.{bytes_of};
 ghost use Rattle.shop_engine.specs.Failures.{RoseBy, failures_as};
 ghost use Rattle.shop_engine.specs.Tries.{IsTried, IsOutcome, IsGivenUp, LeavesListMark, LeavesMarkOf, WasAttempted, asking_for};
 
@@ -15,7 +15,7 @@ use crate::settles::{settle_denied, settle_list, settle_page};
 use shop_attempt::{Conflict, Settle, Store};
 use shop_browse::{Ask, Attempted};
 use shop_cache::ListLines;
-use shop_edges::{Answer, Gateway, Reason};
+use shop_edges::{Answer, Call, Gateway, Reason};
 use shop_model::{Refusal, Request};
 use shop_order::attempt;
 use shop_order::buy_confirm::{Paid, pay};
@@ -32,8 +32,7 @@ pub(crate) struct Job<'a, 'r> {
     pub(crate) ask: Ask<'a>,
     pub(crate) request: &'r Request,
     pub(crate) form: Form,
-    pub(crate) caller: u32,
-    pub(crate) call: u64,
+    pub(crate) call: Call,
 }
 
 /// What came of one try.
@@ -72,7 +71,7 @@ fn try_once<St: Store, G: Gateway>(
     gateway: &mut G,
 ) -> Tried
     requires valid { IsSeat (St.seat store.old) }
-    requires caller { (St.seat store.old).caller ≡ job.now.caller }
+    requires caller { (St.seat store.old).caller ≡ job.now.call.caller }
     requires suits { Suits job.now.ask (St.seat store.old) }
     requires moment { job.now.ask.moment ≤ stamp_limit }
     ensures tried { IsTried (record { seat = St.seat store.old; kept = kept.old; told = G.answers gateway.old })
@@ -103,9 +102,9 @@ fn try_other<St: Store, G: Gateway>(
 ) -> Tried
     requires attempted { WasAttempted (St.seat store.old) (asking_for job.now) reply.old.draft attempted }
     requires suits { Suits job.now.ask (St.seat store.old) }
-    requires caller { (St.seat store.old).caller ≡ job.now.caller }
+    requires caller { (St.seat store.old).caller ≡ job.now.call.caller }
     requires moment { job.now.ask.moment ≤ stamp_limit }
-    ensures tried { (start : Seat) → Looked start (St.seat store.old) → IsSeat start → start.caller ≡ job.now.caller → AttemptedAs start (St.seat store.old) (asking_for job.now) reply.old.draft attempted
+    ensures tried { (start : Seat) → Looked start (St.seat store.old) → IsSeat start → start.caller ≡ job.now.call.caller → AttemptedAs start (St.seat store.old) (asking_for job.now) reply.old.draft attempted
         → IsTried (record { seat = start; kept = kept.old; told = G.answers gateway.old })
         (record { seat = St.seat store.new; kept = kept.new; told = G.answers gateway.new })
         job.now (bytes_of reply.new) result }
@@ -123,7 +122,7 @@ fn try_other<St: Store, G: Gateway>(
             };
             let draft = reply.draft();
             match pay(
-                alloc, &job.ask, asked, job.caller, job.call, attempt, kept, gateway, draft,
+                alloc, &job.ask, asked, job.call, attempt, kept, gateway, draft,
             ) {
                 Paid::Approved(attempt) => settle_page(store, job, attempt, reply),
                 Paid::Denied(attempt, reason) => settle_denied(store, job, attempt, reason, reply),
@@ -176,7 +175,7 @@ pub(crate) fn try_all<St: Store, G: Gateway>(
     gateway: &mut G,
 ) -> Option<Outcome>
     requires valid { IsSeat (St.seat store.old) }
-    requires caller { (St.seat store.old).caller ≡ job.now.caller }
+    requires caller { (St.seat store.old).caller ≡ job.now.call.caller }
     requires suits { Suits job.now.ask (St.seat store.old) }
     requires moment { job.now.ask.moment ≤ stamp_limit }
     ensures answer { IfSome result (IsOutcome (record { seat = St.seat store.old; kept = None; told = G.answers gateway.old })

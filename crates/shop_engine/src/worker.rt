@@ -11,7 +11,7 @@ use crate::tries::{Job, try_all};
 use shop_attempt::Store;
 use shop_browse::Ask;
 use shop_cache::{Kept, ListCache, ListKey, ListLines};
-use shop_edges::{Clock, Gateway};
+use shop_edges::{Call, Clock, Gateway};
 use shop_http::{Asked, Message, Routes, request};
 use shop_model::{Refusal, Request, STAMP_LIMIT, Scale};
 use shop_pages::{Form, Reply};
@@ -39,7 +39,7 @@ impl<St: Store> Model for Worker<St> {
     ghost use Rattle.std.specs.Arc.{arc_value};
     ghost use Rattle.std.specs.Prelude.{◌≤◌};
     ghost use Rattle.shop_model.specs.rows.Limits.{stamp_limit};
-    ghost use Rattle.shop_engine.specs.Lists.{AreKept};
+    ghost use Rattle.shop_engine.specs.Keeping.{AreKept};
     ghost use Rattle.shop_engine.specs.Workers.{WorkerState, IsPosted};
 
     ghost Value = { WorkerState St };
@@ -96,13 +96,14 @@ impl Accepted {
 }
 
 impl<St: Store> Worker<St> {
-    ghost use Rattle.std.specs.Prelude.{◌≡◌, ◌≤◌, min, max, [], IfOk, IfSome, IsSome, IsNone, OnOk, OnErr};
+    ghost use Rattle.std.specs.Prelude.{◌≡◌, ◌≤◌, min, max, [], Ok, IfOk, IfSome, IsSome, IsNone, OnOk, OnErr};
     ghost use Rattle.shop_model.specs.rows.Limits.{stamp_limit};
     ghost use Rattle.shop_model.specs.asked.Refusals.{page_of};
     ghost use Rattle.shop_edges.specs.Causes.{count_up};
     ghost use Rattle.shop_history.specs.Lawful.{IsLawful};
     ghost use Rattle.shop_attempt.specs.Marks.{KeepsMarks};
     ghost use Rattle.shop_cache.specs.Keys.{key_asked};
+    ghost use Rattle.shop_http.specs.Requests.{asked};
     ghost use Rattle.shop_pages.specs.Replies as replies;
     ghost use Rattle.shop_engine.specs.Keeping.{IsAnsweredBy, IsLookedOnce, KeepsLines, kept_now};
     ghost use Rattle.shop_engine.specs.Lists.{IsFreshPoint, looked_for};
@@ -184,7 +185,7 @@ impl<St: Store> Worker<St> {
     ) -> Option<Point>
         ensures answers { IfSome result (λ point. Answers last (standing St.seat self.old (C.readings clock.old) (G.answers gateway.old)) (standing St.seat self.new (C.readings clock.new) (G.answers gateway.new))
             message.now point self.new.reply) }
-        ensures memory { IsNone result → GivesUp (standing St.seat self.old (C.readings clock.old) (G.answers gateway.old)) (standing St.seat self.new (C.readings clock.new) (G.answers gateway.new)) }
+        ensures memory { IsNone result → GivesUp (asked message.now) (standing St.seat self.old (C.readings clock.old) (G.answers gateway.old)) (standing St.seat self.new (C.readings clock.new) (G.answers gateway.new)) }
         ensures caller { self.new.caller ≡ self.old.caller }
         ensures marks { KeepsMarks (St.marked self.old.store) (St.marked self.new.store) (St.seat self.old.store) (St.seat self.new.store) }
         ensures fresh { IfSome result (IsFreshPoint (St.marked self.new.store) (St.seat self.new.store).seen) }
@@ -213,7 +214,7 @@ impl<St: Store> Worker<St> {
     ) -> Option<Point>
         ensures answers { IfSome result (λ point. AnswersRequest form (standing St.seat self.old (C.readings clock.old) (G.answers gateway.old)) (standing St.seat self.new (C.readings clock.new) (G.answers gateway.new))
             request.now point self.new.reply) }
-        ensures memory { IsNone result → GivesUp (standing St.seat self.old (C.readings clock.old) (G.answers gateway.old)) (standing St.seat self.new (C.readings clock.new) (G.answers gateway.new)) }
+        ensures memory { IsNone result → GivesUp (Ok request.now) (standing St.seat self.old (C.readings clock.old) (G.answers gateway.old)) (standing St.seat self.new (C.readings clock.new) (G.answers gateway.new)) }
         ensures caller { self.new.caller ≡ self.old.caller }
         ensures marks { KeepsMarks (St.marked self.old.store) (St.marked self.new.store) (St.seat self.old.store) (St.seat self.new.store) }
         ensures fresh { IfSome result (IsFreshPoint (St.marked self.new.store) (St.seat self.new.store).seen) }
@@ -232,12 +233,14 @@ impl<St: Store> Worker<St> {
             moment: accepted.moment,
             draw: accepted.draw,
         };
-        let (caller, call) = (self.calls.caller(), accepted.call);
+        let call = Call {
+            caller: self.calls.caller(),
+            number: accepted.call,
+        };
         let job = Job {
             ask,
             request,
             form,
-            caller,
             call,
         };
         let (store, reply) = (&mut self.store, &mut self.reply);

@@ -5,6 +5,7 @@ use Rattle.shop_model.specs.declared.tables.Tables.{Tables}
 use Rattle.shop_model.specs.asked.PurchaseAsked.{PurchaseAsked}
 use Rattle.shop_model.specs.rows.Rows.{CustomerRow}
 use Rattle.shop_model.specs.trade.Sales.{new_order, tables_bought}
+use Rattle.shop_edges.specs.declared.charge.Call.{Call}
 use Rattle.shop_edges.specs.declared.gateway.Answer.{Answer}
 use Rattle.shop_edges.specs.declared.gateway.Reason.{Reason}
 use Rattle.shop_edges.specs.declared.gateway.Verdict.{Verdict}
@@ -28,7 +29,7 @@ use Rattle.shop_browse.specs.Attempts.{Becomes, asking_of}
 use Rattle.shop_order.specs.declared.buy_confirm.Paid.TheVariants as paid
 use Rattle.shop_order.specs.declared.decision.Decision.TheVariants as decisions
 use Rattle.shop_order.specs.Decisions.{Decides, answer_to}
-use Rattle.shop_order.specs.Payments.{Call, IsSettledBy, PaidAs, PaidFor}
+use Rattle.shop_order.specs.Payments.{IsSettledBy, PaidAs, PaidFor}
 use Rattle.shop_order.proofs.PurchaseWrites.{items_shown, customer_there, passes, charge_is, written_is, page_is}
 
 module _ (ask : Ask) (asked : PurchaseAsked) (call : Call) (given : Attempt) (draft : Draft) (kept : Option Answer) where
@@ -39,8 +40,8 @@ module _ (ask : Ask) (asked : PurchaseAsked) (call : Call) (given : Attempt) (dr
     passes t agrees.sound asked given.reads is.purchase is.is agrees.shows,
     same
         ∙ ap (λ (c : ChargeValue). Some (record { charge = c; verdict = verdict }))
-        (ap (λ (a : PurchaseAsked). charge_to a call.caller call.number is.bill.totals.total) is.is.same
-        ∙ charge_is t agrees.sound asked given.reads is.purchase is.is agrees.shows is.bill is.billed call.caller call.number),
+        (ap (λ (a : PurchaseAsked). charge_to a call is.bill.totals.total) is.is.same
+        ∙ charge_is t agrees.sound asked given.reads is.purchase is.is agrees.shows is.bill is.billed call),
   )
 
   pub paid_denied : (reason : Reason) → Decides asked call ask.draw given.reads draft kept (decisions.Denied reason) → PaidFor (asking_of ask (BuyConfirm asked)) asked call given draft kept (paid.Denied given reason)

@@ -17,6 +17,7 @@ use Rattle.shop_model.specs.trade.Carts.{first_of}
 use Rattle.shop_model.specs.trade.Money as money
 use Rattle.shop_model.specs.trade.Money.{Money}
 use Rattle.shop_model.specs.trade.Sales.{check_known, check_purchase, bought_lines, ship_addresses, ship_id, ship_country, price_of, new_order, with_purchase, tables_bought}
+use Rattle.shop_edges.specs.declared.charge.Call.{Call}
 use Rattle.shop_edges.specs.Charges.{charge_to, cents_due, charge_due}
 use Rattle.shop_history.specs.declared.acts.Drawn.{Drawn}
 use Rattle.shop_history.specs.declared.keys.Row.{Row}
@@ -167,8 +168,8 @@ module _ (t : Tables) (sound : Sound t) (asked : PurchaseAsked) (reads : List Re
         ∙ ap (λ (ls : List LineRow). money.totals ls customer.discount) (sym bought_are)
 
     -- what it is charged
-    pub charge_is : (caller call : ℕ) → charge_to asked caller call bill.totals.total ≡ charge_due t asked caller call
-    charge_is caller call = ap (charge_to asked caller call) (ap (λ (m : Money). m.total) price_is ∙ ap (cents_due t asked) (sym customer_there))
+    pub charge_is : (call : Call) → charge_to asked call bill.totals.total ≡ charge_due t asked call
+    charge_is call = ap (charge_to asked call) (ap (λ (m : Money). m.total) price_is ∙ ap (cents_due t asked) (sym customer_there))
 
     module _ (stamp draw : ℕ) (auth : List ℕ) where
       abbrev days : ℕ

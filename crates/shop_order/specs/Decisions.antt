@@ -5,6 +5,7 @@ use Rattle.shop_model.specs.asked.PurchaseAsked.{PurchaseAsked}
 use Rattle.shop_model.specs.asked.Refusals.{page_of}
 use Rattle.shop_model.specs.pages.BuyConfirm.{confirm_page, purchase_ids}
 use Rattle.shop_model.specs.rows.Rows.{OrderRow}
+use Rattle.shop_edges.specs.declared.charge.Call.{Call}
 use Rattle.shop_edges.specs.declared.gateway.Answer.{Answer}
 use Rattle.shop_edges.specs.declared.gateway.Reason.{Reason}
 use Rattle.shop_edges.specs.declared.gateway.Verdict.{Verdict}
@@ -23,7 +24,6 @@ use Rattle.shop_order.specs.declared.decision.Decision.{Decision}
 use Rattle.shop_order.specs.declared.decision.Decision.TheVariants.{Approved, Denied, Failed}
 use Rattle.shop_order.specs.declared.purchase.Bill.{Bill}
 use Rattle.shop_order.specs.declared.purchase.Purchase.{Purchase}
-use Rattle.shop_order.specs.Payments.{Call}
 use Rattle.shop_order.specs.Purchases.{IsPurchase, IsBill, order_of, drawn_order, purchase_writes}
 
 -- a purchase, its bill, the authorisation of its payment, and the word that was drawn
@@ -60,10 +60,10 @@ pub record IsDenied (reason : Reason) (draft : Draft) (decision : Decision) : Ty
   pub is : decision ≡ Denied reason
   pub written : pages.Shows draft (λ drawn. page_of (denial reason))
 
--- the answer to what is billed, which a caller asks for in a call
+-- the answer to what is billed, which is asked for in a call
 abbrev pub answer_to : Call → Purchase → Bill → Verdict → Answer
 answer_to call purchase bill verdict =
-    record { charge = charge_to purchase.asked.now call.caller call.number bill.totals.total; verdict = verdict }
+    record { charge = charge_to purchase.asked.now call bill.totals.total; verdict = verdict }
 
 -- what is decided by the answer that is kept
 abbrev pub IsDecidedBy : Call → Purchase → Bill → ℕ → Draft → Option Answer → Decision → Type 0

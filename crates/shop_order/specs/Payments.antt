@@ -5,6 +5,7 @@ use Rattle.shop_model.specs.declared.tables.Tables.{Tables}
 use Rattle.shop_model.specs.asked.PurchaseAsked.{PurchaseAsked}
 use Rattle.shop_model.specs.asked.Refusals.{page_of}
 use Rattle.shop_model.specs.pages.Show.{check}
+use Rattle.shop_edges.specs.declared.charge.Call.{Call}
 use Rattle.shop_edges.specs.declared.gateway.Answer.{Answer}
 use Rattle.shop_edges.specs.declared.gateway.Reason.{Reason}
 use Rattle.shop_edges.specs.declared.gateway.Verdict.{Verdict}
@@ -21,18 +22,13 @@ use Rattle.shop_browse.specs.Attempts.{Asking, IsReady, IsPayable, IsAttempt}
 use Rattle.shop_order.specs.declared.buy_confirm.Paid.{Paid}
 use Rattle.shop_order.specs.declared.buy_confirm.Paid.TheVariants as paid
 
--- who asks for a purchase, and in which call
-pub record Call : Type 0 where
-  pub caller : ℕ
-  pub number : ℕ
-
 -- whichever tables agree with the reads, the purchase is not refused there, and this verdict on what it is charged is kept
 abbrev pub IsSettledBy : Tables → PurchaseAsked → Call → List ReadOf → Option Answer → Verdict → Type 0
 IsSettledBy opening asked call reads kept verdict =
     (t : Tables)
     → Agrees opening t reads
     → (check t (BuyConfirm asked) ≡ None)
-    × (kept ≡ Some (record { charge = charge_due t asked call.caller call.number; verdict = verdict }))
+    × (kept ≡ Some (record { charge = charge_due t asked call; verdict = verdict }))
 
 -- the attempt does the purchase, with the authorisation of the verdict that is kept
 pub record IsApproved (start now : Seat) (asking : Asking) (asked : PurchaseAsked) (call : Call) (draft : Draft) (kept : Option Answer) (attempt : Attempt) : Type 0 where

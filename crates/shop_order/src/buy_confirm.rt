@@ -15,7 +15,7 @@ use crate::stops::stopped;
 use shop_attempt::{Attempt, ReadOf, Store};
 use shop_browse::{Ask, Attempted, Interaction, Next, attempt_by};
 use shop_draft::Draft;
-use shop_edges::{Answer, Gateway, Reason};
+use shop_edges::{Answer, Call, Gateway, Reason};
 use shop_model::{BuyConfirm, Request};
 use shop_text::{Memory, Shared};
 use std::alloc::Global;
@@ -32,30 +32,27 @@ pub enum Paid {
     Memory,
 }
 
-/// Pays for a purchase, which a caller asks for in a call: asks the gateway, unless the answer that is
+/// Pays for a purchase, which is asked for in a call: asks the gateway, unless the answer that is
 /// kept is to the same charge, and keeps its answer.
 #[inline(never)]
 pub fn pay<G: Gateway>(
     alloc: Global,
     ask: &Ask,
     asked: &Shared<BuyConfirm>,
-    caller: u32,
-    call: u64,
+    call: Call,
     attempt: Attempt,
     kept: &mut Option<Answer>,
     gateway: &mut G,
     draft: &mut Draft,
 ) -> Paid
     requires { HasBasket ask.now.index.now (request_kinds.BuyConfirm asked.now) attempt.reads }
-    ensures paid { PaidFor (asking_of ask.now (request_kinds.BuyConfirm asked.now)) asked.now (record { caller = caller; number = call }) attempt draft.new kept.new result }
-    ensures asks { AsksOnce asked.now caller call kept.old kept.new (G.answers gateway.old) (G.answers gateway.new) }
+    ensures paid { PaidFor (asking_of ask.now (request_kinds.BuyConfirm asked.now)) asked.now call attempt draft.new kept.new result }
+    ensures asks { AsksOnce asked.now call kept.old kept.new (G.answers gateway.old) (G.answers gateway.new) }
     ensures failed { result ≡ Paid.Failed → Rose (G.faults gateway.old) (G.faults gateway.new) }
     ensures later { G.faults gateway.old ≤ G.faults gateway.new }
 {
     let reads = attempt.reads.as_slice();
-    match decide(
-        alloc, asked, caller, call, ask.draw, reads, kept, gateway, draft,
-    ) {
+    match decide(alloc, asked, call, ask.draw, reads, kept, gateway, draft) {
         Ok(Decision::Approved(act, writes)) => Paid::Approved(Attempt {
             writes: Some(writes),
             act: Some(act),

@@ -12,7 +12,7 @@ use crate::purchase::{Bill, Purchase};
 use crate::sale::{purchase_act, purchase_writes};
 use shop_attempt::{ReadOf, Write};
 use shop_draft::{Draft, refusal};
-use shop_edges::{Answer, Gateway, Reason, Verdict};
+use shop_edges::{Answer, Call, Gateway, Reason, Verdict};
 use shop_history::Act;
 use shop_model::{AuthId, BuyConfirm};
 use shop_text::{Listed, Memory, Shared};
@@ -61,8 +61,7 @@ fn denied(reason: Reason, draft: &mut Draft) -> Result<Decision, Memory>
 pub(crate) fn decide<G: Gateway>(
     alloc: Global,
     asked: &Shared<BuyConfirm>,
-    caller: u32,
-    call: u64,
+    call: Call,
     draw: u32,
     reads: &[ReadOf],
     kept: &mut Option<Answer>,
@@ -70,14 +69,14 @@ pub(crate) fn decide<G: Gateway>(
     draft: &mut Draft,
 ) -> Result<Decision, Memory>
     requires { IsRead asked.now reads.now }
-    ensures decides { IfOk result (spec.Decides asked.now (record { caller = caller; number = call }) draw reads.now draft.new kept.new) }
-    ensures asks { AsksOnce asked.now caller call kept.old kept.new (G.answers gateway.old) (G.answers gateway.new) }
+    ensures decides { IfOk result (spec.Decides asked.now call draw reads.now draft.new kept.new) }
+    ensures asks { AsksOnce asked.now call kept.old kept.new (G.answers gateway.old) (G.answers gateway.new) }
     ensures failed { IfOk result (λ decision. decision ≡ Decision.Failed → Rose (G.faults gateway.old) (G.faults gateway.new)) }
     ensures later { G.faults gateway.old ≤ G.faults gateway.new }
 {
     let purchase = Purchase::of(asked, reads);
     let bill = Bill::of(alloc, &purchase)?;
-    let charge = charge_of(asked.get(), caller, call, bill.totals.total);
+    let charge = charge_of(asked.get(), call, bill.totals.total);
     match ask_gateway(charge, kept, gateway) {
         Verdict::Approved(auth) => approved(alloc, &purchase, &bill, &auth, draw, draft),
         Verdict::Denied(reason) => denied(reason, draft),

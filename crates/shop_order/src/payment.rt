@@ -4,17 +4,17 @@ ghost use Rattle.shop_edges.specs.Causes.{Rose};
 ghost use Rattle.shop_edges.specs.Charges.{charge_to};
 ghost use Rattle.shop_order.specs.Charging as spec;
 
-use shop_edges::{Answer, Charge, Gateway, Verdict};
+use shop_edges::{Answer, Call, Charge, Gateway, Verdict};
 use shop_model::BuyConfirm;
 
-/// The charge of so many cents to the card of a purchase, which a caller asks for in a call.
-pub(crate) fn charge_of(asked: &BuyConfirm, caller: u32, call: u64, cents: u64) -> Charge
-    ensures { result ≡ charge_to asked.now caller call cents }
+/// The charge of so many cents to the card of a purchase, which is asked for in a call.
+pub(crate) fn charge_of(asked: &BuyConfirm, call: Call, cents: u64) -> Charge
+    ensures { result ≡ charge_to asked.now call cents }
 {
     let payment = &asked.payment;
     Charge {
-        caller,
-        call,
+        caller: call.caller,
+        call: call.number,
         cents,
         card: payment.card,
         number: payment.number,

@@ -3,7 +3,7 @@ use Rattle.std.specs.Borrow.{Lends, MutBor, Fml}
 use Rattle.shop_draft.specs.declared.draft.Draft.{Draft}
 use Rattle.shop_draft.specs.contracts.draft.Draft as draft
 use Rattle.shop_pages.specs.contracts.reply.Reply as reply
-use Rattle.shop_pages.specs.Replies.{ReplyState}
+use Rattle.shop_pages.specs.ReplyStates.{ReplyState}
 
 -- its draft is what was left there, and all else stays
 abbrev pub LendsDraft : MutBor ReplyState → MutBor Draft → Fml

@@ -1,6 +1,7 @@
 //! The heads of replies (RFC 9112).
 ghost use Rattle.std.specs.Prelude.{◌≡◌, ◌≤◌, ◌+◌, ◌++◌, length};
 ghost use Rattle.shop_pages.specs.Replies as spec;
+ghost use Rattle.shop_pages.specs.ReplyStates.{head_room};
 
 use crate::reply::Form;
 use http::StatusCode;
@@ -62,9 +63,9 @@ fn put_close_line(out: &mut Out, form: Form)
 /// Adds the head of a reply, line by line.
 #[tactic(auto, unfolding(crate::specs::Replies::reply_head))]
 fn put_lines(out: &mut Out, status: u16, len: u64, form: Form)
-    requires { spec.head_room ≤ out.old.room }
+    requires { head_room ≤ out.old.room }
     ensures bytes { out.new.bytes ≡ out.old.bytes ++ spec.reply_head status len form }
-    ensures room { out.old.room ≤ out.new.room + spec.head_room }
+    ensures room { out.old.room ≤ out.new.room + head_room }
 {
     put_status_line(out, status);
     out.put(b"Content-Type: text/html; charset=utf-8\r\nContent-Length: ");
@@ -78,9 +79,9 @@ fn put_lines(out: &mut Out, status: u16, len: u64, form: Form)
 /// Adds the head of a reply with this status, around a page of so many bytes; takes no memory. Around the number of
 /// bytes most heads are the same.
 pub(crate) fn put_head(out: &mut Out, status: u16, len: u64, form: Form)
-    requires { spec.head_room ≤ out.old.room }
+    requires { head_room ≤ out.old.room }
     ensures bytes { out.new.bytes ≡ out.old.bytes ++ spec.reply_head status len form }
-    ensures room { out.old.room ≤ out.new.room + spec.head_room }
+    ensures room { out.old.room ≤ out.new.room + head_room }
 {
     if status == 200 && !form.close {
         out.put(b"HTTP/1.1 200 OK\r\nContent-Type: text/html; charset=utf-8\r\nContent-Length: ");

@@ -1,6 +1,7 @@
 ghost use Rattle.std.specs.Prelude.{◌≡◌, ◌≤◌, ◌+◌, ◌++◌, IfSome};
 ghost use Rattle.shop_draft.specs.Templates.{filled, template_room};
-ghost use Rattle.shop_pages.specs.Replies as spec;
+ghost use Rattle.shop_pages.specs.Replies.{body_of};
+ghost use Rattle.shop_pages.specs.ReplyStates.{head_room, sent_by};
 
 use crate::head::{HEAD_ROOM, put_head};
 use shop_draft::{Draft, HEAD_ROOM as ROOM_BEFORE, Out, Template};
@@ -23,7 +24,7 @@ pub struct Form {
 
 /// The most bytes of the reply with this page; none where no memory could hold them.
 fn reply_room(page: &Template) -> Option<usize>
-    ensures { IfSome result (λ room. room ≡ spec.head_room + template_room page.now) }
+    ensures { IfSome result (λ room. room ≡ head_room + template_room page.now) }
 {
     page.room()?.checked_add(HEAD_ROOM)
 }
@@ -33,7 +34,7 @@ fn reply_room(page: &Template) -> Option<usize>
 /// head; takes no memory.
 fn join(page: &mut Template, out: &mut Out, drawn: &Drawn, form: Form) -> bool
     requires { template_room page.old ≤ out.old.room }
-    ensures { spec.sent_by result page.new out.new ≡ out.old.bytes ++ spec.body_of (filled drawn.now page.old) form }
+    ensures { sent_by result page.new out.new ≡ out.old.bytes ++ body_of (filled drawn.now page.old) form }
 {
     if form.bodiless {
         return false;
@@ -57,7 +58,7 @@ pub struct Reply {
 }
 
 impl Model for Reply {
-    ghost use Rattle.shop_pages.specs.Replies.{ReplyState};
+    ghost use Rattle.shop_pages.specs.ReplyStates.{ReplyState};
 
     ghost Value = { ReplyState };
 
@@ -70,11 +71,12 @@ impl Reply {
     ghost use Rattle.shop_model.specs.declared.page.Page.{Page};
     ghost use Rattle.shop_draft.specs.Pages.{IsPage};
     ghost use Rattle.shop_pages.specs.Lending.{LendsDraft};
-    ghost use Rattle.shop_pages.specs.Replies as spec;
+    ghost use Rattle.shop_pages.specs.Replies.{reply as reply_bytes};
+    ghost use Rattle.shop_pages.specs.ReplyStates.{IsReserved, bytes_of};
 
     /// A buffer with no reply.
     pub fn new(alloc: Global) -> Result<Reply, Memory>
-        ensures { IfOk result (λ reply. spec.bytes_of reply ≡ []) }
+        ensures { IfOk result (λ reply. bytes_of reply ≡ []) }
     {
         Ok(Reply {
             draft: Draft {
@@ -95,9 +97,9 @@ impl Reply {
 
     /// Drops the last reply, and makes room for the one to the draft.
     pub fn reserve(&mut self) -> Result<(), Memory>
-        ensures empty { spec.bytes_of self.new ≡ [] }
+        ensures empty { bytes_of self.new ≡ [] }
         ensures draft { self.new.draft ≡ self.old.draft }
-        ensures reserved { OnOk result (spec.IsReserved self.new) }
+        ensures reserved { OnOk result (IsReserved self.new) }
     {
         self.whole = false;
         self.out.clear();
@@ -110,8 +112,8 @@ impl Reply {
 
     /// Makes the reply of the draft, with what its settle drew; takes no memory.
     pub fn finish(&mut self, drawn: &Drawn, form: Form)
-        requires { spec.IsReserved self.old }
-        ensures { (page : Page) → IsPage self.old.draft drawn.now page → spec.bytes_of self.new ≡ spec.reply page form }
+        requires { IsReserved self.old }
+        ensures { (page : Page) → IsPage self.old.draft drawn.now page → bytes_of self.new ≡ reply_bytes page form }
     {
         self.out.clear();
         let len = self.draft.page.len(drawn);
@@ -122,7 +124,7 @@ impl Reply {
 
     /// The reply that was finished last; none after a reserve.
     pub fn bytes(&self) -> &[u8]
-        ensures { result.now ≡ spec.bytes_of self.now }
+        ensures { result.now ≡ bytes_of self.now }
     {
         if self.whole {
             self.draft.page.bytes()
@@ -133,7 +135,7 @@ impl Reply {
 
     /// The reply; takes no memory.
     pub fn into_text(self) -> Text
-        ensures { result ≡ spec.bytes_of self }
+        ensures { result ≡ bytes_of self }
     {
         let Reply { draft, whole, out } = self;
         let Draft { status: _, page } = draft;

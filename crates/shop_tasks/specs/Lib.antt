@@ -1,2 +1,3 @@
+pub mod Counts
 pub mod TaskValues
 pub mod Tasks

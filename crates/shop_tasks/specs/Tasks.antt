@@ -1,5 +1,5 @@
 -- What tasks promise, and what comes of several of them.
-use Rattle.std.specs.Prelude.{◌≡◌, ℕ, Bool, true, false, List, [], ◌∷◌, ◌++◌, length, map, Option, Some, Result, Ok, IfOk}
+use Rattle.std.specs.Prelude.{◌≡◌, ℕ, Bool, true, false, List, [], ◌∷◌, ◌++◌, length, map, All, Contains, Option, Some, Result, Ok, IfOk}
 use Rattle.std.specs.List.{AllZip}
 use Rattle.shop_text.specs.declared.memory.Memory.{Memory as NoMemory}
 use Rattle.shop_book.specs.Books.{BookValue}
@@ -10,14 +10,20 @@ use Rattle.shop_edges.specs.Causes.{Rose}
 use Rattle.shop_edges.specs.Starts.{MayGive, Spawning}
 use Rattle.shop_edges.specs.declared.gateway.Answer.{Answer}
 use Rattle.shop_edges.specs.declared.ticket.Begun.{Begun}
-use Rattle.shop_engine.specs.Failures.{RoseBy}
 use Rattle.shop_engine.specs.Workers.{WorkerState, at_first, standing}
 use Rattle.shop_gateway.specs.Verdicts.{AreVerdicts}
 use Rattle.shop_turn.specs.Desks.{DeskValue, marks_of, seat_of}
 use Rattle.shop_turn.specs.Shops.{Closes}
 use Rattle.shop_tasks.specs.declared.running.Ran.{Ran}
 use Rattle.shop_tasks.specs.declared.running.Ran.TheVariants.{Done, NotStarted, Memory}
+use Rattle.shop_tasks.specs.Counts.{counted}
 use Rattle.shop_tasks.specs.TaskValues.{RacedValue, TaskValue}
+
+-- what came of tasks, by whether all were started, and memory ran out in none
+abbrev pub ended : Bool → Bool → BookValue → Ran
+ended true true book = Done book
+ended true false book = Memory
+ended false driven book = NotStarted book
 
 -- where a worker and the browser that it serves stand, before its gateway was asked
 abbrev pub stage_of : WorkerState DeskValue → Option (List ℕ) → BrowserState → Stage
@@ -66,21 +72,38 @@ module _ {C : Type 0} (readings : C → Option (List ℕ)) where
     pub are : AllZip IsTicketOf begun tickets
     pub whole : all ≡ true → left ≡ []
     pub failed : all ≡ false → Rose old.faults new.faults
-    pub starts : RoseBy old.starts (length begun) new.starts
+    pub starts : new.starts ≡ counted (length begun) old.starts
 
-  -- each ticket gave a desk, or memory ran out in a task
+  -- a desk that one of these tickets gave
+  abbrev pub IsGiven : List (Begun (TaskValue C) (Result RacedValue NoMemory)) → DeskValue → Type 0
+  IsGiven tickets desk =
+      (ticket : Begun (TaskValue C) (Result RacedValue NoMemory)) × Contains tickets ticket × (one : RacedValue) × MayGive Promises ticket (Ok one) × (desk ≡ one.desk)
+
+  -- each ticket gave a desk, or memory ran out in a task; each desk is given by one
   pub record Joins (tickets : List (Begun (TaskValue C) (Result RacedValue NoMemory))) (desks : List DeskValue) (all : Bool) : Type 0 where
     pub given : all ≡ true → (raced : List RacedValue) × AllZip (λ ticket one. MayGive Promises ticket (Ok one)) tickets raced × (desks ≡ map (λ one. one.desk) raced)
+    pub each : All (IsGiven tickets) desks
 
   -- each task was started, and each browser took all its turns; the shop was closed with their desks and this one
   pub record AreDone (own : DeskValue) (tasks : List (TaskValue C)) (old new : Spawning) (book : BookValue) : Type 0 where
     pub raced : List RacedValue
     pub kept : AllZip (λ task one. Races (first_stage task) task.steps one) tasks raced
     pub closes : Closes own.origin (own ∷ map (λ one. one.desk) raced) book
-    pub starts : RoseBy old.starts (length tasks) new.starts
+    pub starts : new.starts ≡ counted (length tasks) old.starts
+
+  -- the desk of one of these tasks, whose browser took all its turns
+  abbrev pub IsBack : List (TaskValue C) → DeskValue → Type 0
+  IsBack tasks desk = (task : TaskValue C) × Contains tasks task × (one : RacedValue) × Races (first_stage task) task.steps one × (desk ≡ one.desk)
+
+  -- a start failed, and the shop was closed with the desks that came back and this one
+  pub record AreStopped (own : DeskValue) (tasks : List (TaskValue C)) (old new : Spawning) (book : BookValue) : Type 0 where
+    pub failed : Rose old.faults new.faults
+    pub desks : List DeskValue
+    pub back : All (IsBack tasks) desks
+    pub closes : Closes own.origin (own ∷ desks) book
 
   -- by what came of the tasks
   abbrev pub RanAs : DeskValue → List (TaskValue C) → Spawning → Spawning → Ran → Type 0
   RanAs own tasks old new (Done book) = AreDone own tasks old new book
-  RanAs own tasks old new NotStarted = Rose old.faults new.faults
+  RanAs own tasks old new (NotStarted book) = AreStopped own tasks old new book
   RanAs own tasks old new Memory = Unit {0}

@@ -17,8 +17,8 @@ use std::thread::Threads;
 pub enum Ran {
     /// All were done, and this is the book of their shop.
     Done(Book),
-    /// One could not be started.
-    NotStarted,
+    /// One could not be started, and this is the book of their shop.
+    NotStarted(Book),
     /// Memory ran out.
     Memory,
 }
@@ -64,6 +64,19 @@ fn join_all<R: Threads + Wait + Drop + Send + 'static, C: Clock + Drop + Send + 
     all
 }
 
+/// What came of tasks, by whether all were started, and memory ran out in none of them.
+fn ended(started: bool, driven: bool, book: Book) -> Ran
+    ensures { result ≡ spec.ended started driven book }
+{
+    if !started {
+        return Ran::NotStarted(book);
+    }
+    if !driven {
+        return Ran::Memory;
+    }
+    Ran::Done(book)
+}
+
 /// Runs the tasks side by side, each started as the spawner does it, waits for those that were started, and closes
 /// their shop with a desk that is nobody's.
 pub fn race<R: Threads + Wait + Drop + Send + 'static, C: Clock + Drop + Send + 'static>(
@@ -85,11 +98,5 @@ pub fn race<R: Threads + Wait + Drop + Send + 'static, C: Clock + Drop + Send + 
     };
     let started = start_all(rt, spawner, tasks, &mut tickets);
     let driven = join_all(rt, tickets, &mut desks);
-    if !started {
-        return Ran::NotStarted;
-    }
-    if !driven {
-        return Ran::Memory;
-    }
-    Ran::Done(Shop::close(own, desks))
+    ended(started, driven, Shop::close(own, desks))
 }

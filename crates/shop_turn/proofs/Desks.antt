@@ -28,7 +28,8 @@ use Rattle.shop_book.specs.Settles as book
 use Rattle.shop_turn.specs.declared.rule.Origin.{Origin}
 use Rattle.shop_turn.specs.declared.rule.View.{View}
 use Rattle.shop_turn.specs.Views.{taking, looking, giving, read_view, copy, together}
-use Rattle.shop_turn.specs.Rule.{MarkFits, shelved}
+use Rattle.shop_turn.specs.Rule.{shelved}
+use Rattle.shop_turn.specs.Marks.{MarkFits}
 use Rattle.shop_turn.specs.Plays.{AtTable, PartTold}
 use Rattle.shop_turn.specs.Desks.{DeskValue, desk_value, greatest_of, own_of, shop_name, seat_of, marks_of, IsOneShop, HasLooked, HasSettled, Meets}
 use Rattle.shop_turn.specs.Seats.{IsReady, Found, IsReadIn, settled_view}

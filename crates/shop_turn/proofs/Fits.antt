@@ -9,7 +9,8 @@ use Rattle.shop_history.specs.declared.acts.Entry.{Entry}
 use Rattle.shop_turn.specs.declared.rule.Origin.{Origin}
 use Rattle.shop_turn.specs.declared.rule.Part.{Part}
 use Rattle.shop_turn.specs.declared.rule.View.{View}
-use Rattle.shop_turn.specs.Rule.{PartFits, MarkFits, Now, Fits}
+use Rattle.shop_turn.specs.Rule.{PartFits, Now, Fits}
+use Rattle.shop_turn.specs.Marks.{MarkFits}
 
 pub each_set : {V : Type 0} (F G : ℕ → V → Type 0) (views : List V) (id : ℕ) (w : V) → ((by : ℕ) (v : V) → get_elem? views by ≡ some v → F by v)
     → ((by : ℕ) (v : V) → by ≢ id → F by v → G by v) → G id w → (by : ℕ) (v : V) → get_elem? (set views id w) by ≡ some v → G by v

@@ -16,7 +16,8 @@ use Rattle.shop_book.specs.Books.{BookValue}
 use Rattle.shop_turn.specs.declared.rule.Origin.{Origin}
 use Rattle.shop_turn.specs.declared.rule.View.{View}
 use Rattle.shop_turn.specs.Views.{named_as, taking, looking, raising, appending, giving}
-use Rattle.shop_turn.specs.Rule.{PartFits, MarkFits, Now, Fits, IsSourced, EntryFits, shelved, Holds}
+use Rattle.shop_turn.specs.Rule.{PartFits, Now, Fits, IsSourced, EntryFits, shelved, Holds}
+use Rattle.shop_turn.specs.Marks.{MarkFits}
 use Rattle.shop_turn.proofs.Fits.{each_set, drop-push, drop-all, not_theirs, part_push, mark_push, parts_under}
 use Rattle.shop_turn.proofs.Sources.{at_here, given, given-at, given-else, source_set, entries_weaker}
 

@@ -15,8 +15,10 @@ use Rattle.shop_history.specs.declared.acts.Entry.{Entry}
 use Rattle.shop_book.specs.Books.{BookValue}
 use Rattle.shop_turn.specs.declared.rule.Origin.{Origin}
 use Rattle.shop_turn.specs.declared.rule.View.{View}
-use Rattle.shop_turn.specs.Views.{opening_view, named_as, taking, looking, raising, appending, giving, copy, spent_view, together}
-use Rattle.shop_turn.specs.Rule.{PartFits, MarkFits, Now, Fits, IsMarked, IsSourced, EntryFits, shelved, Holds}
+use Rattle.shop_turn.specs.Views.{opening_view, named_as, taking, looking, raising, appending, giving, copy, together}
+use Rattle.shop_turn.specs.SpentViews.{spent_view}
+use Rattle.shop_turn.specs.Rule.{PartFits, Now, Fits, IsMarked, IsSourced, EntryFits, shelved, Holds}
+use Rattle.shop_turn.specs.Marks.{MarkFits}
 use Rattle.shop_turn.specs.Plays.{PartTold, StampTold, IsWhole, Told, Names, Takes, Looks, Raises, Appends, Gives}
 use Rattle.shop_turn.proofs.Fits.{each_set, drop-all, parts_under}
 use Rattle.shop_turn.proofs.Holds.{mine, word0, word1, word3, stays, named_holds, taken_holds, my_log, my_latest, looked_holds, raised_holds, appended_holds, given_holds}

@@ -12,7 +12,7 @@ use Rattle.shop_turn.specs.declared.rule.Part.{Part}
 use Rattle.shop_turn.specs.declared.rule.Start.{Start}
 use Rattle.shop_turn.specs.declared.rule.View.{View}
 use Rattle.shop_turn.specs.Views.{opening_view, named_as, taking, copy, together}
-use Rattle.shop_turn.specs.Rule.{MarkFits}
+use Rattle.shop_turn.specs.Marks.{MarkFits}
 use Rattle.shop_turn.specs.Plays.{AtTable, PartTold, StampTold}
 use Rattle.shop_turn.specs.Desks.{DeskValue, desk_value, seat_of, marks_of}
 use Rattle.shop_turn.specs.Joined.{part_of, all_marks, joined, IsSeated}

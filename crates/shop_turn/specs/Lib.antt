@@ -1,4 +1,6 @@
 pub mod Views
+pub mod SpentViews
+pub mod Marks
 pub mod Rule
 pub mod Plays
 pub mod Seats

@@ -5,7 +5,7 @@ use Rattle.shop_book.specs.Books.{BookValue}
 use Rattle.shop_history.specs.declared.acts.Entry.{Entry}
 use Rattle.shop_turn.specs.declared.rule.Part.{Part}
 use Rattle.shop_turn.specs.declared.rule.View.{View}
-use Rattle.shop_turn.specs.Rule.{MarkFits}
+use Rattle.shop_turn.specs.Marks.{MarkFits}
 use Rattle.shop_turn.specs.Views.{named_as, taking, looking, raising, appending, giving}
 
 -- what a seat knows, and the slot that it has taken, with what is in it

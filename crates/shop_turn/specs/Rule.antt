@@ -8,6 +8,7 @@ use Rattle.shop_history.specs.declared.acts.Entry.{Entry}
 use Rattle.shop_turn.specs.declared.rule.Origin.{Origin}
 use Rattle.shop_turn.specs.declared.rule.Part.{Part}
 use Rattle.shop_turn.specs.declared.rule.View.{View}
+use Rattle.shop_turn.specs.Marks.{MarkFits}
 
 -- A number up to `named` has one owner, the seat by this index whose part has it. The log begins with
 -- what was seen under it, and behind that stands no entry of its caller.
@@ -16,12 +17,6 @@ pub record PartFits (log : List Entry) (owner : ℕ → ℕ) (named index : ℕ)
   pub is : log ≡ part.seen ++ after
   pub alone : 1 ≤ part.number → All (λ e. e.caller ≢ part.number) after
   pub owned : 1 ≤ part.number → (part.number ≤ named) × (owner part.number ≡ index)
-
--- each entry behind a mark's front has a stamp of at least its moment, and so will the next
-pub record MarkFits (log : List Entry) (latest : ℕ) (mark : ℕ × ℕ) : Type 0 where
-  pub front : mark.0 ≤ length log
-  pub moment : mark.1 ≤ latest
-  pub above : All (λ e. mark.1 ≤ e.stamp) (drop mark.0 log)
 
 -- how a shop stands: its log, which seat owns each number, who has the turn, the latest stamp, and the
 -- largest number

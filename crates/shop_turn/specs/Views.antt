@@ -1,6 +1,5 @@
 -- What a seat knows, at first and after each kind of step.
 use Rattle.std.specs.Prelude.{ℕ, ◌+◌, List, [], ◌∷◌, ◌++◌, length, max, true, false}
-use Rattle.shop_model.specs.rows.Empty.{no_tables}
 use Rattle.shop_book.specs.Books.{BookValue}
 use Rattle.shop_history.specs.declared.acts.Entry.{Entry}
 use Rattle.shop_turn.specs.declared.rule.View.{View}
@@ -66,21 +65,6 @@ copy view = record {
   live = view.live;
   origin = view.origin;
   own = record { number = 0; seen = view.own.seen };
-  others = [];
-  marks = [];
-  looks = 0;
-  settles = 0;
-  has_turn = false;
-  log = [];
-  latest = 0;
-}
-
--- a seat that was joined by another
-abbrev pub spent_view : View
-spent_view = record {
-  live = false;
-  origin = record { size = 0; latest = 0; callers = 0; opening = record { tables = no_tables; limit = 0 } };
-  own = record { number = 0; seen = [] };
   others = [];
   marks = [];
   looks = 0;

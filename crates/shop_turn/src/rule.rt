@@ -158,7 +158,8 @@ impl Split<View> for Copies {
 pub struct Both;
 
 impl Join<View> for Both {
-    ghost use Rattle.shop_turn.specs.Views.{together, spent_view};
+    ghost use Rattle.shop_turn.specs.Views.{together};
+    ghost use Rattle.shop_turn.specs.SpentViews.{spent_view};
 
     ghost both = { together };
 

@@ -16,7 +16,8 @@ use Rattle.shop_attempt.specs.declared.attempts.Attempt.{Attempt}
 use Rattle.shop_attempt.specs.declared.attempts.Conflict.{Conflict}
 use Rattle.shop_attempt.specs.declared.attempts.ReadOf.{ReadOf}
 use Rattle.shop_attempt.specs.declared.attempts.Settle.TheVariants.{Stale}
-use Rattle.shop_attempt.specs.Reads.{IsTrue, AreTrue, Shows, first_stale, IsConflict, IsReadSince, AreReadSince}
+use Rattle.shop_attempt.specs.Reads.{IsTrue, AreTrue, Shows, first_stale, IsReadSince, AreReadSince}
+use Rattle.shop_attempt.specs.Conflicts.{IsConflict}
 use Rattle.shop_attempt.specs.Seats.{Seat, Follows, Looked, IsReadAt}
 use Rattle.shop_attempt.specs.Settles.{Found, SettledAs}
 use Rattle.shop_attempt.proofs.cited.Settles.{conflict_with, first_stale_some, stale_is}

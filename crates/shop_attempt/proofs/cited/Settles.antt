@@ -17,7 +17,8 @@ use Rattle.shop_attempt.specs.declared.attempts.Conflict.{Conflict}
 use Rattle.shop_attempt.specs.declared.attempts.ReadOf.{ReadOf}
 use Rattle.shop_attempt.specs.declared.attempts.Write.{Write}
 use Rattle.shop_attempt.specs.Faithful.{Makes, MakesAct, Faithful}
-use Rattle.shop_attempt.specs.Reads.{IsTrue, AreTrue, Shows, Agrees, first_stale, IsOvertaken}
+use Rattle.shop_attempt.specs.Reads.{IsTrue, AreTrue, Shows, Agrees, first_stale}
+use Rattle.shop_attempt.specs.Conflicts.{IsOvertaken}
 
 -- reads that were true of a log are true of a longer one
 pub true_longer_all : (t : Tables) (log longer : List Entry) (reads : List ReadOf) → Extends log longer → AreTrue t log reads → AreTrue t longer reads

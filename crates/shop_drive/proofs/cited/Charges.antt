@@ -35,12 +35,12 @@ none_of_one call answers none = record {
 
 for_one : (request : Request) (seat : Seat) (point : Point) (answers : List Answer) → AreFor request (call_of seat point) answers → OfOne point.call answers
 for_one (kind.BuyConfirm asked) seat point answers are = record {
-  calls = λ a has. let is = All-contains (IsFor asked seat.caller point.call) answers a are.1 has in ap (λ (c : ChargeValue). c.call) is.charge;
+  calls = λ a has. let is = All-contains (IsFor asked (call_of seat point)) answers a are.1 has in ap (λ (c : ChargeValue). c.call) is.charge;
   same = λ a b has has' cents.
-      let is = All-contains (IsFor asked seat.caller point.call) answers a are.1 has in
-      let other = All-contains (IsFor asked seat.caller point.call) answers b are.1 has' in
+      let is = All-contains (IsFor asked (call_of seat point)) answers a are.1 has in
+      let other = All-contains (IsFor asked (call_of seat point)) answers b are.1 has' in
       let equal : is.cents ≡ other.cents = sym (ap (λ (c : ChargeValue). c.cents) is.charge) ∙ cents ∙ ap (λ (c : ChargeValue). c.cents) other.charge in
-      is.charge ∙ ap (charge_to asked seat.caller point.call) equal ∙ sym other.charge;
+      is.charge ∙ ap (charge_to asked (call_of seat point)) equal ∙ sym other.charge;
 }
 for_one _ seat point answers are = none_of_one point.call answers are
 

@@ -31,8 +31,8 @@ loop-desk-preserved g c =
       number = omega (arith, was.number, length-append c.loop-desk.yielded (c.in-Some.desk ∷ []));
       are = rw c.in_ok-push.ensures.items
           (all_zipped_more (IsFirstTask g.C.Clock.readings c.args.asked.now (g.C.Clock.readings c.args.clock.now)) c.loop-desk.yielded c.loop-desk.tasks.items c.in-Some.desk c.task_of.result was.are
-          (first_task g.C.Clock.readings c.args.asked.now (g.C.Clock.readings c.args.clock.now) c.in-Some.desk (c.loop-desk.number + 1) c.task_of.result c.twin.result c.task_of.ensures
-          (ap (λ (d : DeskValue). d.number) desk ∙ omega (arith, was.number)) c.twin.ensures));
+          (first_task g.C.Clock.readings c.args.asked.now (g.C.Clock.readings c.args.clock.now) c.in-Some.desk (c.loop-desk.number + 1) c.task_of.result c.in-Some-twin.clock c.task_of.ensures
+          (ap (λ (d : DeskValue). d.number) desk ∙ omega (arith, was.number)) c.in-Some-twin.ensures));
     }
 
 pub returns : goal.returns

@@ -1,15 +1,22 @@
 use Rattle.std.proofs.Common.{arith}
-use Rattle.shop_app.proofs.RaceLemmas.{one_shop, raced_to, tasks_count}
+use Rattle.shop_app.proofs.RaceEnds.{lines_told, starts_told, why_told}
+use Rattle.shop_app.proofs.RaceLemmas.{one_shop}
 use Rattle.shop_app.proofs.raced.told.Goals as goal
 
-pub race-requires-after_bounds : goal.race-requires-after_bounds
-race-requires-after_bounds g c κs within = one_shop g.C.Clock.readings c.args.asked.now (g.C.Clock.readings c.args.clock.now) _ _ c.in-Ok.ensures
+pub race-ran-requires-after_bounds : goal.race-ran-requires-after_bounds
+race-ran-requires-after_bounds g c κs within = one_shop g.C.Clock.readings c.args.asked.now (g.C.Clock.readings c.args.clock.now) _ _ c.in-Ok.ensures
 
-pub returns-in-Ok-race_lines-clause-ok : goal.returns-in-Ok-race_lines-clause-ok
-returns-in-Ok-race_lines-clause-ok g c =
-    raced_to g.C.Clock.readings c.args.asked.now (g.C.Clock.readings c.args.clock.now) _ _ c.in-Ok.ensures _ _ c.in-Done.book c.in-Done.ensures (omega (arith, c.requires.steps)) c.in-Ok-race_lines.lines
-    c.in-Ok-race_lines.ensures
+pub returns-clause-ok : goal.returns-clause-ok
+returns-clause-ok g c =
+    lines_told g.C.Clock.readings c.args.asked.now (g.C.Clock.readings c.args.clock.now) _ _ c.in-Ok.ensures _ _ (omega (arith, c.requires.steps))
+    c.race-ran.result c.lines_of.result c.race-ran.ensures c.lines_of.ensures
 
-pub returns-in-Ok-race_lines-clause-starts : goal.returns-in-Ok-race_lines-clause-starts
-returns-in-Ok-race_lines-clause-starts g c =
-    omega (arith, c.in-Done.ensures.starts, tasks_count g.C.Clock.readings c.args.asked.now (g.C.Clock.readings c.args.clock.now) _ _ c.in-Ok.ensures)
+pub returns-clause-starts : goal.returns-clause-starts
+returns-clause-starts g c =
+    starts_told g.C.Clock.readings c.args.asked.now (g.C.Clock.readings c.args.clock.now) _ _ c.in-Ok.ensures c.args.spawner.now c.race-ran.new.spawner
+    c.race-ran.result c.lines_of.result c.race-ran.ensures c.lines_of.ensures
+
+pub returns-clause-err : goal.returns-clause-err
+returns-clause-err g c =
+    why_told g.C.Clock.readings c.args.asked.now (g.C.Clock.readings c.args.clock.now) _ _ c.in-Ok.ensures c.args.spawner.now c.race-ran.new.spawner
+    c.race-ran.result c.lines_of.result c.race-ran.ensures c.lines_of.ensures

@@ -1,12 +1,14 @@
-use Rattle.std.proofs.Common.{◌∙◌, ap, subst, sym}
+use Rattle.std.proofs.Common.{inl, inr, refl, ◌∙◌, ap, subst, sym}
 use Rattle.shop_browsers.specs.Shown.{Shows}
-use Rattle.shop_engine.proofs.ConnectionLemmas.{nothing_begun}
 use Rattle.shop_drive.specs.Turns.{is_page}
 use Rattle.shop_drive.proofs.TurnLemmas.{turn_failed, turn_taken}
 use Rattle.shop_drive.proofs.turns.take_turn.Goals as goal
 
 pub returns-in_err-next_message-clause-turn : goal.returns-in_err-next_message-clause-turn
-returns-in_err-next_message-clause-turn g c = turn_failed _ _ _ c.from_residual.result c.from_residual.ensures.0 (nothing_begun _)
+returns-in_err-next_message-clause-turn g c = turn_failed _ _ _ c.from_residual.result c.from_residual.ensures.0 (inl refl)
+
+pub returns-in_default-clause-turn : goal.returns-in_default-clause-turn
+returns-in_default-clause-turn g c = inr (c.next_message.new.message, c.in_ok-next_message.ensures.message, c.in_default.ensures.memory refl)
 
 pub returns-clause-turn : goal.returns-clause-turn
 returns-clause-turn g c =

@@ -13,7 +13,8 @@ returns-in_err-is_page-clause-drives g c =
     let so_far = c.loop-place.invariant.so_far in
     drive_failed _ _ _ c.args.steps c.from_residual-in_err-is_page.result c.from_residual-in_err-is_page.ensures.0
     (stopped _ _ _ _ c.args.steps c.loop-round.round c.loop-place.place _ so_far (omega (arith, c.loop-round-test.true))
-    (omega (arith, c.loop-place-test.true, same_count _ _ so_far.turns so_far.run)) c.in_err-is_page.ensures.turn)
+    (omega (arith, c.loop-place-test.true, same_count _ _ so_far.turns so_far.run)) _
+    (found_at c.loop-place.browsers c.loop-place.place c.index-browsers-place.result (omega (arith, c.loop-place-test.true, c.loop-place.auto.browsers))) c.in_err-is_page.ensures.turn)
 
 pub loop-place-preserved : goal.loop-place-preserved
 loop-place-preserved g c = record {

@@ -1,5 +1,5 @@
 use Rattle.std.proofs.Common.{refl, sym, ◌∙◌, ap, subst}
-use Rattle.shop_pages.specs.Replies.{bytes_of}
+use Rattle.shop_pages.specs.ReplyStates.{bytes_of}
 use Rattle.shop_engine.specs.Steps.{Answers}
 use Rattle.shop_engine.specs.WorkerView.{state_of}
 use Rattle.shop_engine.specs.Workers.{standing}
@@ -7,7 +7,7 @@ use Rattle.shop_engine.proofs.ConnectionLemmas.{nothing_begun}
 use Rattle.shop_engine.proofs.serve.reply_to.Goals as goal
 
 pub returns-in_default-clause-answered : goal.returns-in_default-clause-answered
-returns-in_default-clause-answered g c = nothing_begun _
+returns-in_default-clause-answered g c = nothing_begun _ _
 
 pub returns-in_default-answer-clause-answered : goal.returns-in_default-answer-clause-answered
 returns-in_default-answer-clause-answered g c = c.in_default-answer.ensures.memory refl

@@ -5,7 +5,7 @@ use Rattle.shop_engine.specs.Failures.{RoseBy, failures_as}
 use Rattle.shop_cache.specs.declared.lines.ListLine.{ListLine}
 use Rattle.shop_engine.specs.Tries.{IsOutcome, LeavesMarkOf}
 use Rattle.shop_engine.proofs.Conflicts.{met_more, none_met}
-use Rattle.shop_engine.proofs.Outcomes.{behind_conflict, behind_denial, busy_is, denial_decides, denial_kept, failed_is, in_a_try, listed_is, settled_counts, settled_is}
+use Rattle.shop_engine.proofs.Outcomes.{behind_all, behind_conflict, behind_denial, busy_is, denial_decides, denial_kept, failed_is, in_a_try, listed_is, settled_counts, settled_is}
 use Rattle.shop_engine.proofs.tries.try_all.Goals as goal
 
 pub loop-tried-init : goal.loop-tried-init
@@ -46,7 +46,7 @@ returns-in-Denied-clause-answer g c =
     denial_decides _ _ _ _ _ c.denied.result c.denied.ensures denial.1 (IsOutcome _ _ c.args.job.now _) denial.2
 
 pub returns-in-Denied-clause-memory : goal.returns-in-Denied-clause-memory
-returns-in-Denied-clause-memory g c none = behind_denial _ _ _ _ _ _ c.loop-tried-test.true c.loop-tried.invariant.so_far _ _ _ c.in-Denied.ensures.tried
+returns-in-Denied-clause-memory g c none = behind_denial _ _ _ _ _ _ c.loop-tried-test.true c.loop-tried.invariant.so_far c.requires.caller _ _ _ c.in-Denied.ensures.tried
 
 pub returns-in-Denied-clause-mark : goal.returns-in-Denied-clause-mark
 returns-in-Denied-clause-mark g c =
@@ -65,10 +65,14 @@ returns-in-Denied-clause-failures g c =
 -- memory
 
 pub returns-in_default-clause-memory : goal.returns-in_default-clause-memory
-returns-in_default-clause-memory g c none = behind_conflict _ _ _ _ _ _ c.loop-tried-test.true c.loop-tried.invariant.so_far _ _ c.in-Again.ensures.tried
+returns-in_default-clause-memory g c none = behind_conflict _ _ _ _ _ _ c.loop-tried-test.true c.loop-tried.invariant.so_far c.requires.caller _ _ c.in-Again.ensures.tried
 
 pub returns-in-Memory-clause-memory : goal.returns-in-Memory-clause-memory
-returns-in-Memory-clause-memory g c none = in_a_try _ _ _ _ _ _ c.loop-tried-test.true c.loop-tried.invariant.so_far _ c.in-Memory.ensures.tried
+returns-in-Memory-clause-memory g c none = in_a_try _ _ _ _ _ _ c.loop-tried-test.true c.loop-tried.invariant.so_far c.requires.caller _ c.in-Memory.ensures.tried
+
+pub returns-in_default-refusal_reply-clause-memory : goal.returns-in_default-refusal_reply-clause-memory
+returns-in_default-refusal_reply-clause-memory g c none =
+    behind_all _ _ c.args.job.now _ _ (omega (arith, c.loop-tried-test.false, c.loop-tried.auto.tried-end)) c.requires.caller c.loop-tried.invariant.so_far
 
 -- the ends
 

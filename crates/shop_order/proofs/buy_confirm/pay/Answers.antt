@@ -2,7 +2,6 @@ use Rattle.std.proofs.Common.{List, subst}
 use Rattle.shop_attempt.specs.declared.attempts.ReadOf.{ReadOf}
 use Rattle.shop_order.specs.declared.decision.Decision.TheVariants.{Approved, Denied, Failed}
 use Rattle.shop_order.specs.Decisions.{Decides}
-use Rattle.shop_order.specs.Payments.{Call}
 use Rattle.shop_order.proofs.PaymentsLemmas.{paid_approved, paid_denied, paid_failed}
 use Rattle.shop_order.proofs.buy_confirm.pay.Goals as goal
 
@@ -10,7 +9,7 @@ pub returns-in-Ok-Approved-clause-paid : goal.returns-in-Ok-Approved-clause-paid
 returns-in-Ok-Approved-clause-paid g c =
     let ask = c.args.ask.now in
     let asked = c.args.asked.now in
-    let call : Call = record { caller = c.args.caller; number = c.args.call } in
+    let call = c.args.call in
     let draft = c.decide.new.draft in
     let kept = c.decide.new.kept in
     let act = c.in-Ok-Approved.act in
@@ -23,7 +22,7 @@ pub returns-in-Ok-Denied-clause-paid : goal.returns-in-Ok-Denied-clause-paid
 returns-in-Ok-Denied-clause-paid g c =
     let ask = c.args.ask.now in
     let asked = c.args.asked.now in
-    let call : Call = record { caller = c.args.caller; number = c.args.call } in
+    let call = c.args.call in
     let draft = c.decide.new.draft in
     let kept = c.decide.new.kept in
     let reason = c.in-Ok-Denied.reason in
@@ -35,7 +34,7 @@ pub returns-in-Ok-Failed-clause-paid : goal.returns-in-Ok-Failed-clause-paid
 returns-in-Ok-Failed-clause-paid g c =
     let ask = c.args.ask.now in
     let asked = c.args.asked.now in
-    let call : Call = record { caller = c.args.caller; number = c.args.call } in
+    let call = c.args.call in
     let draft = c.decide.new.draft in
     let kept = c.decide.new.kept in
     paid_failed ask asked call c.args.attempt draft kept

@@ -1,9 +1,10 @@
-use Rattle.std.proofs.Common.{◌≡◌, ◌∙◌, ◌∷◌, [], length, length-append, append_assoc, sym, ap, arith}
+use Rattle.std.proofs.Common.{◌≡◌, ◌∙◌, ◌∷◌, [], length, append_assoc, sym, ap, arith}
 use Rattle.std.specs.Vec.Iter.{into_iter_items}
 use Rattle.std.proofs.lemmas.Slice.Zip.{all_zipped_more}
+use Rattle.shop_edges.specs.Causes.{count_up}
 use Rattle.shop_edges.specs.Starts.{Spawning}
 use Rattle.shop_tasks.specs.Tasks.{IsTicketOf}
-use Rattle.shop_tasks.proofs.Tasks.{nothing_left}
+use Rattle.shop_tasks.proofs.Tasks.{counted_more, nothing_left}
 use Rattle.shop_tasks.proofs.running.start_all.Goals as goal
 
 pub loop-task-preserved : goal.loop-task-preserved
@@ -18,7 +19,7 @@ loop-task-preserved g c =
       are = rw c.push_reserved.ensures.items
           (all_zipped_more (IsTicketOf g.C.Clock.readings) c.loop-task.yielded c.loop-task.tickets.items c.in-Some.task c.in-Started.ticket was.are c.in-Started.ensures.promise);
       room = omega (arith, was.room, ap length steps, c.push_reserved.ensures.len, c.push_reserved.ensures.capacity);
-      starts = omega (arith, was.starts, length-append c.loop-task.yielded (c.in-Some.task ∷ []), ap (λ (s : Spawning). s.starts) c.in-Started.ensures.counts);
+      starts = ap (λ (s : Spawning). s.starts) c.in-Started.ensures.counts ∙ ap count_up was.starts ∙ sym (counted_more c.loop-task.yielded c.in-Some.task _);
       later = omega (arith, was.later, ap (λ (s : Spawning). s.faults) c.in-Started.ensures.counts);
     }
 
@@ -33,7 +34,7 @@ returns-in-Failed g c =
       are = was.are;
       whole = λ all. absurd cc;
       failed = λ _. omega (arith, was.later, c.start.ensures.cause.failed c.in-Failed.is);
-      starts = omega (arith, was.starts, ap (λ (s : Spawning). s.starts) c.in-Failed.ensures.counts);
+      starts = ap (λ (s : Spawning). s.starts) c.in-Failed.ensures.counts ∙ was.starts;
     }
 
 pub returns : goal.returns

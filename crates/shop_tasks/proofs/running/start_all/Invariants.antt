@@ -2,7 +2,7 @@ use Rattle.std.proofs.Common.{◌≡◌, ◌+◌, ◌≤◌, ◌++◌, length}
 use Rattle.std.specs.List.{AllZip}
 use Rattle.std.specs.Vec.{vec_len, vec_capacity}
 use Rattle.std.specs.Vec.Iter.{into_iter_items, into_iter_len}
-use Rattle.shop_engine.specs.Failures.{RoseBy}
+use Rattle.shop_tasks.specs.Counts.{counted}
 use Rattle.shop_tasks.specs.Tasks.{IsTicketOf}
 use Rattle.shop_tasks.proofs.running.start_all.Given as goal
 
@@ -14,6 +14,6 @@ invariant-loop-task g l = record {
   size : into_iter_len l.task-iterator ≡ length (into_iter_items l.task-iterator);
   are : AllZip (IsTicketOf g.C.Clock.readings) l.yielded l.tickets.items;
   room : vec_len l.tickets + length (into_iter_items l.task-iterator) ≤ vec_capacity l.tickets;
-  starts : RoseBy l.fn.spawner.starts (length l.yielded) l.spawner.starts;
+  starts : l.spawner.starts ≡ counted (length l.yielded) l.fn.spawner.starts;
   later : l.fn.spawner.faults ≤ l.spawner.faults;
 }

@@ -1,8 +1,8 @@
 use Rattle.std.proofs.Common.{refl, sym, ◌∙◌, subst}
 use Rattle.shop_cache.proofs.cited.Caches.{all_looked}
-use Rattle.shop_pages.specs.Replies.{bytes_of}
+use Rattle.shop_pages.specs.ReplyStates.{bytes_of}
 use Rattle.shop_engine.specs.Keeping.{IsFoundList}
-use Rattle.shop_engine.specs.Lists.{AreKept, IsKept}
+use Rattle.shop_engine.specs.Keeping.{AreKept, IsKept}
 use Rattle.shop_engine.specs.Workers.{WorkerState}
 use Rattle.shop_engine.proofs.KeptLemmas.{found_list}
 use Rattle.shop_engine.proofs.worker.Worker.answer_list.Goals as goal

@@ -1,5 +1,5 @@
 use Rattle.std.proofs.Common.{◌≡◌, None, refl, sym, ◌∙◌, ap, subst}
-use Rattle.shop_pages.specs.Replies.{bytes_of}
+use Rattle.shop_pages.specs.ReplyStates.{bytes_of}
 use Rattle.shop_cache.specs.Keys.{key_asked}
 use Rattle.shop_engine.specs.Keeping.{IsAnsweredBy, IsFoundList, KeepsLines, found_for, kept_now}
 use Rattle.shop_engine.specs.Lists.{IsFreshPoint}
@@ -19,7 +19,7 @@ returns-in-Err-clause-memory g c none =
     let key = once.0 in
     let is = looked_worker c.args.self.now c.accept-accepted.new.self looked looked _ _ key c.accept-accepted.ensures.worker (looked_there c.accept-accepted.new.self looked key c.answer_kept.ensures.worker once.1) refl in
     gives_up_early g.St.Store.seat c.args.self.now looked looked _ _ _ _ _ _ _ key is c.now.ensures c.accept-accepted.ensures.call c.accept-accepted.ensures.moment
-    refl refl refl refl key (ap (λ (w : WorkerState g.row.St.Denot). w.kept) is)
+    refl refl c.args.request.now refl refl key (ap (λ (w : WorkerState g.row.St.Denot). w.kept) is)
 
 -- the list that is kept is the answer
 
@@ -61,7 +61,7 @@ returns-in_err-outcome-clause-memory g c none =
     } in
     let is = looked_worker c.args.self.now c.accept-accepted.new.self c.answer_kept.new.self inside _ _ key c.accept-accepted.ensures.worker (looked_there c.accept-accepted.new.self c.answer_kept.new.self key c.answer_kept.ensures.worker c.in-Ok-None.ensures.looked) c.self.view_is in
     gives_up g.St.Store.seat c.args.self.now inside new _ _ _ _ _ _ _ key is c.now.ensures c.accept-accepted.ensures.call c.accept-accepted.ensures.moment
-    refl refl _ key refl (ap (λ (w : WorkerState g.row.St.Denot). w.kept) is) (c.in_err-outcome.ensures.memory refl)
+    refl refl _ key refl refl (ap (λ (w : WorkerState g.row.St.Denot). w.kept) is) (c.in_err-outcome.ensures.memory refl)
 
 pub invariant_of-self : goal.invariant_of-self
 invariant_of-self g c =
@@ -102,7 +102,7 @@ returns-in_default-clause-memory g c none =
     } in
     gives_up_late g.St.Store.seat c.args.self.now inside new _ _ _ _ _ _ _ key is c.now.ensures c.accept-accepted.ensures.call c.accept-accepted.ensures.moment
     (ap (λ (w : WorkerState g.row.St.Denot). w.caller) worker) (ap (λ (w : WorkerState g.row.St.Denot). w.progress) worker)
-    tried worker _ c.in_ok-outcome.outcome key refl (c.in_default.ensures.refused ∙ ap (λ (w : WorkerState g.row.St.Denot). w.kept) is) c.in_default.ensures.some c.in_ok-outcome.ensures.answer
+    tried worker _ c.in_ok-outcome.outcome key refl refl (c.in_default.ensures.refused ∙ ap (λ (w : WorkerState g.row.St.Denot). w.kept) is) c.in_default.ensures.some c.in_ok-outcome.ensures.answer
 
 pub returns-clause-answers : goal.returns-clause-answers
 returns-clause-answers g c =

@@ -4,7 +4,7 @@ use Rattle.shop_cache.specs.declared.keys.ListKey.{ListKey}
 use Rattle.shop_cache.specs.Keys.{key_asked}
 use Rattle.shop_cache.proofs.cited.Caches.{all_with_kept}
 use Rattle.shop_engine.specs.Keeping.{KeepsLines}
-use Rattle.shop_engine.specs.Lists.{AreKept, IsKept}
+use Rattle.shop_engine.specs.Keeping.{AreKept, IsKept}
 use Rattle.shop_engine.specs.Workers.{WorkerState}
 use Rattle.shop_engine.proofs.worker.Worker.keep.Goals as goal
 

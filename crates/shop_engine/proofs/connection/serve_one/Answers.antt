@@ -3,10 +3,10 @@ use Rattle.shop_engine.specs.declared.report.Point.{Point}
 use Rattle.shop_engine.proofs.ConnectionLemmas.{nothing_begun}
 use Rattle.shop_engine.proofs.KeptLemmas.{points_more}
 use Rattle.shop_engine.proofs.Steps.{adds_point}
-use Rattle.shop_engine.proofs.serve.serve_one.Goals as goal
+use Rattle.shop_engine.proofs.connection.serve_one.Goals as goal
 
 pub returns-in_default-clause-message : goal.returns-in_default-clause-message
-returns-in_default-clause-message g c = (nothing_begun _, ap (λ (l : List Point). record { points = l; held = g.K.Sink.held c.args.sink.now }) c.reserve.ensures.items)
+returns-in_default-clause-message g c = (nothing_begun _ _, ap (λ (l : List Point). record { points = l; held = g.K.Sink.held c.args.sink.now }) c.reserve.ensures.items)
 
 pub returns-then-message-clause-message : goal.returns-then-message-clause-message
 returns-then-message-clause-message g c = (

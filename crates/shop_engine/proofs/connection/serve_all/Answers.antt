@@ -1,12 +1,12 @@
-use Rattle.std.proofs.Common.{◌≡◌, refl, arith, [], ◌+◌, ◌==◌, length, All, ap, ◌∙◌, subst, sym}
+use Rattle.std.proofs.Common.{◌≡◌, inl, refl, arith, [], ◌+◌, ◌==◌, length, All, ap, ◌∙◌, subst, sym}
 use Rattle.shop_attempt.proofs.cited.Marks.{keeps_self, keeps_then}
 use Rattle.shop_edges.proofs.cited.Known.{Consumes-nothing}
-use Rattle.shop_engine.proofs.ConnectionLemmas.{nothing_met, nothing_begun, still_standing, one_point, SoFar-message}
+use Rattle.shop_engine.proofs.ConnectionLemmas.{nothing_met, still_standing, one_point, SoFar-message}
 use Rattle.shop_engine.proofs.ServedLemmas.{Served-closed, Served-inside, Served-broken, Served-memory, Served-spent, Served-message, Served-refusal}
 use Rattle.std.proofs.lemmas.List.Elements.{All-nil}
 use Rattle.shop_engine.specs.Lists.{IsFreshPoint}
 use Rattle.shop_engine.specs.Steps.{ANSWERS}
-use Rattle.shop_engine.proofs.serve.serve_all.Goals as goal
+use Rattle.shop_engine.proofs.connection.serve_all.Goals as goal
 
 pub loop-alloc-init : goal.loop-alloc-init
 loop-alloc-init g c = record {
@@ -22,7 +22,7 @@ loop-alloc-init g c = record {
 }
 
 pub returns-in_default-clause-served : goal.returns-in_default-clause-served
-returns-in_default-clause-served g c = Served-memory _ _ _ _ [] _ (nothing_met _ _ [] _ refl c.requires) _ _ [] (omega (arith, ap length c.requires)) (Consumes-nothing _) (nothing_begun _)
+returns-in_default-clause-served g c = Served-memory _ _ _ _ [] _ (nothing_met _ _ [] _ refl c.requires) _ _ [] (omega (arith, ap length c.requires)) (Consumes-nothing _) (inl refl)
 
 pub returns-in-End-clause-served : goal.returns-in-End-clause-served
 returns-in-End-clause-served g c = Served-closed _ _ _ _ _ _ c.loop-alloc.invariant.so_far _ _ (omega (arith, c.len.ensures, c.loop-alloc-test.true)) c.in-End.ensures.next
@@ -40,7 +40,7 @@ returns-in-ReadFault-clause-served g c = Served-broken _ _ _ _ _ _ c.loop-alloc.
 
 pub returns-in-Memory-clause-served : goal.returns-in-Memory-clause-served
 returns-in-Memory-clause-served g c =
-    Served-memory _ _ _ _ _ _ c.loop-alloc.invariant.so_far _ _ c.in-Memory.ensures.next.piece (omega (arith, c.len.ensures, c.loop-alloc-test.true)) c.in-Memory.ensures.next.taken (nothing_begun _)
+    Served-memory _ _ _ _ _ _ c.loop-alloc.invariant.so_far _ _ c.in-Memory.ensures.next.piece (omega (arith, c.len.ensures, c.loop-alloc-test.true)) c.in-Memory.ensures.next.taken (inl refl)
 
 pub returns-in-Some-clause-served : goal.returns-in-Some-clause-served
 returns-in-Some-clause-served g c =

@@ -1,7 +1,7 @@
 use Rattle.std.proofs.Common.{[], ◌∷◌, ◌++◌, ap, ◌∙◌}
 use Rattle.shop_engine.specs.declared.report.Point.{Point}
 use Rattle.shop_engine.specs.Served.{told_page}
-use Rattle.shop_engine.proofs.serve.refuse.Goals as goal
+use Rattle.shop_engine.proofs.connection.refuse.Goals as goal
 
 pub returns-then-write_all-clause-told : goal.returns-then-write_all-clause-told
 unfolding told_page

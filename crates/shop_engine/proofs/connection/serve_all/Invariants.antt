@@ -4,7 +4,7 @@ use Rattle.shop_engine.specs.Connections.{SoFar}
 use Rattle.shop_engine.specs.Failures.{RoseBy, failures}
 use Rattle.shop_engine.specs.Lists.{IsFreshPoint}
 use Rattle.shop_engine.specs.Workers.{standing}
-use Rattle.shop_engine.proofs.serve.serve_all.Given as goal
+use Rattle.shop_engine.proofs.connection.serve_all.Given as goal
 
 abbrev pub invariant-loop-alloc : goal.invariant-loop-alloc
 invariant-loop-alloc g l = record {

@@ -4,7 +4,7 @@ use Rattle.shop_drive.specs.Drives.{Drives}
 use Rattle.shop_engine.specs.Workers.{standing}
 use Rattle.shop_gateway.specs.Notings.{NotingValue}
 use Rattle.shop_app.proofs.DriveLemmas.{noted_by}
-use Rattle.shop_app.proofs.driven.drive_noting.Goals as goal
+use Rattle.shop_app.proofs.driven.drive_and_give_back.Goals as goal
 
 pub returns-clause-driven : goal.returns-clause-driven
 returns-clause-driven g c =
