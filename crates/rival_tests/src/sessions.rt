@@ -39,20 +39,6 @@ fn told_by(
     Told::of(&report, sink.bytes(), &gateway, &mut book)
 }
 
-/// What a worker shows of what comes in.
-fn shown_by(
-    alloc: Global,
-    worker: Worker<Rivalled>,
-    source: &mut BytesIn,
-    clock: &mut ListClock,
-) -> Shown {
-    let mut worker = worker;
-    let mut sink = BytesOut::new(alloc, 1_000_000, Listed::new(alloc));
-    let mut gateway = Emulator::new(alloc);
-    let report = serve_connection(alloc, &mut worker, source, &mut sink, clock, &mut gateway);
-    Shown::of(&report, sink.bytes())
-}
-
 /// The messages that come in, and a clock with these readings.
 fn streams(alloc: Global, readings: &[u64], input: &[u8]) -> Result<(BytesIn, ListClock), Memory> {
     let readings = Listed::from_vec(Vec::from_slice(alloc, readings)?);
@@ -82,7 +68,8 @@ pub(crate) fn shown_after(
     deed: Deed,
     changes: u32,
 ) -> Result<Shown, Memory> {
-    let (mut source, mut clock) = streams(alloc, readings, input)?;
-    let worker = worker_among(alloc, deed, changes)?;
-    Ok(shown_by(alloc, worker, &mut source, &mut clock))
+    match told_after(alloc, readings, input, deed, changes) {
+        Ok(Told { shown, sold: _ }) => Ok(shown),
+        Err(Memory) => Err(Memory),
+    }
 }
