@@ -1,5 +1,6 @@
 //! Lines of carts, requests for them, and totals.
 ghost use Rattle.std.specs.Prelude.{◌≤◌, length, All};
+ghost use Rattle.shop_model.specs.asked.CustomersAsked.{IsId};
 
 use crate::answers::{answer, heading};
 use crate::stop::Stop;
@@ -22,7 +23,7 @@ pub fn print(rt: &(impl Print + AllocGlobal)) -> Result<(), Stop> {
 /// A request for one unit more of an item, and for quantities.
 fn asked(alloc: Global, item: Option<u32>, sets: &[(u32, u32)]) -> Result<CartRequest, Memory>
     requires few { length sets.now ≤ 100 }
-    requires quantities { All (λ set. set.1 ≤ 999) sets.now }
+    requires sets { All (λ set. IsId set.0 × (set.1 ≤ 999)) sets.now }
 {
     Ok(CartRequest {
         item,
@@ -145,7 +146,7 @@ fn print_asked(
     draw: u32,
 ) -> Result<(), Stop>
     requires few { length sets.now ≤ 100 }
-    requires quantities { All (λ set. set.1 ≤ 999) sets.now }
+    requires sets { All (λ set. IsId set.0 × (set.1 ≤ 999)) sets.now }
 {
     print_filled(rt, lines, &asked(rt.alloc(), item, sets)?, draw)
 }
@@ -173,7 +174,7 @@ fn print_refused(
     sets: &[(u32, u32)],
 ) -> Result<(), Stop>
     requires few { length sets.now ≤ 100 }
-    requires quantities { All (λ set. set.1 ≤ 999) sets.now }
+    requires sets { All (λ set. IsId set.0 × (set.1 ≤ 999)) sets.now }
 {
     let request = asked(rt.alloc(), item, sets)?;
     let mut lines = Lines::new(rt.alloc());

@@ -1,5 +1,6 @@
 //! What caller 2 does at a book that caller 1 has too.
-ghost use Rattle.std.specs.Prelude.{◌≡◌, ◌≤◌, IfSome};
+ghost use Rattle.std.specs.Prelude.{◌≡◌, ◌≤◌, IfOk, IfSome};
+ghost use Rattle.shop_model.specs.asked.CustomersAsked.{IsFilled};
 ghost use Rattle.shop_model.specs.rows.Limits.{stamp_limit};
 ghost use Rattle.shop_attempt.specs.Faithful.{Faithful};
 ghost use Rattle.shop_attempt.specs.Marks.{KeepsMarks, Looks};
@@ -214,13 +215,21 @@ fn adding<St: Store>(
     changing(alloc, store, ask, &asked, draft)
 }
 
+/// A text of a form.
+pub(crate) fn filled(alloc: Global, text: &[u8]) -> Result<Text, Memory>
+    requires { IsFilled text.now }
+    ensures { IfOk result IsFilled }
+{
+    Text::copy(alloc, text)
+}
+
 /// That item 1 is to cost 20.00.
 fn repriced(alloc: Global) -> Result<Shared<AdminConfirm>, Memory> {
     let asked = AdminConfirm {
         item: 1,
         cost: 2_000,
-        image: Text::copy(alloc, b"/i.gif")?,
-        thumb: Text::copy(alloc, b"/t.gif")?,
+        image: filled(alloc, b"/i.gif")?,
+        thumb: filled(alloc, b"/t.gif")?,
         ids: IdsAsked {
             c: None,
             cart: None,
@@ -258,7 +267,7 @@ fn card(alloc: Global) -> Result<Card, Memory> {
     Ok(Card {
         card: CardType::Visa,
         number: CardNumber::of_number(4_111_222_233_334_444),
-        name: Text::copy(alloc, b"G")?,
+        name: filled(alloc, b"G")?,
         expiry: Month::new(*b"2027-05"),
     })
 }

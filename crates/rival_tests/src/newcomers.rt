@@ -12,7 +12,7 @@ ghost use Rattle.shop_book.specs.Solos.{seat_of};
 ghost use Rattle.shop_browse.specs.Attempts.{Suits};
 
 use crate::cancelling::one_unit;
-use crate::deeds::settles;
+use crate::deeds::{filled, settles};
 use crate::opened::{book_of, empty_draft, index_of};
 use shop_attempt::{Attempt, Settle, Store};
 use shop_book::{Book, Solo, Visitor};
@@ -32,11 +32,11 @@ fn address_in(alloc: Global, country: u32) -> Result<AddressText, Memory>
     ensures { IfOk result IsAddressAsked }
 {
     Ok(AddressText {
-        street1: Text::copy(alloc, b"1 Way")?,
+        street1: filled(alloc, b"1 Way")?,
         street2: Text::new(alloc),
-        city: Text::copy(alloc, b"Ulm")?,
+        city: filled(alloc, b"Ulm")?,
         state: Text::new(alloc),
-        zip: Text::copy(alloc, b"89073")?,
+        zip: filled(alloc, b"89073")?,
         country,
     })
 }
@@ -46,10 +46,10 @@ fn newcomer_in(alloc: Global, country: u32) -> Result<Newcomer, Memory>
     requires { Has 92 country }
 {
     Ok(Newcomer {
-        first: Text::copy(alloc, b"Zoe")?,
-        last: Text::copy(alloc, b"B")?,
-        phone: Text::copy(alloc, b"5")?,
-        email: Text::copy(alloc, b"z")?,
+        first: filled(alloc, b"Zoe")?,
+        last: filled(alloc, b"B")?,
+        phone: filled(alloc, b"5")?,
+        email: filled(alloc, b"z")?,
         address: address_in(alloc, country)?,
     })
 }

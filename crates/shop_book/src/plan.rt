@@ -36,6 +36,8 @@ impl Plan {
                 Ok(Plan::Compare(watch(alloc, rows, keys)?))
             }
             Act::Enter(asked, _) => {
+                // A number behind a reference is known to fit its type once it is read.
+                let _cart = asked.cart;
                 let keys = buyer_changes(alloc, rows, &asked.buyer)?;
                 Ok(Plan::Compare(watch(alloc, rows, keys)?))
             }

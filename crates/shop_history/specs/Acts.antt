@@ -10,7 +10,7 @@ use Rattle.shop_model.specs.declared.requests.Request.TheVariants.{CartRequest, 
 use Rattle.shop_model.specs.declared.tables.Tables.{Tables}
 use Rattle.shop_model.specs.asked.AdminAsked.{AdminAsked, IsAdminAsked}
 use Rattle.shop_model.specs.asked.CartAsked.{CartAsked, IsCartAsked}
-use Rattle.shop_model.specs.asked.CustomersAsked.{IsLoginAsked, IsNewcomerAsked}
+use Rattle.shop_model.specs.asked.CustomersAsked.{IsId, IsLoginAsked, IsNewcomerAsked}
 use Rattle.shop_model.specs.asked.PurchaseAsked.{PurchaseAsked, IsPurchaseAsked}
 use Rattle.shop_model.specs.asked.Refusals.{page_of}
 use Rattle.shop_model.specs.rows.Lookups.{row_numbered}
@@ -111,6 +111,6 @@ IsBuyer (Newcomer asked) = IsNewcomerAsked asked
 -- the parameters of an act are in their forms
 abbrev pub IsInForm : Act → Type 0
 IsInForm (Cart asked draw) = IsCartAsked asked
-IsInForm (Enter asked draw) = IsBuyer asked.buyer
+IsInForm (Enter asked draw) = IsId asked.cart × IsBuyer asked.buyer
 IsInForm (Confirm asked draw auth) = IsPurchaseAsked asked
 IsInForm (Admin asked) = IsAdminAsked asked

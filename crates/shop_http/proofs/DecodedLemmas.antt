@@ -18,13 +18,22 @@ digit_byte : (byte : ℕ) → is_ascii_digit byte ≡ true → (byte < 128) × (
 digit_byte byte is = grind arith
 
 -- bytes of which each passes a test that only plain ones pass
+
+is_text : (test : ℕ → Bool) (bytes : List ℕ) → ((byte : ℕ) → test byte ≡ true → (byte < 128) × (byte ≢ 43) × (byte ≢ 37))
+    → list_all test bytes ≡ true → IsUtf8 bytes
+is_text test bytes plain_byte all =
+    let each = AllPass-from_list_all test bytes all in
+    IsUtf8-from_ascii bytes (IsAscii-from_all bytes (λ k d within. (plain_byte _ (each k d within)).0))
+
 stands : (test : ℕ → Bool) (bytes : List ℕ) → ((byte : ℕ) → test byte ≡ true → (byte < 128) × (byte ≢ 43) × (byte ≢ 37))
     → list_all test bytes ≡ true → decoded_text bytes ≡ bytes
 stands test bytes plain_byte all =
     let each = AllPass-from_list_all test bytes all in
     let plain : All IsPlain bytes = λ k d within. let byte = plain_byte _ (each k d within) in (byte.1, byte.2) in
-    let text : IsUtf8 bytes = IsUtf8-from_ascii bytes (IsAscii-from_all bytes (λ k d within. (plain_byte _ (each k d within)).0)) in
-    ap utf8_lossy (decode_plain bytes plain) ∙ utf8_lossy-IsUtf8 bytes text
+    ap utf8_lossy (decode_plain bytes plain) ∙ utf8_lossy-IsUtf8 bytes (is_text test bytes plain_byte all)
+
+pub utf8-plain : (bytes : List ℕ) → list_all is_plain bytes ≡ true → IsUtf8 bytes
+utf8-plain bytes all = is_text is_plain bytes plain_byte all
 
 pub decoded_text-plain : (bytes : List ℕ) → list_all is_plain bytes ≡ true → decoded_text bytes ≡ bytes
 decoded_text-plain bytes all = stands is_plain bytes plain_byte all

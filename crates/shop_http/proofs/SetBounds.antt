@@ -7,6 +7,7 @@ use Rattle.std.specs.Str.{bytes_eq}
 use Rattle.std.proofs.lemmas.Bool.Decides.{leb_tells}
 use Rattle.std.proofs.lemmas.List.Elements.{All-nil, All-cons}
 use Rattle.shop_model.specs.declared.parameter.Parameter.TheVariants.{Qty}
+use Rattle.shop_model.specs.asked.CustomersAsked.{IsId}
 use Rattle.shop_model.specs.rows.Limits.{quantity_limit, sets_limit}
 use Rattle.shop_text.specs.Numbers.{number_of}
 use Rattle.shop_http.specs.Forms.{Pair}
@@ -20,52 +21,58 @@ few_of : (found : Option (List (ℕ × ℕ))) (sets : List (ℕ × ℕ)) → opt
 few_of None sets is = cc
 few_of (Some found) sets is = let few = few_is found sets is in (few.0, ap (λ all. Some all) few.1)
 
+-- an item's id, and a quantity that is not over the limit
+abbrev pub IsSet : ℕ × ℕ → Type 0
+IsSet set = IsId set.0 × (set.1 ≤ quantity_limit)
+
+id_bound : (digits : List ℕ) (id : ℕ) → number_of digits ≡ Some id → IsId id
+unfolding number_of
+id_bound digits id is = grind (arith, leb_tells)
+
 number_bound : (number : Option ℕ) (quantity : ℕ)
     → option_and_then (λ n. if nat_le n quantity_limit then Some n else None) number ≡ Some quantity → quantity ≤ quantity_limit
 number_bound None quantity is = cc
 number_bound (Some number) quantity is = grind (arith, leb_tells)
 
 pair_is : (id number : Option ℕ) (set : ℕ × ℕ)
-    → option_and_then (λ id. option_map (λ n. (id, n)) number) id ≡ Some set → number ≡ Some set.1
+    → option_and_then (λ id. option_map (λ n. (id, n)) number) id ≡ Some set → (id ≡ Some set.0) × (number ≡ Some set.1)
 pair_is None number set is = cc
 pair_is (Some id) None set is = cc
-pair_is (Some id) (Some number) set is = ap (λ (asked : Option (ℕ × ℕ)). option_map (λ one. one.1) asked) is
+pair_is (Some id) (Some number) set is =
+    (ap (λ (asked : Option (ℕ × ℕ)). option_map (λ one. one.0) asked) is, ap (λ (asked : Option (ℕ × ℕ)). option_map (λ one. one.1) asked) is)
 
-set_bound : (item quantity : List ℕ) (set : ℕ × ℕ) → set_of item quantity ≡ Some set → set.1 ≤ quantity_limit
+set_bound : (item quantity : List ℕ) (set : ℕ × ℕ) → set_of item quantity ≡ Some set → IsSet set
 unfolding set_of
 set_bound item quantity set is =
-    number_bound (number_of quantity) set.1 (pair_is (number_of item) (quantity_of quantity) set is)
+    let parts = pair_is (number_of item) (quantity_of quantity) set is in
+    (id_bound item set.0 parts.0, number_bound (number_of quantity) set.1 parts.1)
 
 asked_bound : (is_one : Bool) (one : Option (ℕ × ℕ)) (set : ℕ × ℕ) → (if is_one then Some one else None) ≡ Some (Some set) → one ≡ Some set
 asked_bound true one set is = cc
 asked_bound false one set is = cc
 
--- no quantity is over the limit
-abbrev AreBounded : List (ℕ × ℕ) → Type 0
-AreBounded sets = All (λ set. set.1 ≤ quantity_limit) sets
-
-cons_bounds : (set : ℕ × ℕ) (others : Option (List (ℕ × ℕ))) (sets : List (ℕ × ℕ)) → set.1 ≤ quantity_limit
-    → ((more : List (ℕ × ℕ)) → others ≡ Some more → AreBounded more)
-    → option_map (λ values. set ∷ values) others ≡ Some sets → AreBounded sets
+cons_bounds : (set : ℕ × ℕ) (others : Option (List (ℕ × ℕ))) (sets : List (ℕ × ℕ)) → IsSet set
+    → ((more : List (ℕ × ℕ)) → others ≡ Some more → All IsSet more)
+    → option_map (λ values. set ∷ values) others ≡ Some sets → All IsSet sets
 cons_bounds set None sets one more is = cc
 cons_bounds set (Some values) sets one more is =
     let all : set ∷ values ≡ sets = cc in
-    subst AreBounded all (All-cons (λ set. set.1 ≤ quantity_limit) set values one (more values refl))
+    subst (All IsSet) all (All-cons IsSet set values one (more values refl))
 
 more_bounds : (asked : Option (Option (ℕ × ℕ))) (others : List (Option (ℕ × ℕ))) (sets : List (ℕ × ℕ))
-    → ((set : ℕ × ℕ) → asked ≡ Some (Some set) → set.1 ≤ quantity_limit)
-    → ((more : List (ℕ × ℕ)) → all_of others ≡ Some more → AreBounded more)
-    → all_of (cons_option asked others) ≡ Some sets → AreBounded sets
+    → ((set : ℕ × ℕ) → asked ≡ Some (Some set) → IsSet set)
+    → ((more : List (ℕ × ℕ)) → all_of others ≡ Some more → All IsSet more)
+    → all_of (cons_option asked others) ≡ Some sets → All IsSet sets
 unfolding all_of
 more_bounds None others sets one more is = more sets is
 more_bounds (Some None) others sets one more is = cc
 more_bounds (Some (Some set)) others sets one more is = cons_bounds set (all_of others) sets (one set refl) more is
 
-all_bounds : (pairs : List Pair) (sets : List (ℕ × ℕ)) → all_of (filter_map set_asked pairs) ≡ Some sets → AreBounded sets
+all_bounds : (pairs : List Pair) (sets : List (ℕ × ℕ)) → all_of (filter_map set_asked pairs) ≡ Some sets → All IsSet sets
 unfolding all_of set_asked
 all_bounds [] sets is =
     let none : [] ≡ sets = cc in
-    subst AreBounded none (All-nil (λ set. set.1 ≤ quantity_limit))
+    subst (All IsSet) none (All-nil IsSet)
 all_bounds ((name, value) ∷ pairs) sets is =
     more_bounds (set_asked (name, value)) (filter_map set_asked pairs) sets
     (λ set one. set_bound (drop 4 name) value set (asked_bound (bytes_eq (take 4 name) (codes "qty_")) _ set one))
@@ -77,7 +84,7 @@ found_is (Some found) sets is = cc
 
 -- the bounds of what is asked
 pub sets_bounds : (pairs : List Pair) (sets : List (ℕ × ℕ)) → ok_or (sets_asked pairs) Qty ≡ Ok sets
-    → (length sets ≤ sets_limit) × All (λ set. set.1 ≤ quantity_limit) sets
+    → (length sets ≤ sets_limit) × All IsSet sets
 unfolding sets_asked
 sets_bounds pairs sets is =
     let few = few_of (all_of (filter_map set_asked pairs)) sets (found_is _ sets is) in

@@ -174,7 +174,7 @@ admin_good t stamp asked (Some item) room bound form there passes good =
 -- an act that is not refused
 play_good : (t : Tables) (stamp : ℕ) (act : Act) (room : ℕ) → stamp ≤ stamp_limit → IsInForm act → check t (request_of act) ≡ None → IsGood t (suc room)
     → IsGood (play t stamp act).tables room
-play_good t stamp (Enter asked draw) room bound form passes good = enter_good t stamp draw asked.buyer room bound form good
+play_good t stamp (Enter asked draw) room bound form passes good = enter_good t stamp draw asked.buyer room bound form.1 good
 play_good t stamp (Confirm asked draw auth) room bound form passes good = confirm_good t stamp draw auth asked room bound form passes good
 play_good t stamp (Admin asked) room bound form passes good =
     admin_good t stamp asked (row_numbered t.items asked.item) room bound form refl passes good

@@ -1,4 +1,4 @@
-ghost use Rattle.std.specs.Prelude.{◌≡◌, IfOk};
+ghost use Rattle.std.specs.Prelude.{◌≡◌, IfOk, IsUtf8};
 ghost use Rattle.std.specs.Cow.{cow_slice_items};
 ghost use Rattle.std.specs.List.{list_all};
 ghost use Rattle.shop_http.specs.Forms as spec;
@@ -11,7 +11,8 @@ use std::borrow::{CowSlice, CowStr};
 /// What an encoded name or value stands for. A plain one is borrowed, and takes no memory.
 #[inline(always)]
 pub(crate) fn decoded(alloc: Global, encoded: &[u8]) -> Result<CowSlice<'_, u8>, Memory>
-    ensures { IfOk result (λ text. cow_slice_items text ≡ spec.decoded_text encoded.now) }
+    ensures value { IfOk result (λ text. cow_slice_items text ≡ spec.decoded_text encoded.now) }
+    ensures utf8 { IfOk result (λ text. IsUtf8 (cow_slice_items text)) }
 {
     if is_plain(encoded) {
         return Ok(CowSlice::Borrowed(encoded));
@@ -22,7 +23,8 @@ pub(crate) fn decoded(alloc: Global, encoded: &[u8]) -> Result<CowSlice<'_, u8>,
 #[cold]
 #[inline(never)]
 fn decoded_anew(alloc: Global, encoded: &[u8]) -> Result<CowSlice<'_, u8>, Memory>
-    ensures { IfOk result (λ text. cow_slice_items text ≡ spec.decoded_text encoded.now) }
+    ensures value { IfOk result (λ text. cow_slice_items text ≡ spec.decoded_text encoded.now) }
+    ensures utf8 { IfOk result (λ text. IsUtf8 (cow_slice_items text)) }
 {
     match decode(alloc, encoded)? {
         CowStr::Borrowed(text) => Ok(CowSlice::Borrowed(text.as_bytes())),

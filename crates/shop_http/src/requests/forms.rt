@@ -1,4 +1,4 @@
-ghost use Rattle.std.specs.Prelude.{◌≡◌, IfOk, IfSome};
+ghost use Rattle.std.specs.Prelude.{◌≡◌, IfOk, IfSome, IsUtf8};
 ghost use Rattle.std.specs.Option.{option_map, ok_or};
 ghost use Rattle.shop_model.specs.asked.AdminAsked.{IsCost};
 ghost use Rattle.shop_model.specs.asked.CustomersAsked.{IsFilled, IsShort};
@@ -191,7 +191,7 @@ pub(crate) fn required_text(
 #[tactic(auto, unfolding(crate::specs::Forms::text_of))]
 fn text_of(text: &[u8]) -> Option<&[u8]>
     ensures value { option_map (λ text. text.now) result ≡ spec.text_of text.now }
-    ensures filled { IfSome result (λ text. IsFilled text.now) }
+    ensures filled { IsUtf8 text.now → IfSome result (λ text. IsFilled text.now) }
 {
     if text.is_empty() || text.len() > TEXT_LIMIT {
         return None;

@@ -1,17 +1,28 @@
 -- What requests say of customers, and the forms of it.
-use Rattle.std.specs.Prelude.{ℕ, ◌<◌, ◌≤◌, List, length}
+use Rattle.std.specs.Prelude.{ℕ, ◌<◌, ◌≤◌, List, length, IfSome, IsUtf8}
 use Rattle.shop_model.specs.declared.address.AddressText.{AddressText}
+use Rattle.shop_model.specs.declared.requests.IdsAsked.{IdsAsked}
 use Rattle.shop_model.specs.rows.Limits.{text_limit}
 use Rattle.shop_model.specs.rows.Sound.{Has}
+
+-- an id that 32 bits hold
+abbrev pub IsId : ℕ → Type 0
+IsId id = id ≤ 4_294_967_295
+
+-- those that a request carries along
+abbrev pub IsIdsAsked : IdsAsked → Type 0
+IsIdsAsked ids = IfSome ids.c IsId × IfSome ids.cart IsId
 
 -- a text of a form: not empty, and short
 pub record IsFilled (text : List ℕ) : Type 0 where
   pub some : 0 < length text
   pub short : length text ≤ text_limit
+  pub utf8 : IsUtf8 text
 
 -- a text that may be empty
-abbrev pub IsShort : List ℕ → Type 0
-IsShort text = length text ≤ text_limit
+pub record IsShort (text : List ℕ) : Type 0 where
+  pub short : length text ≤ text_limit
+  pub utf8 : IsUtf8 text
 
 -- a name to log in with, and a password
 pub record LoginAsked : Type 0 where

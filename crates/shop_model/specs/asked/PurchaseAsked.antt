@@ -4,7 +4,7 @@ use Rattle.shop_model.specs.declared.address.AddressText.{AddressText}
 use Rattle.shop_model.specs.declared.card_type.CardType.{CardType}
 use Rattle.shop_model.specs.declared.ship_type.ShipType.{ShipType}
 use Rattle.shop_model.specs.asked.Cards.{IsCardNumber, IsMonth}
-use Rattle.shop_model.specs.asked.CustomersAsked.{IsFilled, IsAddressAsked}
+use Rattle.shop_model.specs.asked.CustomersAsked.{IsId, IsFilled, IsAddressAsked}
 
 -- a payment card
 pub record CardAsked : Type 0 where
@@ -27,5 +27,7 @@ pub record PurchaseAsked : Type 0 where
   pub address : Option AddressText
 
 pub record IsPurchaseAsked (asked : PurchaseAsked) : Type 0 where
+  pub c : IsId asked.c
+  pub cart : IsId asked.cart
   pub payment : IsCardAsked asked.payment
   pub address : IfSome asked.address IsAddressAsked
