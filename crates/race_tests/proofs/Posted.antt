@@ -1,8 +1,8 @@
 -- The callers of a new shop of two desks are posted there.
 use Rattle.std.proofs.Common.{◌≡◌, ℕ, List, [], ◌∷◌, ◌++◌, length, get_or, arith, sym, ap, subst, ◌∙◌, length-append}
-use Rattle.std.proofs.lemmas.List.FromFn.{length-map-range_with_len}
+use Rattle.shop_model.proofs.cited.Populated.{items_populated}
 use Rattle.shop_model.specs.lists.Catalogues.{Catalogue, catalogue}
-use Rattle.shop_model.specs.population.Population.{populated, items_table, item_row}
+use Rattle.shop_model.specs.population.Population.{populated}
 use Rattle.shop_model.specs.population.Scales.{ScaleRow}
 use Rattle.shop_model.specs.declared.tables.Tables.{Tables}
 use Rattle.shop_attempt.specs.Seats.{IsSeat}
@@ -16,10 +16,6 @@ two_left : (one two : DeskValue) (front : List DeskValue) (first second : DeskVa
 two_left one two [] first second is = (ap (λ (ds : List DeskValue). get_or ds 0 one) (sym is), ap (λ (ds : List DeskValue). get_or ds 1 two) (sym is))
 two_left one two (x ∷ front) first second is =
     absurd (omega (arith, ap length is, length-append (front ++ first ∷ []) (second ∷ []), length-append front (first ∷ [])))
-
-items_of : (seed : ℕ) (scale : ScaleRow) → length (populated seed scale).items ≡ scale.items
-unfolding populated items_table
-items_of seed scale = length-map-range_with_len (item_row seed scale) 1 scale.items
 
 module _ (book : BookValue) (desks left front : List DeskValue) (first second : DeskValue) (opens : Opens book 2 desks)
     (popped : desks ≡ left ++ second ∷ []) (popped_too : left ≡ front ++ first ∷ []) where
@@ -37,7 +33,7 @@ module _ (book : BookValue) (desks left front : List DeskValue) (first second : 
           valid = valid;
           number = ap (λ (d : DeskValue). d.number) is;
           named = named ∙ ap catalogue (sym tables);
-          scaled = sym (items_of 0 scale) ∙ ap (λ (u : Tables). length u.items) (sym (tables ∙ drawn));
+          scaled = sym (items_populated 0 scale) ∙ ap (λ (u : Tables). length u.items) (sym (tables ∙ drawn));
         }
 
     size : length desks ≡ 2

@@ -1,19 +1,12 @@
 -- A caller who has a shop alone is posted there.
-use Rattle.std.proofs.Common.{◌≡◌, ℕ, length, sym, ◌∙◌, ap}
-use Rattle.std.proofs.lemmas.List.FromFn.{length-map-range_with_len}
+use Rattle.std.proofs.Common.{◌≡◌, length, sym, ◌∙◌, ap}
 use Rattle.shop_model.specs.declared.tables.Tables.{Tables}
 use Rattle.shop_model.specs.lists.Catalogues.{Catalogue, catalogue}
-use Rattle.shop_model.specs.population.Population.{populated, items_table, item_row}
 use Rattle.shop_model.specs.population.Scales.{ScaleRow, desk}
 use Rattle.shop_attempt.specs.Seats.{IsSeat}
 use Rattle.shop_book.specs.Books.{BookValue}
 use Rattle.shop_book.specs.Solos.{SoloValue, seat_of, seated}
 use Rattle.shop_engine.specs.Workers.{IsPosted}
-
--- as many items are populated as the scale says
-pub items_of : (seed : ℕ) (scale : ScaleRow) → length (populated seed scale).items ≡ scale.items
-unfolding populated items_table
-items_of seed scale = length-map-range_with_len (item_row seed scale) 1 scale.items
 
 pub posted : (scale : ScaleRow) (t : Tables) (index : Catalogue) (book : BookValue) (solo : SoloValue) → scale ≡ desk → length t.items ≡ desk.items → index ≡ catalogue t
     → book.opening.tables ≡ t → solo ≡ seated book 1 → IsSeat (seat_of solo) → IsPosted (seat_of solo) index (record { number = 1; seed = 0; scale = scale })

@@ -34,7 +34,7 @@ pub struct Setting {
 }
 
 /// The tables of the desk with seed 0.
-#[tactic(auto, using(crate::proofs::Posting::items_of))]
+#[tactic(auto, using(shop_model::proofs::cited::Populated::items_populated))]
 fn desk(alloc: Global) -> Result<Tables, Memory>
     ensures { IfOk result IsDesk }
 {

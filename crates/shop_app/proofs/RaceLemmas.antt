@@ -8,6 +8,8 @@ use Rattle.std.proofs.lemmas.Bool.{cases_lt, eq-eqb, leb-true, false≢true}
 use Rattle.std.proofs.lemmas.List.{get_or_append_left, get_or-append_right}
 use Rattle.std.proofs.lemmas.List.Elements.{All-cons, All-nil, All-contains}
 use Rattle.std.proofs.lemmas.Option.{get_or_from_slice_get, slice_get_within}
+use Rattle.shop_model.proofs.cited.Populated.{items_populated}
+use Rattle.shop_text.proofs.cited.Lists.{contains_first, contains_later}
 use Rattle.shop_log.specs.Histories.{Extends}
 use Rattle.shop_edges.specs.Starts.{Spawning}
 use Rattle.shop_edges.specs.declared.gateway.Answer.{Answer}
@@ -49,7 +51,6 @@ use Rattle.shop_words.specs.Commands.{IsRace}
 use Rattle.shop_words.specs.Options.{IsChosen}
 use Rattle.shop_words.specs.Values.{steps_of, within, workers_of}
 use Rattle.shop_app.specs.Racing.{AreNewDesks, IsFirstTask, IsWithin, OpensRace, RacedBy, RacedTo, caller_of, first_seat_at, first_stage_at, new_book}
-use Rattle.shop_app.proofs.SessionLemmas.{items_of}
 use Rattle.shop_app.specs.Summaries.{race_lines}
 
 -- lists, place by place
@@ -94,12 +95,6 @@ contains_mapped : {A B : Type 0} (f : A → B) (xs : List A) (k : ℕ) (x : A) �
 contains_mapped f [] k x is = absurd cc
 contains_mapped f (y ∷ xs) zero x is = (0, omega arith, ap f (same_there {o = Some y} refl is))
 contains_mapped f (y ∷ xs) (suc k) x is = let has = contains_mapped f xs k x is in (suc has.0, omega (arith, has.1), has.2)
-
-contains_later : {A : Type 0} (y : A) (xs : List A) (x : A) → Contains xs x → Contains (y ∷ xs) x
-contains_later y xs x has = (suc has.0, omega (arith, has.1), has.2)
-
-contains_first : {A : Type 0} (y : A) (xs : List A) → Contains (y ∷ xs) y
-contains_first y xs = (0, omega arith, refl)
 
 -- a caller who has no entry made none
 none_made : (c : ℕ) (log : List Entry) → entries_of c log ≡ [] → All (λ (e : Entry). ¬ (e.caller ≡ c)) log
@@ -402,7 +397,7 @@ posted_at session all number table desk index is named valid = record {
   valid = valid;
   number = ap (λ (d : DeskValue). d.number) is;
   named = named ∙ ap (λ (d : DeskValue). catalogue d.origin.opening.tables) (sym is);
-  scaled = sym (items_of session.seed session.scale) ∙ ap (λ (d : DeskValue). length d.origin.opening.tables.items) (sym is);
+  scaled = sym (items_populated session.seed session.scale) ∙ ap (λ (d : DeskValue). length d.origin.opening.tables.items) (sym is);
 }
 
 -- the task of a desk
@@ -422,10 +417,6 @@ holds_next P before desk behind desks split all =
     let here : get_or (before ++ desk ∷ behind) (length before) desk ≡ desk = get_or-append_right before (desk ∷ behind) (length before) (length before) desk refl (omega arith) ∙ ap (λ i. get_or (desk ∷ behind) i desk) none in
     let within : length before < length desks = omega (arith, ap length split, length-append before (desk ∷ behind)) in
     subst P (ap (λ (ds : List DeskValue). get_or ds (length before) desk) (sym split) ∙ here) (all (length before) desk within)
-
-pub nothing_left : {A : Type 0} (xs : List A) → length xs ≡ 0 → xs ≡ []
-nothing_left [] none = refl
-nothing_left (x ∷ xs) none = absurd (omega (arith, none))
 
 -- the desks of a new shop but its last
 module _ (session : Session) (callers : ℕ) (desks rest : List DeskValue) (own : DeskValue) (opens : Opens (new_book session) callers desks) (popped : desks ≡ rest ++ own ∷ []) where

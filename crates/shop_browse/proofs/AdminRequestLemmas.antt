@@ -1,5 +1,6 @@
 -- The item that Admin Request reads, and what it shows.
 use Rattle.std.proofs.Common.{◌≡◌, ℕ, Option, Some, None, option_map, sym, ◌∙◌, ap}
+use Rattle.shop_history.proofs.cited.Shown.{item_found}
 use Rattle.shop_model.specs.declared.administration.AdminRequest as asked_for
 use Rattle.shop_model.specs.declared.refusal.Refusal.TheVariants.{NoItem}
 use Rattle.shop_model.specs.declared.requests.Request.TheVariants.{AdminRequest}
@@ -13,7 +14,7 @@ use Rattle.shop_history.specs.declared.keys.Key.TheVariants as key
 use Rattle.shop_history.specs.declared.keys.Row.TheVariants as row
 use Rattle.shop_history.specs.Keys.{row_of}
 use Rattle.shop_attempt.specs.declared.attempts.ReadOf.{ReadOf}
-use Rattle.shop_browse.proofs.Items.{item_found, row_missing}
+use Rattle.shop_browse.proofs.Items.{row_missing}
 
 module _ (t : Tables) (asked : asked_for.AdminRequest) (item : ReadOf) (draw : ℕ) (is : item.key ≡ key.Item asked.item) (shows : row_of t item.key ≡ item.row) where
   by_row : (o : Option ItemRow) → row_numbered t.items asked.item ≡ o

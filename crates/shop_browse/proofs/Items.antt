@@ -19,11 +19,6 @@ use Rattle.shop_attempt.specs.Seats.{Seat, IsSeat}
 pub seat_sound : (seat : Seat) → IsSeat seat → Sound (tables seat.opening seat.seen)
 seat_sound seat valid = (good_log seat.opening (seat.limit + 1) valid.good seat.seen valid.legal (omega (arith, valid.short))).sound
 
--- an item that is shown is there
-pub item_found : (o : Option ItemRow) (x : ItemRow) → shown row.Item o ≡ row.Item x → o ≡ Some x
-item_found None x is = absurd cc
-item_found (Some y) x is = cc
-
 -- a row that is not shown is not there
 pub row_missing : {A : Type 0} (make : A → Row) → ((x : A) → make x ≡ row.Absent → ⊥) → (o : Option A) → shown make o ≡ row.Absent → o ≡ None
 row_missing make never None is = refl

@@ -1,7 +1,7 @@
 -- Customers by their user names, and their passwords.
-use Rattle.std.proofs.Common.{◌≡◌, ℕ, true, false, Bool, List, Option, Some, None, option_map, refl, sym, ◌∙◌, ap}
+use Rattle.std.proofs.Common.{◌≡◌, ℕ, Bool, List, Option, Some, None, option_map, refl, sym, ◌∙◌, ap}
 use Rattle.std.specs.Str.{bytes_eq}
-use Rattle.std.proofs.lemmas.Bool.{cond-true, cond-false}
+use Rattle.std.proofs.lemmas.Bool.{cond-true, cond-false, false_from_ne_true}
 use Rattle.std.proofs.lemmas.Slice.Eq.{bytes_eq-Decides}
 use Rattle.shop_model.specs.declared.refusal.Refusal.TheVariants.{WrongPassword}
 use Rattle.shop_model.specs.declared.tables.Tables.{Tables}
@@ -32,13 +32,9 @@ pub no_name : (o : Option CustomerRow) → shown row.Id (option_map (λ c. c.id)
 no_name None is = refl
 no_name (Some c) is = absurd cc
 
-is_false : (b : Bool) → (b ≡ true → ⊥) → b ≡ false
-is_false true other = absurd (other refl)
-is_false false other = refl
-
 -- the check of the password of a customer
 pub password_passes : (pass : List ℕ) (c : CustomerRow) → pass ≡ c.password → check_password pass (Some c) ≡ None
 password_passes pass c same = cond-true _ _ _ ((bytes_eq-Decides c.password pass).1 (sym same))
 
 pub password_fails : (pass : List ℕ) (c : CustomerRow) → (pass ≡ c.password → ⊥) → check_password pass (Some c) ≡ Some WrongPassword
-password_fails pass c other = cond-false _ _ _ (is_false (bytes_eq c.password pass) (λ same. other (sym ((bytes_eq-Decides c.password pass).0 same))))
+password_fails pass c other = cond-false _ _ _ (false_from_ne_true (bytes_eq c.password pass) (λ same. other (sym ((bytes_eq-Decides c.password pass).0 same))))

@@ -1,5 +1,6 @@
 -- The page of an item, by what was read of it, and by its author, whom a catalogue knows.
 use Rattle.std.proofs.Common.{◌≡◌, ℕ, [], ◌∷◌, length, Option, Some, None, option_map, unwrap_or, sym, ◌∙◌, ap}
+use Rattle.shop_history.proofs.cited.Shown.{item_found}
 use Rattle.shop_model.specs.declared.author.Author.{Author}
 use Rattle.shop_model.specs.declared.refusal.Refusal.TheVariants.{NoItem}
 use Rattle.shop_model.specs.declared.requests.ProductDetail as asked_for
@@ -18,7 +19,7 @@ use Rattle.shop_history.specs.Keys.{row_of}
 use Rattle.shop_history.proofs.cited.Places.{all_numbered, some_row}
 use Rattle.shop_attempt.specs.declared.attempts.ReadOf.{ReadOf}
 use Rattle.shop_browse.specs.Driver.{Fits}
-use Rattle.shop_browse.proofs.Items.{item_found, row_missing}
+use Rattle.shop_browse.proofs.Items.{row_missing}
 
 module _ (asked : asked_for.ProductDetail) (item : ReadOf) (draw : ℕ) (c : Catalogue) (t : Tables) (item_is : item.key ≡ key.Item asked.item) (fits : Fits c t (item ∷ [])) where
   by_row : (o : Option ItemRow) → row_numbered t.items asked.item ≡ o

@@ -42,10 +42,6 @@ added_signed before middle after sign name value first second = record { behind 
     whole : (rest : List ℕ) → ((before ++ sign) ++ ((name ++ codes "=") ++ value)) ++ rest ≡ before ++ ((((sign ++ name) ++ codes "=") ++ value) ++ rest)
     whole rest = simp append_assoc refl
 
--- two pieces came
-pub pushed : (before middle after first second : List ℕ) → middle ≡ before ++ first → after ≡ middle ++ second → after ≡ before ++ (first ++ second)
-pushed before middle after first second is_middle is_after = rw (is_after, is_middle) (append_assoc before first second)
-
 -- an id came, or none did
 pub id_added : (before after name : List ℕ) (id : Option ℕ) → after ≡ before ++ id_text ((codes "&" ++ name) ++ codes "=") id
     → Adds before (codes "&") (id_field name id) after (codes "&")

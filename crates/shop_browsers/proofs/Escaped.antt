@@ -2,7 +2,7 @@
 use Rattle.std.proofs.Common.{◌≡◌, ℕ, zero, suc, ◌+◌, ◌<◌, ◌==◌, ◌||◌, ⊎_elim, Bool, true, false, List, [], ◌∷◌, ◌++◌, length, take, drop, get_or, take-append-drop, arith, refl, sym, ap, subst, ◌∙◌, append-nil}
 use Rattle.std.specs.Prelude.{if◌then◌else◌}
 use Rattle.std.specs.List.{All, before_first, after_first, position_or_len}
-use Rattle.std.proofs.lemmas.Bool.{cases_eq, ne_eqb, false≢true, true≢false}
+use Rattle.std.proofs.lemmas.Bool.{cases_eq, ne_eqb, false≢true, true≢false, or_parts}
 use Rattle.std.proofs.lemmas.List.Elements.{All-cons}
 use Rattle.shop_text.specs.Escape.{escape, escape_byte}
 use Rattle.shop_text.proofs.cited.Escaped.{escape_plain, byte_cases}
@@ -96,10 +96,6 @@ query_escaped (byte ∷ text) = ⊎_elim at_mark (other (query_escaped text)) (c
         after_all (λ b. b == 63) (escape_byte byte) (escape text) (none_mark byte apart) ∙ behind
         ∙ ap escape (sym (after_no (λ b. b == 63) byte text (ne_eqb byte 63 apart)))
 
-neither : (b c : Bool) → (b || c) ≡ false → (b ≡ false) × (c ≡ false)
-neither true c e = absurd (true≢false e)
-neither false c e = (refl, e)
-
 -- a mark or a quote that is no mark
 pub other_byte : (byte : ℕ) → (byte == 63 || byte == 34) ≡ true → (byte ≡ 63 → ⊥) → byte ≡ 34
 other_byte byte either other =
@@ -111,7 +107,7 @@ query_of text = after_first (λ b. b == 63) (before_first (λ b. b == 34) text)
 
 query_step : (x : ℕ) (xs : List ℕ) → (x == 63 || x == 34) ≡ false → query_of (x ∷ xs) ≡ query_of xs
 query_step x xs other =
-    let both = neither (x == 63) (x == 34) other in
+    let both = or_parts (x == 63) (x == 34) other in
     ap (after_first (λ b. b == 63)) (before_no (λ b. b == 34) x xs both.1) ∙ after_no (λ b. b == 63) x (before_first (λ b. b == 34) xs) both.0
 
 at_mark : (x : ℕ) (xs : List ℕ) → x ≡ 63 → before_first (λ b. b == 34) xs ≡ query_of (x ∷ xs)

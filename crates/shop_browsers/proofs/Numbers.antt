@@ -4,24 +4,20 @@ use Rattle.std.specs.Prelude.{if◌then◌else◌, nat_le}
 use Rattle.std.specs.List.{list_all, starts_with}
 use Rattle.std.specs.Char.{is_ascii_digit}
 use Rattle.std.specs.Str.Parse.{digits_value}
-use Rattle.std.proofs.lemmas.Bool.{ne_eqb, eq-eqb, false≢true}
+use Rattle.std.proofs.lemmas.Bool.{ne_eqb, eq-eqb, false≢true, and_parts}
 use Rattle.std.proofs.lemmas.Bool.Decides.{Decides-eqb, nat_tests}
 use Rattle.std.proofs.lemmas.Grind.{flat_map-append}
 use Rattle.std.proofs.lemmas.Int.Digits.{digits_value_push}
 use Rattle.std.proofs.lemmas.Str.{digit_value_digit}
 use Rattle.std.proofs.lemmas.Slice.Eq.{starts_is}
 use Rattle.std.proofs.Math.Nat.{pow-suc}
-use Rattle.std.specs.Int.{IsInRange}
+use Rattle.shop_text.proofs.cited.Digits.{digit_range}
 use Rattle.shop_text.specs.Escape.{escape, escape_byte}
 use Rattle.shop_text.specs.Numbers.{number_of}
 use Rattle.shop_text.proofs.cited.Escaped.{IsPlain, escape_plain, byte_cases}
 use Rattle.shop_browsers.specs.Scanned.{AreDigits, Begins, IsLeft, Stops, TakesNumber, ends, first_pair, pair_over}
 use Rattle.shop_browsers.specs.Shown.{number_behind}
 use Rattle.shop_browsers.proofs.Reading.{all_left}
-
-both_true : (b c : Bool) → (b && c) ≡ true → (b ≡ true) × (c ≡ true)
-both_true true c e = (refl, e)
-both_true false c e = absurd (false≢true e)
 
 refused : (a b d : Bool) (x : Option ℕ) → (if a && b && false && d then x else None) ≡ None
 refused true true d x = refl
@@ -50,17 +46,14 @@ digit_plain byte digit = record {
 pub digits_plain : (digits : List ℕ) → list_all is_ascii_digit digits ≡ true → ArePlain digits
 digits_plain [] all = tt
 digits_plain (byte ∷ digits) all =
-    let parts = both_true (is_ascii_digit byte) (list_all is_ascii_digit digits) all in
+    let parts = and_parts (is_ascii_digit byte) (list_all is_ascii_digit digits) all in
     (digit_plain byte parts.0, digits_plain digits parts.1)
 
 all_more : (digits : List ℕ) (byte : ℕ) → list_all is_ascii_digit digits ≡ true → is_ascii_digit byte ≡ true → list_all is_ascii_digit (digits ++ byte ∷ []) ≡ true
 all_more [] byte all digit = rw digit refl
 all_more (first ∷ digits) byte all digit =
-    let parts = both_true (is_ascii_digit first) (list_all is_ascii_digit digits) all in
+    let parts = and_parts (is_ascii_digit first) (list_all is_ascii_digit digits) all in
     rw parts.0 (all_more digits byte parts.1 digit)
-
-in_range : (byte : ℕ) → is_ascii_digit byte ≡ true → IsInRange 48 57 byte
-in_range byte digit = grind arith
 
 -- one more digit was read
 pub digit_more : (text rest : List ℕ) (value more : ℕ) → AreDigits text value rest → is_ascii_digit (get_or rest 0 0) ≡ true → 1 ≤ length rest
@@ -72,7 +65,7 @@ digit_more text (byte ∷ rest) value more read digit some few more_is =
     let sizes : length text ≡ length digits + (length rest + 1) = ap length read.is ∙ length-append digits (byte ∷ rest) ∙ omega arith in
     let after : take (length (byte ∷ rest) - 1) rest ≡ rest = take_all (length (byte ∷ rest) - 1) rest (omega arith) in
     let longer : length (digits ++ byte ∷ []) ≡ length digits + 1 = length-append digits (byte ∷ []) ∙ omega arith in
-    let range = in_range byte digit in
+    let range = digit_range byte digit in
     let power : 10 ^ (length digits + 1) ≡ 10 ^ length digits * 10 = rw add-one (pow-suc 10 (length digits)) in
     record {
       digits = digits ++ byte ∷ [];

@@ -37,18 +37,12 @@ use Rattle.shop_history.proofs.EnterFrame.{says_same_is}
 use Rattle.shop_history.proofs.cited.Found.{found_pushed}
 use Rattle.shop_history.proofs.WindowFrame.{window_sum, window_filter}
 use Rattle.shop_history.proofs.cited.Places.{is_there, row_there, all_numbered, id_numbered, row_set_apart, row_set_other, row_push_other}
+pub use Rattle.shop_model.proofs.cited.Lookups.{numbered_map}
+pub use Rattle.shop_text.proofs.cited.Lists.{contains_map}
 
 pub by_test : {X : Type 0} (b : Bool) → (b ≡ true → X) → (b ≡ false → X) → X
 by_test true passes fails = passes refl
 by_test false passes fails = fails refl
-
-pub contains_map : {A B : Type 0} (f : A → B) (xs : List A) (x : A) → Contains xs x → Contains (map f xs) (f x)
-contains_map f [] x has = absurd (omega (arith, has.1))
-contains_map {A} {B} f (y ∷ ys) x has = by has.0 has.1 has.2 (contains_map f ys x)
-  where
-    by : (k : ℕ) → k < suc (length ys) → get_or (y ∷ ys) k x ≡ x → (Contains ys x → Contains (map f ys) (f x)) → Contains (f y ∷ map f ys) (f x)
-    by zero lt is behind = (0, omega arith, ap f is)
-    by (suc k) lt is behind = let there = behind (k, omega (arith, lt), is) in (suc there.0, omega (arith, there.1), there.2)
 
 -- an item that an order has, or has not
 
@@ -71,20 +65,6 @@ pub lines_items : (t : Tables) (number : ℕ) (lines : List (ℕ × ℕ)) → ma
 unfolding order_lines
 lines_items t number [] = refl
 lines_items t number (line ∷ lines) = ap (λ items. line.0 ∷ items) (lines_items t (number + 1) lines)
-
--- rows that a map makes
-
-pub numbered_map : {A B : Type 0} (f : A → B) (xs : List A) (id : ℕ) → row_numbered (map f xs) id ≡ option_map f (row_numbered xs id)
-numbered_map f xs id = by (eqb id 0)
-  where
-    get_map : {A B : Type 0} (f : A → B) (xs : List A) (k : ℕ) → slice_get (map f xs) k ≡ option_map f (slice_get xs k)
-    get_map f [] k = refl
-    get_map f (x ∷ xs) zero = refl
-    get_map f (x ∷ xs) (suc k) = get_map f xs k
-
-    by : (b : Bool) → cond b None (slice_get (map f xs) (id - 1)) ≡ option_map f (cond b None (slice_get xs (id - 1)))
-    by true = refl
-    by false = get_map f xs (id - 1)
 
 -- an item of which nothing was sold
 sold_same : (order : OrderRow) (i : ItemRow) → 10 ≤ i.stock → units_in i.id order.lines ≡ 0 → sold_item order i ≡ i

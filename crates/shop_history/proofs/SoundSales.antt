@@ -5,6 +5,7 @@ use Rattle.std.proofs.lemmas.List.{length-map, map-append}
 use Rattle.std.proofs.lemmas.List.Elements.{All-weaker, All-map, All-push, All-set, filter-append}
 use Rattle.std.proofs.lemmas.List.Sums.{sum_by_push}
 use Rattle.std.proofs.lemmas.Bool.{cond-true}
+use Rattle.shop_history.proofs.cited.KeptTables.{map_seen}
 use Rattle.shop_model.specs.declared.tables.Tables.{Tables}
 use Rattle.shop_model.specs.rows.Limits.{restocks_limit}
 use Rattle.shop_model.specs.rows.Rows.{ItemRow, OrderRow, CustomerRow, IsItem, IsOrder, IsLine, IsCardUse}
@@ -36,11 +37,6 @@ rows_push id_of rows row next fits runs =
 some_weaker : (n m : ℕ) (o : Option ℕ) → n ≤ m → IfSome o (Has n) → IfSome o (Has m)
 some_weaker n m None le is = tt
 some_weaker n m (Some id) le is = record { first = is.first; last = omega (arith, is.last, le) }
-
--- a map that leaves what another map sees
-map_seen : {A B : Type 0} (see : A → B) (f : A → A) (xs : List A) → ((x : A) → see (f x) ≡ see x) → map see (map f xs) ≡ map see xs
-map_seen see f [] same = refl
-map_seen see f (x ∷ xs) same = rw (same x, map_seen see f xs same) refl
 
 -- what holds of two things at each place
 all_both : {A : Type 0} (P Q R : A → Type 0) (xs : List A) → ((x : A) → P x → Q x → R x) → All P xs → All Q xs → All R xs

@@ -3,14 +3,10 @@ use Rattle.std.proofs.Common.{◌≡◌, ℕ, zero, suc, ◌+◌, ◌-◌, ◌<�
 use Rattle.std.proofs.lemmas.Bool.{cases_lt, cond-true, cond-false}
 use Rattle.std.proofs.lemmas.List.Sums.{sum_by_push, sum_by-cons}
 use Rattle.std.proofs.lemmas.Option.{slice_get-get_or}
+use Rattle.std.proofs.lemmas.List.{drop-append-le}
 use Rattle.shop_model.specs.lists.Related.{last}
 use Rattle.shop_model.specs.rows.Rows.{OrderRow}
 use Rattle.shop_history.specs.MayChange.{leaving}
-
-drop_end : {A : Type 0} (n : ℕ) (xs : List A) (x : A) → n ≤ length xs → drop n (xs ++ x ∷ []) ≡ drop n xs ++ x ∷ []
-drop_end zero xs x le = refl
-drop_end (suc n) [] x le = absurd (omega (arith, le))
-drop_end (suc n) (y ∷ ys) x le = drop_end n ys x (omega (arith, le))
 
 pub drop_more : {A : Type 0} (n : ℕ) (xs : List A) (x : A) → slice_get xs n ≡ Some x → drop n xs ≡ x ∷ drop (suc n) xs
 drop_more zero [] x is = absurd cc
@@ -57,7 +53,7 @@ window_moves most orders order some =
       rest = drop (suc n) orders;
       leaves = cond-false (ltb (length orders) most) None (slice_get orders n) (le_ltb (length orders) most many) ∙ at;
       before = drop_more n orders gone at;
-      now = ap (λ m. drop m (orders ++ order ∷ [])) is ∙ drop_end (suc n) orders order (omega (arith, many, some));
+      now = ap (λ m. drop m (orders ++ order ∷ [])) is ∙ drop-append-le (suc n) orders (order ∷ []) (omega (arith, many, some));
     }))
     (cases_lt (length orders) most)
 

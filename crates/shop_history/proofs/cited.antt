@@ -5,4 +5,5 @@ pub mod Drawing
 pub mod MayChange
 pub mod Versions
 pub mod Found
+pub mod Shown
 pub mod GoodTables

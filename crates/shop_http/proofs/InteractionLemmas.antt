@@ -1,5 +1,5 @@
 -- The table of paths: that they are text and have no parameters, and what a router of it finds.
-use Rattle.std.proofs.Common.{◌≡◌, ℕ, ◌<◌, Bool, true, false, ◌&&◌, cond, List, [], ◌∷◌, Some, None, refl, sym, ap, ◌∙◌, subst, true≢false, arith}
+use Rattle.std.proofs.Common.{◌≡◌, ℕ, ◌<◌, Bool, true, false, cond, List, [], ◌∷◌, Some, None, refl, sym, ap, ◌∙◌, subst, true≢false, arith}
 use Rattle.std.specs.Prelude.{option_map, Ok}
 use Rattle.std.specs.Bool.{one_answer}
 use Rattle.std.specs.Char.{is_ascii}
@@ -9,6 +9,7 @@ use Rattle.std.proofs.lemmas.List.Sums.{AllPass-from_list_all}
 use Rattle.std.proofs.lemmas.Slice.Eq.{bytes_eq-Decides}
 use Rattle.std.proofs.lemmas.Str.{IsUtf8-from_ascii}
 use Rattle.std.proofs.lemmas.Str.Ascii.{IsAscii-from_all}
+use Rattle.std.proofs.lemmas.Bool.{and_parts}
 use Rattle.matchit.specs.Order.{lookup}
 use Rattle.matchit.specs.Route.{parse_route}
 use Rattle.matchit.proofs.OnLiterals.{matchit_on_literals}
@@ -43,10 +44,6 @@ pub finds_all : FindsAll (rows_of paths)
 unfolding interaction_of
 finds_all path = ap (option_map (λ route. route.value)) (first_literal (rows_of paths) path refl) ∙ finds paths path
 
-both : (a b : Bool) → (a && b) ≡ true → (a ≡ true) × (b ≡ true)
-both true b is = (refl, is)
-both false b is = absurd (true≢false (sym is))
-
 below : (byte : ℕ) → is_ascii byte ≡ true → byte < 128
 below byte is = grind arith
 
@@ -60,7 +57,7 @@ none_found : (table : List (List ℕ × Interaction)) (path : List ℕ)
     → find (λ row. bytes_eq path row.0) table ≡ None
 none_found [] path ascii text = refl
 none_found ((row, interaction) ∷ rest) path ascii text =
-    let parts = both _ _ ascii in
+    let parts = and_parts _ _ ascii in
     go (bytes_eq path row) (λ same. text (subst IsUtf8 (sym ((bytes_eq-Decides path row).0 same)) (ascii_text row parts.0)))
     (none_found rest path parts.1 text)
   where

@@ -1,7 +1,9 @@
-pub mod Scales
-pub mod Lists
-pub mod SetLines
-pub mod LastOrders
 pub mod Cards
-pub mod Restocking
+pub mod LastOrders
+pub mod Lists
+pub mod Lookups
+pub mod Populated
 pub mod RelatedFive
+pub mod Restocking
+pub mod Scales
+pub mod SetLines

@@ -33,7 +33,7 @@ use Rattle.shop_order.specs.declared.stops.Stop.TheVariants.{Refused, Never}
 use Rattle.shop_order.specs.AdminConfirm.{customers_in, totals_in, lists_in, first_keys, HasFirst, HasSecond, HasItem, FollowsAdmin, MayRelate}
 use Rattle.shop_order.specs.Stops.{StopsBy, IsStop}
 use Rattle.shop_order.proofs.RelatedLemmas.{few_buyers, named_bought, few_bought}
-use Rattle.shop_order.proofs.ShownLemmas.{item_found}
+use Rattle.shop_history.proofs.cited.Shown.{item_found}
 
 -- the reads of the first round
 

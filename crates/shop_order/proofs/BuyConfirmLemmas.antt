@@ -31,7 +31,7 @@ use Rattle.shop_order.specs.BuyConfirm.{text_keys, home_keys, ship_key, item_key
 use Rattle.shop_order.specs.ShoppingCart.{IsFitRow, lines_in}
 use Rattle.shop_order.specs.Stops.{AreBought}
 use Rattle.shop_order.proofs.ShoppingCartLemmas.{fit_shown}
-use Rattle.shop_order.proofs.ShownLemmas.{cart_found, customer_found}
+use Rattle.shop_history.proofs.cited.Shown.{cart_found, customer_found}
 
 -- the reads of the first round
 

@@ -25,7 +25,7 @@ use Rattle.shop_order.specs.BuyRequest.{buyer_key, first_keys, customer_keys, se
 use Rattle.shop_order.specs.ShoppingCart.{IsFitRow, lines_in}
 use Rattle.shop_order.specs.Stops.{AreBought}
 use Rattle.shop_order.proofs.ShoppingCartLemmas.{fit_shown}
-use Rattle.shop_order.proofs.ShownLemmas.{cart_found}
+use Rattle.shop_history.proofs.cited.Shown.{cart_found}
 
 -- the reads of the first round
 

@@ -35,7 +35,7 @@ use Rattle.shop_order.specs.BuyRequest.{buyer_key, second_keys, check_found, IsC
 use Rattle.shop_order.specs.Entries.{newcomer_writes}
 use Rattle.shop_order.specs.Stops.{StopsBy, IsStop}
 use Rattle.shop_order.proofs.EnterLemmas.{user_numbered, login_written, newcomer_written}
-use Rattle.shop_order.proofs.ShownLemmas.{cart_found, customer_found, id_found}
+use Rattle.shop_history.proofs.cited.Shown.{cart_found, customer_found, id_found}
 
 -- the reads from a place on
 behind : (n : ℕ) (reads : List ReadOf) → take (length reads - n) (drop n reads) ≡ drop n reads

@@ -1,4 +1,3 @@
-pub mod ShownLemmas
 pub mod CartsLemmas
 pub mod TableLemmas
 pub mod BuyerPageLemmas

@@ -35,7 +35,7 @@ use Rattle.shop_browse.specs.Driver.{keys_of, Fits, IsWhole, IsNext}
 use Rattle.shop_browse.proofs.cited.Sizes.{size_of}
 use Rattle.shop_order.specs.AdminConfirm.{customers_in, totals_in, lists_in, five_by, HasSecond, FollowsAdmin, mended_row, published_at, IsChangeTo}
 use Rattle.shop_order.proofs.AdminConfirmLemmas.{book_shown}
-use Rattle.shop_order.proofs.ShownLemmas.{item_found}
+use Rattle.shop_history.proofs.cited.Shown.{item_found}
 
 -- tables show what their customers bought
 lists_shown : (t : Tables) (customers : List ℕ) (reads : List ReadOf) → keys_of reads ≡ map key.Bought customers → Shows t reads → lists_in reads ≡ map (bought t) customers

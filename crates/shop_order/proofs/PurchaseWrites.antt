@@ -40,7 +40,7 @@ use Rattle.shop_order.specs.declared.purchase.Purchase.{Purchase}
 use Rattle.shop_order.specs.Purchases.{IsPurchase, IsBill, numbered, place_of, order_at, order_of, drawn_order, ship_writes, stock_writes, purchase_writes}
 use Rattle.shop_order.proofs.BuyerPageLemmas.{totals_ordered}
 use Rattle.shop_order.proofs.PurchaseLemmas.{numbered_ordered}
-use Rattle.shop_order.proofs.ShownLemmas.{cart_found, customer_found, address_found, id_found}
+use Rattle.shop_history.proofs.cited.Shown.{cart_found, customer_found, address_found, id_found}
 use Rattle.shop_order.proofs.StockWrites.{stocks_written}
 
 -- where it ships to

@@ -42,7 +42,7 @@ use Rattle.shop_browse.specs.Footprints.{drawn_item, IsAmong, WasOnCart, LeavesN
 use Rattle.shop_browse.proofs.cited.Sizes.{size_of, size_after}
 use Rattle.shop_order.specs.Page.{cart_at, page_at}
 use Rattle.shop_order.specs.ShoppingCart.{cart_keys, cart_reads, IsNamed, IsFitRow, IsFitRead, lines_in, begun_with, MakesOfCart, AreItems, behind_cart, HasItems, FollowsCart, put_lines, IsChangeTo}
-use Rattle.shop_order.proofs.ShownLemmas.{cart_found}
+use Rattle.shop_history.proofs.cited.Shown.{cart_found}
 use Rattle.shop_order.proofs.CartsLemmas.{made_on}
 
 -- the cart that was read

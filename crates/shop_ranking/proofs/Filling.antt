@@ -2,10 +2,11 @@
 use Rattle.std.proofs.Common.{◌≡◌, ℕ, zero, suc, ◌-◌, ◌<◌, ◌≤◌, Bool, true, false, cond, List, [], ◌∷◌, length, filter, drop, get_or, set, refl, sym, ap, ◌∙◌, inl, inr, arith, Some, Vec, vec_capacity}
 use Rattle.std.specs.List.{slice_get}
 use Rattle.std.specs.declared.cmp.Ordering.{Ordering}
-use Rattle.std.proofs.Math.Seq.{drop-cons, drop-length}
+use Rattle.std.proofs.Math.Seq.{drop-length}
 use Rattle.std.proofs.lemmas.Bool.Decides.{eqb_tells}
 use Rattle.std.proofs.lemmas.List.{length-set, get_or-set_same, get_or-set_other}
 use Rattle.std.proofs.lemmas.Option.{slice_get_within, same_Some}
+use Rattle.shop_text.proofs.cited.Lists.{drop_before}
 use Rattle.shop_model.specs.declared.subject.Subject.{Subject}
 use Rattle.shop_model.specs.rows.Subjects.{subjects}
 use Rattle.shop_model.specs.lists.Rankings.{put_among, in_order}
@@ -13,13 +14,6 @@ use Rattle.shop_ranking.specs.Standing.{always, is_under, listed, AreRankings, A
 use Rattle.shop_ranking.proofs.Kept.{other_subject, under_itself, roomy_changed}
 use Rattle.shop_ranking.proofs.Listed.{length_listed}
 use Rattle.shop_ranking.proofs.Putting.{length_in_order}
-
--- the elements from a place on, one more
-drop_before : {A : Type 0} (xs : List A) (i : ℕ) (d : A)
-    → 0 < i → i ≤ length xs → drop (i - 1) xs ≡ get_or xs (i - 1) d ∷ drop i xs
-drop_before xs zero d some within = absurd (omega arith)
-drop_before xs (suc i) d some within =
-    let e : suc i - 1 ≡ i = omega arith in rw e (drop-cons xs i d (omega arith))
 
 -- the items from a place on are listed, and there is room for all
 pub record AreFilled {A Memory : Type 0} (order : A → A → Ordering) (place : ℕ) (owns : List Subject) (elements : List A) (lists : List (Vec A Memory)) : Type 0 where

@@ -2,6 +2,7 @@
 use Rattle.std.proofs.Common.{◌≡◌, ℕ, zero, suc, ◌+◌, ◌<◌, ◌≤◌, Bool, true, false, ◌&&◌, ◌||◌, nat_eq, List, [], ◌∷◌, ◌++◌, length, map, take, get_or, refl, ap, sym, ◌∙◌, arith, bytes_eq}
 use Rattle.std.specs.List.{list_any}
 use Rattle.std.proofs.lemmas.List.{take_more, take_all, length-map, get_or-map}
+use Rattle.std.proofs.Math.Bool.{or-false}
 use Rattle.shop_text.specs.Fold.{lower, fold_eq, fold_begins}
 use Rattle.shop_model.specs.declared.requests.SearchKind.{SearchKind}
 use Rattle.shop_model.specs.declared.requests.SearchKind.TheVariants as kind
@@ -21,10 +22,6 @@ either false q r = refl
 and_false : (p : Bool) → false ≡ (p && false)
 and_false true = refl
 and_false false = refl
-
-or_false : (p : Bool) → p ≡ (p || false)
-or_false true = refl
-or_false false = refl
 
 any_behind : (x : ℕ) (xs : List ℕ) (b : ℕ) (keys : List (List ℕ))
     → is_among (x ∷ xs) (map (λ front. b ∷ front) keys) ≡ (nat_eq b x && is_among xs keys)
@@ -52,7 +49,7 @@ pub matches_key : (c : Catalogue) (kind : SearchKind) (text : List ℕ) (item : 
     → matches c kind text item ≡ is_among (key_of kind text) (keys_of c.authors kind item)
 matches_key c kind.Title text item = any_lower text (words item.title)
 matches_key c kind.Author text item = begins (last_name c item) text
-matches_key c kind.Subject text item = or_false (bytes_eq (subject_name item.subject) text)
+matches_key c kind.Subject text item = sym (or-false (bytes_eq (subject_name item.subject) text))
 
 -- the fronts are as many as the places of a text
 fronts_many : (text : List ℕ) → length (fronts text) ≡ length text + 1

@@ -1,5 +1,5 @@
 -- A sorted list whose ties kept their order is the list in order, also after a filter.
-use Rattle.std.proofs.Common.{◌≡◌, ℕ, suc, ◌+◌, ◌<◌, Bool, true, false, not, ◌&&◌, List, [], ◌∷◌, length, filter, get_or, cond, refl, ap, sym, ◌∙◌, arith, subst}
+use Rattle.std.proofs.Common.{◌≡◌, ℕ, suc, ◌<◌, Bool, true, false, not, ◌&&◌, List, [], ◌∷◌, length, filter, get_or, cond, refl, ap, sym, ◌∙◌, arith, subst}
 use Rattle.std.specs.Cmp.{IsTotalOrder}
 use Rattle.std.specs.List.Sorted.{IsSorted, IsStable, ties}
 use Rattle.std.specs.Ordering.{is_lt, is_gt, ordering_reverse}
@@ -9,7 +9,7 @@ use Rattle.std.proofs.lemmas.Cmp.{upto, tied_itself}
 use Rattle.std.proofs.lemmas.List.Kept.{IsSortedBy-filter}
 use Rattle.std.proofs.lemmas.List.Sorted.{ranks_by, sorted_far}
 use Rattle.shop_model.specs.lists.Rankings.{in_order, put_among}
-use Rattle.shop_ranking.proofs.cited.Order.{is_in_order}
+use Rattle.shop_ranking.proofs.cited.Order.{is_in_order, sorted_tail}
 
 -- none of these comes before the first
 abbrev Leads : {A : Type 0} → (A → A → Ordering) → A → List A → Type 0
@@ -28,11 +28,6 @@ leads_each : {A : Type 0} (o : A → A → Ordering) (y : A) (xs : List A)
     → ((k : ℕ) (d : A) → k < length xs → is_lt (o (get_or xs k d) y) ≡ false) → Leads o y xs
 leads_each o y [] each = tt
 leads_each o y (x ∷ xs) each = (each 0 x (omega arith), leads_each o y xs (λ k d low. each (suc k) d (omega arith)))
-
-sorted_tail : {A : Type 0} (o : A → A → Ordering) (x : A) (xs : List A) → IsSorted o (x ∷ xs) → IsSorted o xs
-sorted_tail o x xs sorted = λ k d low high.
-    let e : suc k + 1 ≡ suc (k + 1) = omega arith in
-    rw e at (sorted (suc k) d (omega arith) (omega arith))
 
 pub rises_sorted : {A : Type 0} (o : A → A → Ordering) → IsTotalOrder o → (xs : List A) → IsSorted o xs → Rises o xs
 rises_sorted o total [] sorted = tt

@@ -35,10 +35,6 @@ pub begun : (marked : ℕ → ℕ → Type 0) (worker : WorkerState DeskValue) (
 begun marked worker clock browser answers after steps tally none =
     subst (λ (a : List Answer). Drives marked (record { worker = standing seat_of worker clock (Some a); browsers = browser ∷ []; failures = 0 }) after steps (Ok tally)) none
 
-pub nothing_left : {A : Type 0} (xs : List A) → length xs ≡ 0 → xs ≡ []
-nothing_left [] none = refl
-nothing_left (x ∷ xs) none = absurd (omega (arith, none))
-
 -- a counter after one task more
 pub counted_more : {A : Type 0} (xs : List A) (x : A) (n : ℕ) → counted (length (xs ++ x ∷ [])) n ≡ count_up (counted (length xs) n)
 counted_more xs x n = let one : length (xs ++ x ∷ []) ≡ suc (length xs) = omega (arith, length-append xs (x ∷ [])) in ap (λ m. counted m n) one

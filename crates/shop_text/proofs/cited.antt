@@ -1,4 +1,6 @@
+pub mod Digits
 pub mod Escaped
 pub mod Escapes
+pub mod Lists
 pub mod Plain
 pub mod Syllables

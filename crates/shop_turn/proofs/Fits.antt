@@ -1,7 +1,8 @@
 -- What a seat knows fits the rule, after a step of another or of its own.
-use Rattle.std.proofs.Common.{◌≡◌, ℕ, ◌≤◌, List, [], ◌∷◌, ◌++◌, length, true, sym, subst, arith, ◌∙◌, ap, length-append, refl, ◌≢◌, ⊎_elim, zero, suc, set, drop, append_assoc}
+use Rattle.std.proofs.Common.{◌≡◌, ℕ, ◌≤◌, List, [], ◌∷◌, ◌++◌, length, true, sym, subst, arith, ◌∙◌, ap, length-append, refl, ◌≢◌, ⊎_elim, set, drop, append_assoc}
 use Rattle.std.proofs.lemmas.List.Elements.{All-head, All-weaker, All-push}
 use Rattle.std.specs.List.{All}
+use Rattle.std.proofs.lemmas.List.{drop-append-le}
 use mathlib.Core.Option.{some}
 use lib.ListN.{get_elem?}
 use Rattle.atomic_table.proofs.Lists.{at_set}
@@ -16,11 +17,6 @@ pub each_set : {V : Type 0} (F G : ℕ → V → Type 0) (views : List V) (id : 
     → ((by : ℕ) (v : V) → by ≢ id → F by v → G by v) → G id w → (by : ℕ) (v : V) → get_elem? (set views id w) by ≡ some v → G by v
 each_set F G views id w old carry new by v e =
     ⊎_elim (λ (t : (by ≡ id) × (w ≡ v)). subst (λ j. G j v) (sym t.0) (subst (G id) t.1 new)) (λ (t : (by ≢ id) × (get_elem? views by ≡ some v)). carry by v t.0 (old by v t.1)) (at_set views id by w v e)
-
-pub drop-push : {A : Type 0} (n : ℕ) (xs : List A) (x : A) → n ≤ length xs → drop n (xs ++ x ∷ []) ≡ drop n xs ++ x ∷ []
-drop-push zero xs x h = refl
-drop-push (suc n) [] x h = absurd (omega arith)
-drop-push (suc n) (y ∷ ys) x h = drop-push n ys x (omega arith)
 
 pub drop-all : {A : Type 0} (xs : List A) → drop (length xs) xs ≡ []
 drop-all [] = refl
@@ -48,7 +44,7 @@ pub mark_push : (log : List Entry) (latest : ℕ) (e : Entry) (m : ℕ × ℕ) �
 mark_push log latest e m is f = record {
   front = let a = f.front in omega (arith, length-append log (e ∷ []));
   moment = f.moment;
-  above = rw (drop-push m.0 log e f.front) (All-push (λ (x : Entry). m.1 ≤ x.stamp) (drop m.0 log) e f.above (let a = f.moment in omega arith));
+  above = rw (drop-append-le m.0 log (e ∷ []) f.front) (All-push (λ (x : Entry). m.1 ≤ x.stamp) (drop m.0 log) e f.above (let a = f.moment in omega arith));
 }
 
 -- what a part knows, under other owners and more names

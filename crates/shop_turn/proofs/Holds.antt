@@ -1,7 +1,7 @@
 -- The rule holds after each change.
 use Rattle.std.proofs.Common.{◌≡◌, ℕ, ◌+◌, ◌≤◌, ◌<◌, List, [], ◌∷◌, ◌++◌, length, max, Option, Some, true, false, sym, subst, arith, ◌∙◌, ap, length-append, refl, ◌≢◌, inr, zero, suc, set, drop}
 use Rattle.std.proofs.lemmas.Bool.{true≢false}
-use Rattle.std.proofs.lemmas.List.{append-nil}
+use Rattle.std.proofs.lemmas.List.{append-nil, drop-append-le}
 use Rattle.std.proofs.lemmas.List.Elements.{All-head, All-weaker, All-push, All-nil, All-cons, All-tail, Contains-append_left, Contains-push}
 use Rattle.std.specs.List.{All, Contains}
 use Rattle.std.specs.Prelude.{slice_index}
@@ -18,7 +18,7 @@ use Rattle.shop_turn.specs.declared.rule.View.{View}
 use Rattle.shop_turn.specs.Views.{named_as, taking, looking, raising, appending, giving}
 use Rattle.shop_turn.specs.Rule.{PartFits, Now, Fits, IsSourced, EntryFits, shelved, Holds}
 use Rattle.shop_turn.specs.Marks.{MarkFits}
-use Rattle.shop_turn.proofs.Fits.{each_set, drop-push, drop-all, not_theirs, part_push, mark_push, parts_under}
+use Rattle.shop_turn.proofs.Fits.{each_set, drop-all, not_theirs, part_push, mark_push, parts_under}
 use Rattle.shop_turn.proofs.Sources.{at_here, given, given-at, given-else, source_set, entries_weaker}
 
 all_after : {X : Type 0} (P : X → Type 0) (n : ℕ) (xs ys : List X) → n ≤ length xs → All P (drop n (xs ++ ys)) → All P ys
@@ -214,7 +214,7 @@ module _ (origin : Origin) (s : State (Option BookValue) View) (h : Holds origin
               });
           few = h.few;
           long = let a = h.long in omega (arith, length-append h.now.log (e ∷ []));
-          entries = rw (drop-push origin.size h.now.log e h.long) (All-push (EntryFits origin h.now.owner h.now.named (set s.views id w)) (drop origin.size h.now.log) e (entries_as w (λ x c. c) h.now.owner h.now.named level same_owner)
+          entries = rw (drop-append-le origin.size h.now.log (e ∷ []) h.long) (All-push (EntryFits origin h.now.owner h.now.named (set s.views id w)) (drop origin.size h.now.log) e (entries_as w (λ x c. c) h.now.owner h.now.named level same_owner)
               (let a = number in let b = owned.0 in omega arith, let a = owned.0 in omega arith, subst (IsSourced origin h.now.owner h.now.named (set s.views id w)) (sym stamp_is) (source_as w (λ x c. c) h.now.owner h.now.named level same_owner h.now.latest h.source)));
           source = source_as w (λ x c. c) h.now.owner h.now.named level same_owner h.now.latest h.source;
         }

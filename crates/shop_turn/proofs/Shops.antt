@@ -1,8 +1,9 @@
 -- What opens a shop, and what a look tells that closes it.
 use Rattle.std.proofs.Common.{◌≡◌, ℕ, zero, ◌+◌, ◌≤◌, List, [], ◌∷◌, ◌++◌, length, sym, subst, arith, ◌∙◌, ap, refl, inl, inr, ⊎_elim, suc, drop, append_assoc, ◌⊎◌, map}
 use Rattle.std.proofs.lemmas.List.{append-nil}
-use Rattle.std.proofs.lemmas.List.Elements.{All-head, All-weaker, All-push, All-nil, All-cons, All-tail, All-contains, All-contains_itself, Contains-append_left, Contains-append_right, Contains-append_cases, Contains-push}
+use Rattle.std.proofs.lemmas.List.Elements.{All-head, All-weaker, All-push, All-nil, All-cons, All-tail, All-contains, All-contains_itself, Contains-append_left, Contains-append_right, Contains-append_cases}
 use Rattle.std.specs.List.{All, Contains}
+use Rattle.shop_text.proofs.cited.Lists.{contains_first, contains_later, contains_map}
 use Rattle.atomic_table.specs.Seated.{TableId}
 use Rattle.shop_history.specs.declared.acts.Entry.{Entry}
 use Rattle.shop_attempt.specs.Marks.{AreMarks}
@@ -77,19 +78,6 @@ joined_more table n v w ds d is num single =
     append_assoc v.marks (all_marks ds) w.marks ∙ ap (λ l. v.marks ++ (all_marks ds ++ l)) (ap (λ (x : DeskValue). x.marks) is) ∙ ap (λ l. v.marks ++ l) (sym (all_marks-push ds d)) in
     λ i. record v { others = others i; marks = marks i }
 
-contains_here : {A : Type 0} (x : A) (xs : List A) → Contains (x ∷ xs) x
-contains_here x xs = Contains-append_left (x ∷ []) xs x (Contains-push [] x)
-
-contains_later : {A : Type 0} (y : A) (xs : List A) (x : A) → Contains xs x → Contains (y ∷ xs) x
-contains_later y xs x c = Contains-append_right (y ∷ []) xs x c
-
-contains_map : {A B : Type 0} (f : A → B) (xs : List A) (x : A) → Contains xs x → Contains (map f xs) (f x)
-contains_map f xs x c = All-contains (λ y. Contains (map f xs) (f y)) xs x (each xs) c
-  where
-    each : (ys : List _) → All (λ y. Contains (map f ys) (f y)) ys
-    each [] = All-nil (λ y. Contains (map f []) (f y))
-    each (y ∷ ys) = All-cons (λ z. Contains (map f (y ∷ ys)) (f z)) y ys (contains_here (f y) (map f ys)) (All-weaker (λ z. Contains (map f ys) (f z)) (λ z. Contains (map f (y ∷ ys)) (f z)) (λ z c. contains_later (f y) (map f ys) (f z) c) ys (each ys))
-
 all_left : {A : Type 0} (P : A → Type 0) (xs ys : List A) → All P (xs ++ ys) → All P xs
 all_left P xs ys a = All-weaker (Contains xs) P (λ x c. All-contains P (xs ++ ys) x a (Contains-append_left xs ys x c)) xs (All-contains_itself xs)
 
@@ -106,7 +94,7 @@ marks_each P (d ∷ ds) a = All-cons (λ e. All P e.marks) d ds (all_left P d.ma
 
 moment_of : (ds : List DeskValue) (front m : ℕ) → Contains (all_marks ds) (front, m) → IsMomentOf ds m
 moment_of [] front m c = absurd (let l = c.1 in omega arith)
-moment_of (d ∷ ds) front m c = ⊎_elim (λ (h : Contains d.marks (front, m)). (d, contains_here d ds, contains_map (λ (x : ℕ × ℕ). x.1) d.marks (front, m) h))
+moment_of (d ∷ ds) front m c = ⊎_elim (λ (h : Contains d.marks (front, m)). (d, contains_first d ds, contains_map (λ (x : ℕ × ℕ). x.1) d.marks (front, m) h))
     (λ (t : Contains (all_marks ds) (front, m)). let r = moment_of ds front m t in (r.0, contains_later d ds r.0 r.1, r.2))
     (Contains-append_cases d.marks (all_marks ds) (front, m) c)
 

@@ -5,6 +5,7 @@ use Rattle.std.specs.List.Sorted.{IsNonDecreasingBy}
 use Rattle.std.proofs.lemmas.Bool.{eq-eqb, ne_eqb}
 use Rattle.std.proofs.lemmas.List.{drop_all}
 use Rattle.std.proofs.lemmas.List.Sums.{sum_by-cons, sum_by-take-drop}
+use Rattle.shop_text.proofs.cited.Lists.{drop_before}
 use Rattle.shop_model.specs.rows.Sound.{Has}
 use Rattle.shop_model.specs.lists.Rankings.{Sale, better, in_order}
 use Rattle.shop_model.specs.lists.Related.{units_in_lines}
@@ -12,7 +13,6 @@ use Rattle.shop_window.specs.Gathered.{sale_in, is_beside, besides_from, offered
 use Rattle.shop_window.specs.Totals.{units_of}
 use Rattle.shop_window.proofs.Adding.{units_cons}
 use Rattle.shop_window.proofs.Putting.{take_put}
-use Rattle.shop_window.proofs.Walking.{drop_before}
 
 -- units of one pair more
 

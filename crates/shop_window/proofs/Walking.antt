@@ -1,23 +1,17 @@
 -- The orders of a window, as they are walked from the last to the first, all of them or one customer's.
 use Rattle.std.proofs.Common.{◌≡◌, ◌≢◌, ℕ, zero, suc, ◌+◌, ◌-◌, ◌^◌, ◌<◌, ◌≤◌, ◌||◌, Bool, true, false, List, [], ◌∷◌, ◌++◌, length, map, filter, take, drop, get_or, refl, ap, sym, ◌∙◌, subst, arith}
-use Rattle.std.proofs.Math.Seq.{drop-cons, drop-length, take-suc}
+use Rattle.std.proofs.Math.Seq.{drop-length, take-suc}
 use Rattle.std.specs.List.{list_any, flat_map}
 use Rattle.std.proofs.lemmas.Bool.{eq-eqb, ne_eqb}
 use Rattle.std.proofs.lemmas.List.{append-nil, map-append, take_all}
 use Rattle.std.proofs.lemmas.List.Concat.{flat_map-append}
 use Rattle.std.proofs.lemmas.List.Elements.{filter-append}
 use Rattle.std.proofs.lemmas.List.Folds.{list_any-append}
+use Rattle.shop_text.proofs.cited.Lists.{drop_before}
 use Rattle.shop_model.specs.lists.Related.{Sold, is_of, has_item, buyers_in, ascending, put_once, totals_of}
 use Rattle.shop_window.specs.Chains.{Entry, no_entry, customer_at, NoneIn, AreLinked, IsNewest}
 use Rattle.shop_window.specs.Totals.{add_all, units_of}
 use Rattle.shop_window.proofs.Summing.{totals_added, add_all_append, totals_room}
-
--- the elements from a place on, one more
-pub drop_before : {A : Type 0} (xs : List A) (i : ℕ) (d : A)
-    → 0 < i → i ≤ length xs → drop (i - 1) xs ≡ get_or xs (i - 1) d ∷ drop i xs
-drop_before xs zero d some within = absurd (omega arith)
-drop_before xs (suc i) d some within =
-    let e : suc i - 1 ≡ i = omega arith in rw e (drop-cons xs i d (omega arith))
 
 -- where no order was walked yet
 pub no_buyers : (entries : List Entry) (item : ℕ) → buyers_in (map (λ e. e.sold) (drop (length entries) entries)) item ≡ []

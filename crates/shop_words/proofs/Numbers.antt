@@ -3,29 +3,26 @@ use Rattle.std.proofs.Common.{◌≡◌, ◌<◌, ℕ, Bool, true, false, refl, 
 use Rattle.std.specs.Prelude.{nat_le}
 use Rattle.std.specs.List.{list_all}
 use Rattle.std.specs.Char.{is_ascii_digit}
-use Rattle.std.specs.Int.{IsInRange}
 use Rattle.std.specs.Str.Parse.{AllDigits}
 use Rattle.std.proofs.lemmas.Fmt.{IsAscii-from_digits}
 use Rattle.std.proofs.lemmas.Str.{digit_value_digit}
+use Rattle.shop_text.proofs.cited.Digits.{digit_range}
 use Rattle.clap.proofs.WalkLemmas.{both}
 use Rattle.shop_words.specs.Options.{IsPlain}
 use Rattle.shop_text.specs.Numbers.{number_of}
-
-in-range : (c : ℕ) → is_ascii_digit c ≡ true → IsInRange 48 57 c
-in-range c e = grind arith
 
 digits-from : (bs : List ℕ) → list_all is_ascii_digit bs ≡ true → AllDigits 10 bs
 digits-from [] e = tt
 digits-from (c ∷ bs) e =
     let parts = both (is_ascii_digit c) (list_all is_ascii_digit bs) e in
-    let value = digit_value_digit c (in-range c parts.0) in
-    (omega (arith, value, (in-range c parts.0)), digits-from bs parts.1)
+    let value = digit_value_digit c (digit_range c parts.0) in
+    (omega (arith, value, (digit_range c parts.0)), digits-from bs parts.1)
 
 -- what a test of both says
 digit-plain : (bs : List ℕ) → 0 < length bs → list_all is_ascii_digit bs ≡ true → IsPlain bs
 digit-plain [] some digits = absurd (omega (arith, some))
 digit-plain (c ∷ bs) some digits =
-    let range = in-range c (both (is_ascii_digit c) (list_all is_ascii_digit bs) digits).0 in
+    let range = digit_range c (both (is_ascii_digit c) (list_all is_ascii_digit bs) digits).0 in
     record { ascii = IsAscii-from_digits (c ∷ bs) (digits-from (c ∷ bs) digits); no_hyphen = λ is. omega (arith, range, is) }
 
 -- a number is written in digits

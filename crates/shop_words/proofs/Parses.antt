@@ -4,6 +4,7 @@ use Rattle.std.specs.List.{All, AllByRecursion, Contains, IsDistinct, fold, list
 use Rattle.std.specs.Str.{bytes_eq}
 use Rattle.std.proofs.Math.Bool.{or-true, or-false}
 use Rattle.std.proofs.lemmas.List.Folds.{Any-from_list_any, list_any-from_Any, list_any-append}
+use Rattle.std.proofs.lemmas.Bool.{or_parts}
 use Rattle.clap.specs.Walk.{Row, Rule, Text, Walk, first_of, has_row, idle, rows_after, settled, walked, with_default}
 use Rattle.clap.specs.Simple.{App, matches_of, names_of}
 use Rattle.clap.specs.Kinds.{Kinds, or_else}
@@ -13,7 +14,6 @@ use Rattle.clap.specs.Walk as walk
 use Rattle.shop_words.specs.Options.{Given, name_of, value_for}
 use Rattle.shop_words.specs.Parser.{options_app}
 use Rattle.shop_words.proofs.Rules.{built-is, built_with, help, is_name, none-pass, option, rules, same-text, shape, text-same}
-use Rattle.shop_words.proofs.Spellings.{neither}
 use Rattle.shop_words.proofs.Turns.{at, no-more}
 use Rattle.shop_words.proofs.Walks.{Fits, end, row_of}
 
@@ -122,7 +122,7 @@ module _ (names : List Text) where
   fits-to [] done fits = (tt, tt, tt)
   fits-to (g ∷ given) done fits =
       let rest = fits-to given (done ++ row_of g ∷ []) fits.2 in
-      let old = λ (n : Text) (free : has_row n (done ++ row_of g ∷ []) ≡ false). neither (has_row n done) (bytes_eq (name_of g) n) (sym (row-behind n done g) ∙ free) in (
+      let old = λ (n : Text) (free : has_row n (done ++ row_of g ∷ []) ≡ false). or_parts (has_row n done) (bytes_eq (name_of g) n) (sym (row-behind n done g) ∙ free) in (
         (contains names (name_of g) fits.0, rest.0),
         (each _ _ (λ n free. (old n free).1) (map name_of given) rest.2, rest.1),
         (fits.1, each _ _ (λ n free. (old n free).0) (map name_of given) rest.2),

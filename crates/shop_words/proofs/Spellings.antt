@@ -1,20 +1,17 @@
 -- How options are spelled, and that clap reads them so.
-use Rattle.std.proofs.Common.{◌≡◌, ◌∙◌, ◌<◌, ◌+◌, ◌||◌, ◌==◌, ℕ, Bool, true, false, refl, sym, ap, ap₂, List, [], ◌∷◌, ◌++◌, length, take, drop, Option, Some, None, codes, true≢false, arith, eqb-true, ne_eqb, get_or, append_assoc, drop_at, length-append}
+use Rattle.std.proofs.Common.{◌≡◌, ◌∙◌, ◌<◌, ◌+◌, ◌==◌, ℕ, Bool, true, false, refl, sym, ap, ap₂, List, [], ◌∷◌, ◌++◌, length, take, drop, Option, Some, None, codes, true≢false, arith, eqb-true, ne_eqb, get_or, append_assoc, drop_at, length-append}
 use Rattle.std.specs.List.{position_or_len, before_first, after_first}
 use Rattle.std.specs.Str.{bytes_eq}
 use Rattle.std.proofs.Math.Bool.{or-true}
 use Rattle.std.proofs.lemmas.List.Folds.{list_any-append, list_any_none}
 use Rattle.std.proofs.lemmas.List.Sums.{split_at_first, passes_at_first}
 use Rattle.std.proofs.lemmas.Grind.{common_steps}
+use Rattle.std.proofs.lemmas.Bool.{or_parts}
 use Rattle.clap.specs.Lexer.{has_byte, long_of, short_of, name_and_value}
 use Rattle.shop_words.specs.Options.{IsOptionName, IsPlain}
 
 abbrev is_equals : ℕ → Bool
 is_equals byte = byte == 61
-
-pub neither : (a b : Bool) → (a || b) ≡ false → (a ≡ false) × (b ≡ false)
-neither false b e = (refl, e)
-neither true b e = absurd (true≢false e)
 
 -- an option's word, with its value or without
 abbrev pub spelled : List ℕ → Option (List ℕ) → List ℕ
@@ -26,13 +23,13 @@ spelled name (Some value) = codes "--" ++ (name ++ (codes "=" ++ value))
 place-behind : (name rest : List ℕ) → has_byte 61 name ≡ false → position_or_len is_equals (name ++ 61 ∷ rest) ≡ length name
 place-behind [] rest none = refl
 place-behind (x ∷ name) rest none =
-    let parts = neither (x == 61) (has_byte 61 name) none in
+    let parts = or_parts (x == 61) (has_byte 61 name) none in
     rw (parts.0, place-behind name rest parts.1) (omega arith)
 
 place-none : (text : List ℕ) → has_byte 61 text ≡ false → position_or_len is_equals text ≡ length text
 place-none [] none = refl
 place-none (x ∷ text) none =
-    let parts = neither (x == 61) (has_byte 61 text) none in
+    let parts = or_parts (x == 61) (has_byte 61 text) none in
     rw (parts.0, place-none text parts.1) (omega arith)
 
 place-some : (text : List ℕ) → has_byte 61 text ≡ true → position_or_len is_equals text < length text

@@ -1,6 +1,6 @@
 -- What a catalogue knows of an item is what its tables have.
-use Rattle.std.proofs.Common.{◌≡◌, ℕ, ◌-◌, ◌==◌, cond, true, false, Bool, List, [], ◌∷◌, map, Option, Some, None, option_map, slice_get, unwrap_or, refl, sym, ◌∙◌, ap}
-use Rattle.std.proofs.lemmas.Option.{slice_get-map}
+use Rattle.std.proofs.Common.{◌≡◌, ℕ, ◌-◌, List, [], ◌∷◌, map, Option, Some, None, option_map, unwrap_or, refl, sym, ◌∙◌, ap}
+use Rattle.shop_model.proofs.cited.Lookups.{numbered_map}
 use Rattle.shop_model.specs.declared.requests.IdsAsked.{IdsAsked}
 use Rattle.shop_model.specs.declared.tables.Tables.{Tables}
 use Rattle.shop_model.specs.lists.Catalogues.{Catalogue, Naming, naming, catalogue}
@@ -8,13 +8,6 @@ use Rattle.shop_model.specs.pages.Promotion.{promoted}
 use Rattle.shop_model.specs.rows.Lookups.{row_numbered, title_of}
 use Rattle.shop_model.specs.rows.Rows.{ItemRow}
 use Rattle.shop_browse.specs.Related.{title_in, promoted_in}
-
-numbered_map : {A B : Type 0} (f : A → B) (xs : List A) (id : ℕ) → row_numbered (map f xs) id ≡ option_map f (row_numbered xs id)
-numbered_map f xs id = by (id == 0)
-  where
-    by : (b : Bool) → cond b None (slice_get (map f xs) (id - 1)) ≡ option_map f (cond b None (slice_get xs (id - 1)))
-    by true = refl
-    by false = slice_get-map f xs (id - 1)
 
 module _ (c : Catalogue) (t : Tables) (named : catalogue t ≡ c) where
   pub item_named : (id : ℕ) → row_numbered c.items id ≡ option_map naming (row_numbered t.items id)

@@ -3,6 +3,7 @@ use Rattle.std.proofs.Common.{◌≡◌, ℕ, ◌+◌, ◌<◌, List, [], ◌∷
 use Rattle.std.specs.List.{flat_map}
 use Rattle.std.proofs.lemmas.Grind.{flat_map-append}
 use Rattle.std.proofs.lemmas.List.{map_more}
+use Rattle.shop_text.proofs.cited.Lists.{appended_twice}
 use Rattle.shop_text.specs.Escape.{escape}
 use Rattle.shop_text.proofs.cited.Plain.{escape_append}
 use Rattle.shop_model.specs.declared.page.Block.{Block}
@@ -12,7 +13,7 @@ use Rattle.shop_draft.specs.Pages.{page_front, page_end}
 
 -- what was added in turn was added as one
 pub two : (old s1 now a b : List ℕ) → s1 ≡ old ++ a → now ≡ s1 ++ b → now ≡ old ++ (a ++ b)
-two old s1 now a b p1 p2 = rw (p2, p1) (append_assoc old a b)
+two = appended_twice
 
 pub three : (old s1 s2 now a b c : List ℕ) → s1 ≡ old ++ a → s2 ≡ s1 ++ b → now ≡ s2 ++ c → now ≡ old ++ (a ++ (b ++ c))
 three old s1 s2 now a b c p1 p2 p3 = two old s1 now a (b ++ c) p1 (two s1 s2 now b c p2 p3)

@@ -50,7 +50,7 @@ sorted_cons : {A : Type 0} (order : A → A → Ordering) (x : A) (xs : List A)
 sorted_cons order x [] leads sorted = λ k d low high. absurd (omega arith)
 sorted_cons order x (y ∷ ys) leads sorted = λ k d low high. sorted_at order x y ys leads sorted k d high
 
-sorted_tail : {A : Type 0} (order : A → A → Ordering) (x : A) (xs : List A) → IsSorted order (x ∷ xs) → IsSorted order xs
+pub sorted_tail : {A : Type 0} (order : A → A → Ordering) (x : A) (xs : List A) → IsSorted order (x ∷ xs) → IsSorted order xs
 sorted_tail order x xs sorted = λ k d low high.
     let e : suc k + 1 ≡ suc (k + 1) = omega arith in
     rw e at (sorted (suc k) d (omega arith) (omega arith))

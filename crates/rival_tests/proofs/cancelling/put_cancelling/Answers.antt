@@ -2,6 +2,7 @@ use Rattle.std.proofs.Common.{◌≡◌, ℕ, zero, suc, ◌-◌, ◌<◌, List,
 use Rattle.std.proofs.lemmas.Bool.{cond-false, ne_eqb}
 use Rattle.std.specs.Prelude.{Result, Ok, Err, IfOk}
 use Rattle.std.specs.Result.{result_ok}
+use Rattle.shop_history.proofs.cited.Shown.{cart_found}
 use Rattle.shop_model.specs.declared.tables.Tables.{Tables}
 use Rattle.shop_model.specs.rows.Lookups.{row_numbered}
 use Rattle.shop_model.specs.rows.Rows.{CartRow}
@@ -10,7 +11,7 @@ use Rattle.shop_history.specs.declared.acts.Act.{Act}
 use Rattle.shop_history.specs.declared.keys.Key.{Key}
 use Rattle.shop_history.specs.declared.keys.Key.TheVariants as key
 use Rattle.shop_history.specs.declared.keys.Row.TheVariants as row
-use Rattle.shop_history.specs.Keys.{row_of, shown}
+use Rattle.shop_history.specs.Keys.{row_of}
 use Rattle.shop_history.proofs.cited.Places.{IsThere, is_there, id_numbered}
 use Rattle.shop_attempt.specs.declared.attempts.Attempt.{Attempt}
 use Rattle.shop_attempt.specs.declared.attempts.ReadOf.{ReadOf}
@@ -51,10 +52,6 @@ carts_same carts id cart runs is =
     put_there (put_row carts cart.id (λ n. record (emptied cart) { id = n })) cart.id (λ n. record cart { id = n }) above
     ∙ ap (λ (cs : List CartRow). slice_set cs (cart.id - 1) cart) (put_there carts cart.id (λ n. record (emptied cart) { id = n }) above)
     ∙ put_back carts (cart.id - 1) cart (emptied cart) (subst (λ n. slice_get carts (n - 1) ≡ Some cart) (sym same) there.at)
-
-cart_found : (o : Option CartRow) (cart : CartRow) → shown row.Cart o ≡ row.Cart cart → o ≡ Some cart
-cart_found None cart is = absurd cc
-cart_found (Some other) cart is = cc
 
 -- that leaves sound tables which show the cart as they are
 tables_same : (t : Tables) (stamp id : ℕ) (cart : CartRow) (writes : List Write) → Sound t → row_of t (key.Cart id) ≡ row.Cart cart

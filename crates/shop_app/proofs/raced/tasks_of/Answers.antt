@@ -2,10 +2,11 @@ use Rattle.std.proofs.Common.{◌≡◌, ◌∙◌, ◌+◌, ◌++◌, ◌∷◌
 use Rattle.std.specs.List.{AllZip}
 use Rattle.std.specs.Vec.Iter.{into_iter_items}
 use Rattle.std.proofs.lemmas.Slice.Zip.{all_zipped_more}
+use Rattle.std.proofs.lemmas.List.{nil_from_length}
 use Rattle.shop_attempt.specs.Seats.{IsSeat}
 use Rattle.shop_turn.specs.Desks.{DeskValue, seat_of}
 use Rattle.shop_app.specs.Racing.{IsFirstTask}
-use Rattle.shop_app.proofs.RaceLemmas.{first_task, holds_next, next_desk, nothing_left, posted_at}
+use Rattle.shop_app.proofs.RaceLemmas.{first_task, holds_next, next_desk, posted_at}
 use Rattle.shop_app.proofs.raced.tasks_of.Goals as goal
 
 pub task_of-requires : goal.task_of-requires
@@ -38,6 +39,6 @@ loop-desk-preserved g c =
 pub returns : goal.returns
 returns g c =
     let was = c.loop-desk.invariant in
-    let empty : into_iter_items c.loop-desk.desk-iterator ≡ [] = nothing_left _ (sym was.size ∙ c.in-None.ensures.steps.0) in
+    let empty : into_iter_items c.loop-desk.desk-iterator ≡ [] = nil_from_length _ (sym was.size ∙ c.in-None.ensures.steps.0) in
     let whole : c.loop-desk.yielded ≡ c.args.desks.items = sym (append-nil c.loop-desk.yielded) ∙ rw empty at was.split ∙ c.into_iter-desk-iterator.ensures.into_iter_gives.0 in
     subst (λ (desks : List DeskValue). AllZip (IsFirstTask g.C.Clock.readings c.args.asked.now (g.C.Clock.readings c.args.clock.now)) desks c.loop-desk.tasks.items) whole was.are

@@ -4,12 +4,9 @@ use Rattle.std.proofs.lemmas.List.Sums.{AllPass-from_list_all}
 use Rattle.std.proofs.lemmas.Int.Digits.{digits_value_more}
 use Rattle.std.proofs.lemmas.Str.{digit_value_digit}
 use Rattle.std.proofs.Math.Nat.{pow-suc}
-use Rattle.std.specs.Int.{IsInRange}
+use Rattle.shop_text.proofs.cited.Digits.{digit_range}
 use native.Mathlib.Nat.{pow-le-pow_right}
 use Rattle.shop_gateway.proofs.first.number_of.Goals as goal
-
-in_range : (c : ℕ) → is_ascii_digit c ≡ true → IsInRange 48 57 c
-in_range c e = grind arith
 
 -- what at most 18 digits write has room for one more
 roomy : (number places : ℕ) → number < 10 ^ places → places ≤ 18 → number < 1_000_000_000_000_000_000
@@ -23,13 +20,13 @@ overflow_mul-number c =
 pub overflow_add-number : goal.overflow_add-number
 overflow_add-number c =
     let room = roomy c.loop-digit.number c.loop-digit.digit-index c.loop-digit.invariant.1 (omega arith) in
-    let range = in_range (get_or c.args.digits.now c.loop-digit.digit-index 0) (AllPass-from_list_all is_ascii_digit c.args.digits.now c.requires.digits c.loop-digit.digit-index 0 c.loop-digit-test.true) in
+    let range = digit_range (get_or c.args.digits.now c.loop-digit.digit-index 0) (AllPass-from_list_all is_ascii_digit c.args.digits.now c.requires.digits c.loop-digit.digit-index 0 c.loop-digit-test.true) in
     omega (arith, room, range)
 
 pub loop-digit-preserved : goal.loop-digit-preserved
 loop-digit-preserved c =
     let more = digits_value_more 10 c.args.digits.now c.loop-digit.digit-index c.loop-digit-test.true in
-    let range = in_range (get_or c.args.digits.now c.loop-digit.digit-index 0) (AllPass-from_list_all is_ascii_digit c.args.digits.now c.requires.digits c.loop-digit.digit-index 0 c.loop-digit-test.true) in
+    let range = digit_range (get_or c.args.digits.now c.loop-digit.digit-index 0) (AllPass-from_list_all is_ascii_digit c.args.digits.now c.requires.digits c.loop-digit.digit-index 0 c.loop-digit-test.true) in
     let value = digit_value_digit (get_or c.args.digits.now c.loop-digit.digit-index 0) range in
     let power : 10 ^ (c.loop-digit.digit-index + 1) ≡ 10 ^ c.loop-digit.digit-index * 10 = rw add-one (pow-suc 10 c.loop-digit.digit-index) in
     (omega (arith, more, value, range, c.loop-digit.invariant.0), omega (arith, power, value, range, c.loop-digit.invariant.1))

@@ -2,9 +2,10 @@ use Rattle.std.proofs.Common.{rules, subst, ◌≡◌, ◌∙◌, ◌∷◌, [],
 use Rattle.std.specs.List.{All}
 use Rattle.std.specs.Vec.Iter.{into_iter_items}
 use Rattle.std.proofs.lemmas.List.Elements.{All-nil}
+use Rattle.std.proofs.lemmas.List.{nil_from_length}
 use Rattle.shop_tasks.specs.TaskValues.{RacedValue}
 use Rattle.shop_tasks.specs.Tasks.{IsGiven}
-use Rattle.shop_tasks.proofs.Tasks.{given_later, given_more, joined_more, nothing_left}
+use Rattle.shop_tasks.proofs.Tasks.{given_later, given_more, joined_more}
 use Rattle.shop_tasks.proofs.running.join_all.Goals as goal
 
 pub loop-ticket-init : goal.loop-ticket-init
@@ -49,6 +50,6 @@ loop-ticket-preserved g c =
 pub returns : goal.returns
 returns g c =
     let was = c.loop-ticket.invariant in
-    let empty : into_iter_items c.loop-ticket.ticket-iterator ≡ [] = nothing_left _ (sym was.size ∙ c.in-None.ensures.steps.0) in
+    let empty : into_iter_items c.loop-ticket.ticket-iterator ≡ [] = nil_from_length _ (sym was.size ∙ c.in-None.ensures.steps.0) in
     let whole : c.loop-ticket.yielded ≡ c.args.tickets.items = sym (append-nil c.loop-ticket.yielded) ∙ rw empty at was.split ∙ c.into_iter-ticket-iterator.ensures.into_iter_gives.0 in
     record { given = λ all. rw (sym whole) (was.given all); each = rw (sym whole) was.each }

@@ -1,10 +1,11 @@
 use Rattle.std.proofs.Common.{◌≡◌, ◌∙◌, ◌∷◌, [], length, append_assoc, sym, ap, arith}
 use Rattle.std.specs.Vec.Iter.{into_iter_items}
 use Rattle.std.proofs.lemmas.Slice.Zip.{all_zipped_more}
+use Rattle.std.proofs.lemmas.List.{nil_from_length}
 use Rattle.shop_edges.specs.Causes.{count_up}
 use Rattle.shop_edges.specs.Starts.{Spawning}
 use Rattle.shop_tasks.specs.Tasks.{IsTicketOf}
-use Rattle.shop_tasks.proofs.Tasks.{counted_more, nothing_left}
+use Rattle.shop_tasks.proofs.Tasks.{counted_more}
 use Rattle.shop_tasks.proofs.running.start_all.Goals as goal
 
 pub loop-task-preserved : goal.loop-task-preserved
@@ -40,7 +41,7 @@ returns-in-Failed g c =
 pub returns : goal.returns
 returns g c =
     let was = c.loop-task.invariant in
-    let empty : into_iter_items c.loop-task.task-iterator ≡ [] = nothing_left _ (sym was.size ∙ c.in-None.ensures.steps.0) in
+    let empty : into_iter_items c.loop-task.task-iterator ≡ [] = nil_from_length _ (sym was.size ∙ c.in-None.ensures.steps.0) in
     record {
       begun = c.loop-task.yielded;
       left = into_iter_items c.loop-task.task-iterator;

@@ -1,8 +1,8 @@
 use Rattle.std.proofs.Common.{ℕ, ◌-◌, ◌∙◌, ap, sym, refl, arith, drop, get_or}
 use Rattle.std.proofs.lemmas.List.Sums.{sum_by-take-drop, sum_by-cons}
 use Rattle.std.proofs.Math.Seq.{drop-length}
+use Rattle.shop_text.proofs.cited.Lists.{drop_before}
 use Rattle.shop_window.specs.Totals.{add_all, add_to, units_of}
-use Rattle.shop_window.proofs.Walking.{drop_before}
 use Rattle.shop_window.proofs.Summing.{units_add_all}
 use Rattle.shop_window.proofs.totals.add_all.Goals as goal
 

@@ -1,6 +1,5 @@
 use Rattle.std.proofs.Common.{◌≡◌, List, Some, rules, ℕ, ◌+◌, ◌*◌, ◌^◌, ◌<◌, ◌≤◌, Bool, true, length, take, get_or, arith, add-one, take_all, refl, sym, ap, ◌∙◌, ◌&&◌}
 use Rattle.std.specs.Char.{is_ascii_digit}
-use Rattle.std.specs.Int.{IsInRange}
 use Rattle.std.specs.List.{list_all}
 use Rattle.std.specs.Str.Parse.{digits_value}
 use native.Mathlib.Nat.{pow-le-pow_right}
@@ -9,11 +8,9 @@ use Rattle.std.proofs.lemmas.Bool.{le-leb}
 use Rattle.std.proofs.lemmas.Int.Digits.{digits_value_more}
 use Rattle.std.proofs.lemmas.List.Folds.{list_all_more}
 use Rattle.std.proofs.lemmas.Str.{digit_value_digit}
+use Rattle.shop_text.proofs.cited.Digits.{digit_range}
 use Rattle.shop_text.specs.Numbers.{number_of}
 use Rattle.shop_http.proofs.requests.forms.short_number.Goals as goal
-
-in_range : (c : ℕ) → is_ascii_digit c ≡ true → IsInRange 48 57 c
-in_range c is = grind arith
 
 -- so few digits leave room for one more
 roomy : (number places : ℕ) → number < 10 ^ places → places ≤ 8 → number < 100_000_000
@@ -35,7 +32,7 @@ is_digit c = search rules
 pub overflow_add-number : goal.overflow_add-number
 overflow_add-number c =
     let room = roomy c.loop-digit.number c.loop-digit.digit-index c.loop-digit.invariant.1 (omega arith) in
-    let range = in_range (get_or c.args.digits.now c.loop-digit.digit-index 0) (is_digit c) in
+    let range = digit_range (get_or c.args.digits.now c.loop-digit.digit-index 0) (is_digit c) in
     omega (arith, room, range)
 
 pub loop-digit-preserved : goal.loop-digit-preserved
@@ -43,7 +40,7 @@ loop-digit-preserved c =
     let digits = c.args.digits.now in
     let place = c.loop-digit.digit-index in
     let more = digits_value_more 10 digits place c.loop-digit-test.true in
-    let range = in_range (get_or digits place 0) (is_digit c) in
+    let range = digit_range (get_or digits place 0) (is_digit c) in
     let value = digit_value_digit (get_or digits place 0) range in
     let power : 10 ^ (place + 1) ≡ 10 ^ place * 10 = rw add-one (pow-suc 10 place) in (
       omega (arith, more, value, range, c.loop-digit.invariant.0),

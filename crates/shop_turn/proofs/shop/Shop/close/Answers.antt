@@ -1,14 +1,10 @@
-use Rattle.std.proofs.Common.{◌≡◌, ◌∷◌, [], List, length, refl, sym, ap, ◌∙◌, append_assoc, arith}
-use Rattle.std.proofs.lemmas.List.{append-nil}
+use Rattle.std.proofs.Common.{◌≡◌, ◌∷◌, [], List, length, sym, ap, ◌∙◌, append_assoc, arith}
+use Rattle.std.proofs.lemmas.List.{append-nil, nil_from_length}
 use Rattle.std.specs.Vec.Iter.{into_iter_items}
 use Rattle.std.proofs.lemmas.List.Elements.{All-push}
 use Rattle.shop_turn.specs.Joined.{IsSeated}
 use Rattle.shop_turn.proofs.Shops.{joined_seat, seated, closes, closes_along, found_along}
 use Rattle.shop_turn.proofs.shop.Shop.close.Goals as goal
-
-nothing_left : {X : Type 0} (l : List X) → length l ≡ 0 → l ≡ []
-nothing_left [] h = refl
-nothing_left (x ∷ xs) h = absurd (omega arith)
 
 pub loop-desk-preserved : goal.loop-desk-preserved
 loop-desk-preserved g c =
@@ -31,6 +27,6 @@ returns g c =
     let at = c.loop-desk in
     let none = c.in-None.ensures.steps in
     let i = c.first.invariant in
-    let empty : into_iter_items at.desk-iterator ≡ [] = nothing_left _ (sym at.invariant.3 ∙ none.0) in
+    let empty : into_iter_items at.desk-iterator ≡ [] = nil_from_length _ (sym at.invariant.3 ∙ none.0) in
     let all = sym (append-nil at.yielded) ∙ rw empty at at.invariant.2 ∙ c.into_iter-desk-iterator.ensures.into_iter_gives.0 in
     closes_along all (closes _ _ c.first.inside.seat.me.0 c.args.first at.yielded c.close_at.result c.first.view_is i.ready.number_is i.ready.one i.long at.invariant.6 (found_along at.invariant.5 c.close_at.ensures))
