@@ -18,7 +18,7 @@ use shop_model::{
     AdminConfirm, BuyConfirm, Card, CardNumber, CardType, CartRequest, IdsAsked, Month, ShipType,
 };
 use shop_order::admin_confirm::admin_confirm;
-use shop_order::buy_confirm::{Paid, buy_confirm, pay};
+use shop_order::buy_confirm::{Paid, Paying, buy_confirm, pay};
 use shop_order::shopping_cart::shopping_cart;
 use shop_text::{Listed, Memory, Shared, Text};
 use std::alloc::Global;
@@ -306,17 +306,8 @@ fn buying<St: Store>(
     };
     let mut kept = None;
     let mut gateway = Emulator::new(alloc);
-    let paid = pay(
-        alloc,
-        ask,
-        asked,
-        call,
-        attempt,
-        &mut kept,
-        &mut gateway,
-        draft,
-    );
-    match paid {
+    let paying = Paying { ask, asked, call };
+    match pay(alloc, &paying, attempt, &mut kept, &mut gateway, draft) {
         Paid::Approved(attempt) => Some(attempt),
         Paid::Denied(_, _) => None,
         Paid::Failed => None,

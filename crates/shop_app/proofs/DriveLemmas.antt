@@ -23,7 +23,8 @@ use Rattle.shop_words.specs.declared.command.Drive.{Drive}
 use Rattle.shop_engine.specs.Workers.{WorkerState, standing}
 use Rattle.shop_engine.proofs.cited.Fresh.{all_fresh}
 use Rattle.shop_app.specs.declared.driven.Driven.{Driven}
-use Rattle.shop_app.specs.Driving.{DroveTo, Outside, Unfinished, first_browsers, first_stage}
+use Rattle.shop_app.specs.Outside.{Outside}
+use Rattle.shop_app.specs.Driving.{DroveTo, Unfinished, first_browsers, first_stage}
 use Rattle.shop_app.specs.Noted.{NotedAs, TellsOf}
 use Rattle.shop_app.specs.Session.{IsFirst, first_seat, first_standing, moment_as, moments_of}
 use Rattle.shop_app.specs.Summaries.{drive_lines}

@@ -1,13 +1,12 @@
 -- The status of a session by the end of its connection.
-use Rattle.std.proofs.Common.{◌≡◌, ℕ, ◌≤◌, inl, inr, List, [], length, map, Option, subst, refl, sym, ap, ◌∙◌, arith, All}
+use Rattle.std.proofs.Common.{◌≡◌, ℕ, ◌≤◌, inl, inr, List, [], map, Option, subst, refl, sym, ap, ◌∙◌, arith, All}
 use Rattle.std.specs.Prelude.{flat_map}
-use Rattle.std.proofs.lemmas.List.FromFn.{length-map-range_with_len}
+use Rattle.shop_model.proofs.cited.Populated.{items_populated}
 use Rattle.shop_edges.specs.Causes.{Rose}
 use Rattle.shop_edges.specs.declared.gateway.Answer.{Answer}
 use Rattle.shop_model.specs.declared.tables.Tables.{Tables}
 use Rattle.shop_model.specs.lists.Catalogues.{Catalogue, catalogue}
-use Rattle.shop_model.specs.population.Population.{populated, items_table, item_row}
-use Rattle.shop_model.specs.population.Scales.{ScaleRow}
+use Rattle.shop_model.specs.population.Population.{populated}
 use Rattle.shop_history.specs.declared.acts.Entry.{Entry}
 use Rattle.shop_history.specs.Lawful.{IsLawful}
 use Rattle.shop_attempt.specs.Seats.{IsSeat}
@@ -22,7 +21,8 @@ use Rattle.shop_engine.specs.Served.{Served}
 use Rattle.shop_engine.specs.Steps.{Step}
 use Rattle.shop_engine.specs.Workers.{IsPosted, Standing, WorkerState, at_first, standing}
 use Rattle.shop_words.specs.declared.command.Session.{Session}
-use Rattle.shop_app.specs.Session.{IsFirst, IsSession, ServedTo, Run, first_caller, first_seat, first_standing}
+use Rattle.shop_app.specs.Outside.{Run}
+use Rattle.shop_app.specs.Session.{IsFirst, IsSession, ServedTo, first_caller, first_seat, first_standing}
 use Rattle.shop_app.specs.Statuses.{status_of}
 use Rattle.shop_app.proofs.AloneLemmas.{IsAlone, all_at_once, log_made, opening_same, stamps_are}
 
@@ -35,14 +35,14 @@ standing_first session worker clock told first =
     ∙ ap (λ s. record { caller = first_caller session; progress = at_first; kept = []; seat = s; clock = clock; told = told }) first.seat
 
 -- a session whose worker was the first one, and whose connection was served to an end
-module _ (session : Session) (before after : Standing) (old new : Run) (points : List Point) (is_first : before ≡ first_standing session old.clock old.told) (clock : after.clock ≡ new.clock)
-    (told : after.told ≡ new.told) (failed : RoseBy old.failures (failures points) new.failures) (kept : old.failures ≤ new.failures) (lawful : IsLawful after.seat.opening after.seat.seen) (fresh : All (IsFreshIn after.seat.seen) points) where
+module _ (session : Session) (before after : Standing) (old new : Run) (points : List Point) (is_first : before ≡ first_standing session old.outside.clock old.outside.told) (clock : after.clock ≡ new.outside.clock)
+    (told : after.told ≡ new.outside.told) (failed : RoseBy old.outside.failures (failures points) new.outside.failures) (kept : old.outside.failures ≤ new.outside.failures) (lawful : IsLawful after.seat.opening after.seat.seen) (fresh : All (IsFreshIn after.seat.seen) points) where
   served_to : (end : Ended) → Served before after old.streams new.streams end points → ServedTo session old new end
   unfolding first_seat
   served_to end given =
-      let served : Served (first_standing session old.clock old.told) after old.streams new.streams end points = rw is_first at given in
-      let alone : IsAlone (first_standing session old.clock old.told) = record { stamp = 0; latest = refl; within = omega arith } in
-      let log : after.seat.seen ≡ flat_map (λ (s : Step). s.made) served.steps = log_made (first_standing session old.clock old.told) after old.streams new.streams end points served alone in
+      let served : Served (first_standing session old.outside.clock old.outside.told) after old.streams new.streams end points = rw is_first at given in
+      let alone : IsAlone (first_standing session old.outside.clock old.outside.told) = record { stamp = 0; latest = refl; within = omega arith } in
+      let log : after.seat.seen ≡ flat_map (λ (s : Step). s.made) served.steps = log_made (first_standing session old.outside.clock old.outside.told) after old.streams new.streams end points served alone in
       record {
         points = points;
         after = after;
@@ -51,11 +51,11 @@ module _ (session : Session) (before after : Standing) (old new : Run) (points :
         told = told;
         failed = failed;
         kept = kept;
-        alone = all_at_once (first_standing session old.clock old.told) after old.streams new.streams end points served alone;
-        lawful = subst (λ (t : Tables). IsLawful t after.seat.seen) (opening_same (first_standing session old.clock old.told) after old.streams new.streams end points served alone) lawful;
+        alone = all_at_once (first_standing session old.outside.clock old.outside.told) after old.streams new.streams end points served alone;
+        lawful = subst (λ (t : Tables). IsLawful t after.seat.seen) (opening_same (first_standing session old.outside.clock old.outside.told) after old.streams new.streams end points served alone) lawful;
         fresh = fresh;
         log = log;
-        stamps = ap (map (λ (e : Entry). e.stamp)) log ∙ stamps_are (first_standing session old.clock old.told) after old.streams new.streams end points served alone;
+        stamps = ap (map (λ (e : Entry). e.stamp)) log ∙ stamps_are (first_standing session old.outside.clock old.outside.told) after old.streams new.streams end points served alone;
       }
 
   pub session-by-end : (end : Ended) → Served before after old.streams new.streams end points
@@ -68,10 +68,6 @@ module _ (session : Session) (before after : Standing) (old new : Run) (points :
   session-by-end ended.ReadFault served read write = (read refl, served_to ended.ReadFault served)
   session-by-end ended.WriteFault served read write = (write refl, served_to ended.WriteFault served)
   session-by-end ended.Memory served read write = inr (served_to ended.Memory served)
-
-pub items_of : (seed : ℕ) (scale : ScaleRow) → length (populated seed scale).items ≡ scale.items
-unfolding populated items_table
-items_of seed scale = length-map-range_with_len (item_row seed scale) 1 scale.items
 
 -- a new seat over a new book of the session's shop is the first seat, and its caller is posted there
 module _ (session : Session) (t : Tables) (solo : SoloValue) (book : BookValue) (is_solo : solo ≡ seated book 1)
@@ -86,7 +82,7 @@ module _ (session : Session) (t : Tables) (solo : SoloValue) (book : BookValue) 
         valid = subst (λ (s : SoloValue). IsSeat (seat_of s)) solo_is valid;
         number = refl;
         named = is_index ∙ ap catalogue is_drawn;
-        scaled = sym (items_of session.seed session.scale);
+        scaled = sym (items_populated session.seed session.scale);
       })
 
   pub is_first : (worker : WorkerState SoloValue) → worker ≡ record { store = solo; caller = record { number = 1; seed = session.seed; scale = session.scale }; progress = at_first; kept = []; reply = [] } → IsFirst session worker

@@ -19,7 +19,8 @@ use Rattle.shop_drive.specs.Turns.{Stage}
 use Rattle.shop_words.specs.declared.command.Drive.{Drive}
 use Rattle.shop_app.specs.declared.status.Status.{Status}
 use Rattle.shop_app.specs.declared.status.Status.TheVariants as status
-use Rattle.shop_app.specs.Session.{IsAtOnce, Run, first_standing, moments_of}
+use Rattle.shop_app.specs.Outside.{Outside, Run}
+use Rattle.shop_app.specs.Session.{IsAtOnce, first_standing, moments_of}
 use Rattle.shop_app.specs.Summaries.{drive_lines}
 
 -- the browsers that the words name, from number 1 on; none made a request yet
@@ -30,15 +31,6 @@ first_browsers drive = map (λ n. new_browser drive.shop.seed n drive.mix drive.
 abbrev pub first_stage : Drive → Option (List ℕ) → ℕ → Stage
 first_stage drive clock failures =
     record { worker = first_standing drive.shop clock (Some []); browsers = first_browsers drive; failures = failures }
-
--- what a drive has of what is outside: what the clock will read, what the gateway told, and how often it failed
-pub record Outside : Type 0 where
-  pub clock : Option (List ℕ)
-  pub told : Option (List Answer)
-  pub failures : ℕ
-
-abbrev pub outside_of : Run → Outside
-outside_of run = record { clock = run.clock; told = run.told; failures = run.failures }
 
 -- the browsers took all their turns over the shop of the words: no settle was stale, the log is lawful, and it is what
 -- the changes made, each with its moment as its stamp; each list that was kept is fresh of it. The lines tell how the requests went, what the log came to, and
@@ -79,9 +71,9 @@ Unfinished drive old new = (new ≡ old) ⊎ BreaksOff drive old new
 
 -- what the status of a drive says; nothing is read, and where memory runs out nothing is written
 abbrev pub IsDriven : Drive → Run → Run → Status → Type 0
-IsDriven drive old new status.Done = (lines : List ℕ) × DroveTo drive (outside_of old) (outside_of new) lines
+IsDriven drive old new status.Done = (lines : List ℕ) × DroveTo drive old.outside new.outside lines
     × Appends old.streams.held new.streams.held lines × (new.streams.left ≡ old.streams.left)
-IsDriven drive old new status.WriteFault = (lines : List ℕ) × DroveTo drive (outside_of old) (outside_of new) lines
+IsDriven drive old new status.WriteFault = (lines : List ℕ) × DroveTo drive old.outside new.outside lines
     × AppendsFront old.streams.held new.streams.held lines × (new.streams.left ≡ old.streams.left) × Rose old.writes new.writes
-IsDriven drive old new status.Memory = Unfinished drive (outside_of old) (outside_of new) × (new.streams ≡ old.streams)
+IsDriven drive old new status.Memory = Unfinished drive old.outside new.outside × (new.streams ≡ old.streams)
 IsDriven drive old new _ = ⊥

@@ -1,4 +1,5 @@
 pub mod Statuses
+pub mod Outside
 pub mod Session
 pub mod Summaries
 pub mod Driving

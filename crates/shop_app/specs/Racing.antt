@@ -4,6 +4,7 @@ use Rattle.std.specs.List.{AllZip}
 use Rattle.std.specs.Io.KnownBytes.{Appends}
 use Rattle.atomic_table.specs.Seated.{TableId}
 use Rattle.shop_log.specs.Histories.{Extends}
+use Rattle.shop_edges.specs.declared.sink.Sink.{Ghosts}
 use Rattle.shop_edges.specs.Causes.{Rose}
 use Rattle.shop_edges.specs.Starts.{Spawning}
 use Rattle.shop_edges.specs.Streams.{AppendsFront}
@@ -125,6 +126,9 @@ pub record Shared : Type 0 where
   pub held : Option (List ℕ)
   pub writes : ℕ
   pub spawning : Spawning
+
+abbrev pub shared : {K : Type 0} → Ghosts K → K → Spawning → Shared
+shared meaning sink spawner = record { held = meaning.held sink; writes = meaning.faults sink; spawning = spawner }
 
 -- why there are no lines
 abbrev pub IsUnraced : Spawning → Spawning → Status → Type 0

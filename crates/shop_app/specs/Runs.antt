@@ -9,7 +9,8 @@ use Rattle.shop_words.specs.Commands.{IsCommand}
 use Rattle.shop_app.specs.declared.status.Status.{Status}
 use Rattle.shop_app.specs.declared.status.Status.TheVariants as status
 use Rattle.shop_app.specs.Driving.{IsDriven}
-use Rattle.shop_app.specs.Session.{Run, IsSession}
+use Rattle.shop_app.specs.Outside.{Run}
+use Rattle.shop_app.specs.Session.{IsSession}
 use Rattle.shop_app.specs.Statuses.{fault_line}
 
 -- several callers serve the words: the first of them is `race`

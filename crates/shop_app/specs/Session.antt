@@ -11,17 +11,17 @@ use Rattle.shop_engine.specs.declared.report.Ended.{Ended}
 use Rattle.shop_engine.specs.declared.report.Ended.TheVariants as ended
 use Rattle.shop_engine.specs.declared.report.Point.{Point}
 use Rattle.shop_engine.specs.declared.report.PointKind.{PointKind}
-use Rattle.shop_engine.specs.declared.report.PointKind.TheVariants.{Plain, At, Change, Busy, Full, Denied, GatewayFailed}
-use Rattle.shop_engine.specs.declared.report.PointKind.TheVariants as kind
+use Rattle.shop_engine.specs.declared.report.PointKind.TheVariants.{Plain, Change, Busy}
 use Rattle.shop_engine.specs.Decided.{tries_alone}
 use Rattle.shop_engine.specs.Failures.{RoseBy, failures}
 use Rattle.shop_engine.specs.Lists.{IsFreshIn}
-use Rattle.shop_engine.specs.Served.{Served, Streams}
+use Rattle.shop_engine.specs.Served.{Served}
 use Rattle.shop_engine.specs.Steps.{plain_point}
 use Rattle.shop_engine.specs.Workers.{Caller, Standing, WorkerState, at_first}
 use Rattle.shop_words.specs.declared.command.Session.{Session}
 use Rattle.shop_app.specs.declared.status.Status.{Status}
 use Rattle.shop_app.specs.declared.status.Status.TheVariants as status
+use Rattle.shop_app.specs.Outside.{Run}
 
 -- caller 1 of the shop that the words choose
 unfoldable pub first_caller : Session → Caller
@@ -57,14 +57,9 @@ first_standing session clock told =
 
 -- a settle decided the answer, a list that is kept, or a gateway that failed
 abbrev pub IsSettled : PointKind → Type 0
-IsSettled At = Unit {0}
-IsSettled kind.List = Unit {0}
-IsSettled Change = Unit {0}
-IsSettled Full = Unit {0}
-IsSettled (Denied charge reason) = Unit {0}
-IsSettled GatewayFailed = Unit {0}
 IsSettled (Busy conflicts) = ⊥
 IsSettled Plain = ⊥
+IsSettled _ = Unit {0}
 
 -- an answer was decided at the first try, by one settle, or by none where the gateway failed, or a list is kept
 pub record IsAtOnce (point : Point) : Type 0 where
@@ -80,26 +75,16 @@ moment_as moment _ = []
 abbrev pub moments_of : List Point → List ℕ
 moments_of points = flat_map (λ p. moment_as p.moment p.kind) points
 
--- what a session is run on: its streams, its clock and what the gateway tells, and how often the source, the sink
--- and the gateway have failed
-pub record Run : Type 0 where
-  pub streams : Streams
-  pub clock : Option (List ℕ)
-  pub told : Option (List Answer)
-  pub reads : ℕ
-  pub writes : ℕ
-  pub failures : ℕ
-
 -- its one connection was served to this end: no settle was stale, the log is lawful, and it is what the
 -- changes made, each with its moment as its stamp; the gateway's count of faults never fell, and rose by each that is told
 pub record ServedTo (session : Session) (old new : Run) (end : Ended) : Type 0 where
   pub points : List Point
   pub after : Standing
-  pub served : Served (first_standing session old.clock old.told) after old.streams new.streams end points
-  pub clock : after.clock ≡ new.clock
-  pub told : after.told ≡ new.told
-  pub failed : RoseBy old.failures (failures points) new.failures
-  pub kept : old.failures ≤ new.failures
+  pub served : Served (first_standing session old.outside.clock old.outside.told) after old.streams new.streams end points
+  pub clock : after.clock ≡ new.outside.clock
+  pub told : after.told ≡ new.outside.told
+  pub failed : RoseBy old.outside.failures (failures points) new.outside.failures
+  pub kept : old.outside.failures ≤ new.outside.failures
   pub alone : All (λ p. (p ≡ plain_point) ⊎ IsAtOnce p) points
   pub lawful : IsLawful (populated session.seed session.scale) after.seat.seen
   pub fresh : All (IsFreshIn after.seat.seen) points

@@ -5,6 +5,7 @@ ghost use Rattle.shop_words.specs.declared.command.Command.{Command};
 ghost use Rattle.shop_words.specs.Commands.{IsCommand};
 ghost use Rattle.shop_app.specs.Statuses as spec;
 ghost use Rattle.shop_app.specs.Runs.{IsForSeveral, IsRun, IsTold};
+ghost use Rattle.shop_app.specs.Outside.{run_of};
 ghost use Rattle.shop_app.specs.Session.{IsFirst, IsSession};
 
 use crate::Status;
@@ -41,8 +42,8 @@ pub fn run_alone<S: Source, K: Sink, C: Clock, G: Gateway>(
     ensures bad_words { result ≡ Status.BadWords → (command : Command) → IsCommand words.now command → IsForSeveral command }
     ensures untouched { result ≡ Status.BadWords → (source.new ≡ source.old) × (sink.new ≡ sink.old) × (clock.new ≡ clock.old) × (gateway.new ≡ gateway.old) }
     ensures run { result ≢ Status.BadWords → IsRun words.now
-        (record { streams = record { left = S.left source.old; held = K.held sink.old }; clock = C.readings clock.old; told = G.answers gateway.old; reads = S.faults source.old; writes = K.faults sink.old; failures = G.faults gateway.old })
-        (record { streams = record { left = S.left source.new; held = K.held sink.new }; clock = C.readings clock.new; told = G.answers gateway.new; reads = S.faults source.new; writes = K.faults sink.new; failures = G.faults gateway.new })
+        (run_of S.Source K.Sink C.Clock G.Gateway (source.old, sink.old, clock.old, gateway.old))
+        (run_of S.Source K.Sink C.Clock G.Gateway (source.new, sink.new, clock.new, gateway.new))
         result }
     ensures told { IsTold (K.held faults.old) (K.held faults.new) (K.faults faults.old) (K.faults faults.new) result }
     ensures later { K.faults faults.old ≤ K.faults faults.new }
@@ -64,8 +65,8 @@ fn run<S: Source, K: Sink, C: Clock, G: Gateway>(
     ensures bad_words { result ≡ Status.BadWords → (command : Command) → IsCommand words.now command → IsForSeveral command }
     ensures untouched { result ≡ Status.BadWords → (source.new ≡ source.old) × (sink.new ≡ sink.old) × (clock.new ≡ clock.old) × (gateway.new ≡ gateway.old) }
     ensures run { result ≢ Status.BadWords → IsRun words.now
-        (record { streams = record { left = S.left source.old; held = K.held sink.old }; clock = C.readings clock.old; told = G.answers gateway.old; reads = S.faults source.old; writes = K.faults sink.old; failures = G.faults gateway.old })
-        (record { streams = record { left = S.left source.new; held = K.held sink.new }; clock = C.readings clock.new; told = G.answers gateway.new; reads = S.faults source.new; writes = K.faults sink.new; failures = G.faults gateway.new })
+        (run_of S.Source K.Sink C.Clock G.Gateway (source.old, sink.old, clock.old, gateway.old))
+        (run_of S.Source K.Sink C.Clock G.Gateway (source.new, sink.new, clock.new, gateway.new))
         result }
 {
     match command_of(alloc, words) {
@@ -114,8 +115,8 @@ fn session<S: Source, K: Sink, C: Clock, G: Gateway>(
     gateway: &mut G,
 ) -> Status
     ensures { IsSession asked
-        (record { streams = record { left = S.left source.old; held = K.held sink.old }; clock = C.readings clock.old; told = G.answers gateway.old; reads = S.faults source.old; writes = K.faults sink.old; failures = G.faults gateway.old })
-        (record { streams = record { left = S.left source.new; held = K.held sink.new }; clock = C.readings clock.new; told = G.answers gateway.new; reads = S.faults source.new; writes = K.faults sink.new; failures = G.faults gateway.new })
+        (run_of S.Source K.Sink C.Clock G.Gateway (source.old, sink.old, clock.old, gateway.old))
+        (run_of S.Source K.Sink C.Clock G.Gateway (source.new, sink.new, clock.new, gateway.new))
         result }
 {
     let Ok(mut worker) = first_worker(alloc, asked) else {

@@ -7,7 +7,9 @@ ghost use Rattle.shop_book.specs.Solos.{marks_of, seat_of};
 ghost use Rattle.shop_engine.specs.Workers.{standing};
 ghost use Rattle.shop_drive.specs.Drives.{Drives};
 ghost use Rattle.shop_app.specs.Driving as spec;
-ghost use Rattle.shop_app.specs.Noted.{NotedAs, TellsOf};
+ghost use Rattle.shop_app.specs.Driving.{DroveTo, Unfinished};
+ghost use Rattle.shop_app.specs.Noted.{NotedAs, TellsOf, run_with};
+ghost use Rattle.shop_app.specs.Outside.{outside};
 ghost use Rattle.shop_app.specs.Session.{IsFirst};
 ghost use Rattle.shop_app.specs.Summaries.{drive_lines};
 
@@ -66,7 +68,8 @@ fn drive_and_give_back<'a, C: Clock, G: Gateway, T: Told>(
     requires told { G.answers gateway.old ≡ T.told }
     ensures name { result.gateway.ghost_name ≡ gateway.entry.ghost_name }
     ensures driven { (all : List AnswerValue) × Answered (G.answers gateway.old) (G.answers result.gateway.now) all
-        × NotedAs (marks_of worker.new.store) all (record { worker = standing seat_of worker.old (C.readings clock.old) (Some []); browsers = browsers.old; failures = G.faults gateway.old })
+        × NotedAs (marks_of worker.new.store) all
+        (record { worker = standing seat_of worker.old (C.readings clock.old) (Some []); browsers = browsers.old; failures = G.faults gateway.old })
         (record { worker = standing seat_of worker.new (C.readings clock.new) (Some all); browsers = browsers.new; failures = G.faults result.gateway.now })
         steps result.outcome }
     ensures lawful { IsLawful (seat_of worker.new.store).opening (seat_of worker.new.store).seen }
@@ -94,7 +97,8 @@ fn drive_with_notes<C: Clock, G: Gateway>(
     steps: u32,
 ) -> Result<Driven, Memory>
     ensures driven { (all : List AnswerValue) × Answered (G.answers gateway.old) (G.answers gateway.new) all
-        × NotedAs (marks_of worker.new.store) all (record { worker = standing seat_of worker.old (C.readings clock.old) (Some []); browsers = browsers.old; failures = G.faults gateway.old })
+        × NotedAs (marks_of worker.new.store) all
+        (record { worker = standing seat_of worker.old (C.readings clock.old) (Some []); browsers = browsers.old; failures = G.faults gateway.old })
         (record { worker = standing seat_of worker.new (C.readings clock.new) (Some all); browsers = browsers.new; failures = G.faults gateway.new })
         steps result }
     ensures lawful { IsLawful (seat_of worker.new.store).opening (seat_of worker.new.store).seen }
@@ -138,10 +142,8 @@ fn drive_first_worker<C: Clock, G: Gateway>(
 ) -> Result<Text, Memory>
     requires browsers { browsers.items ≡ spec.first_browsers asked.now }
     requires worker { IsFirst asked.now.shop worker }
-    ensures ok { IfOk result (spec.DroveTo asked.now (record { clock = C.readings clock.old; told = G.answers gateway.old; failures = G.faults gateway.old })
-        (record { clock = C.readings clock.new; told = G.answers gateway.new; failures = G.faults gateway.new })) }
-    ensures err { OnErr result (spec.Unfinished asked.now (record { clock = C.readings clock.old; told = G.answers gateway.old; failures = G.faults gateway.old })
-        (record { clock = C.readings clock.new; told = G.answers gateway.new; failures = G.faults gateway.new })) }
+    ensures ok { IfOk result (DroveTo asked.now (outside C.Clock G.Gateway clock.old gateway.old) (outside C.Clock G.Gateway clock.new gateway.new)) }
+    ensures err { OnErr result (Unfinished asked.now (outside C.Clock G.Gateway clock.old gateway.old) (outside C.Clock G.Gateway clock.new gateway.new)) }
 {
     let driven = drive_with_notes(
         alloc,
@@ -162,10 +164,8 @@ fn drive_new_shop<C: Clock, G: Gateway>(
     clock: &mut C,
     gateway: &mut G,
 ) -> Result<Text, Memory>
-    ensures ok { IfOk result (spec.DroveTo asked.now (record { clock = C.readings clock.old; told = G.answers gateway.old; failures = G.faults gateway.old })
-        (record { clock = C.readings clock.new; told = G.answers gateway.new; failures = G.faults gateway.new })) }
-    ensures err { OnErr result (spec.Unfinished asked.now (record { clock = C.readings clock.old; told = G.answers gateway.old; failures = G.faults gateway.old })
-        (record { clock = C.readings clock.new; told = G.answers gateway.new; failures = G.faults gateway.new })) }
+    ensures ok { IfOk result (DroveTo asked.now (outside C.Clock G.Gateway clock.old gateway.old) (outside C.Clock G.Gateway clock.new gateway.new)) }
+    ensures err { OnErr result (Unfinished asked.now (outside C.Clock G.Gateway clock.old gateway.old) (outside C.Clock G.Gateway clock.new gateway.new)) }
 {
     let browsers = first_browsers(alloc, asked)?;
     let worker = first_worker(alloc, asked.shop)?;
@@ -181,8 +181,8 @@ pub(crate) fn drive_browsers<K: Sink, C: Clock, G: Gateway>(
     gateway: &mut G,
 ) -> Status
     ensures driven { (left : Option (List ℕ)) (reads : ℕ) → spec.IsDriven asked
-        (record { streams = record { left = left; held = K.held sink.old }; clock = C.readings clock.old; told = G.answers gateway.old; reads = reads; writes = K.faults sink.old; failures = G.faults gateway.old })
-        (record { streams = record { left = left; held = K.held sink.new }; clock = C.readings clock.new; told = G.answers gateway.new; reads = reads; writes = K.faults sink.new; failures = G.faults gateway.new })
+        (run_with K.Sink C.Clock G.Gateway (left, reads) (sink.old, clock.old, gateway.old))
+        (run_with K.Sink C.Clock G.Gateway (left, reads) (sink.new, clock.new, gateway.new))
         result }
     ensures good_words { result ≢ Status.BadWords }
 {

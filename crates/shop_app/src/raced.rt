@@ -17,7 +17,7 @@ use shop_book::Book;
 use shop_edges::{Clock, Sink, Spawner, write_all};
 use shop_populate::populate;
 use shop_search::Index;
-use shop_tasks::{Ran, Task, race};
+use shop_tasks::{Errand, Ran, Task, race};
 use shop_text::{Memory, Text};
 use shop_turn::{Desk, Shop};
 use shop_words::{Race, Session};
@@ -56,17 +56,14 @@ fn task_of<R: Wait + Drop, C: Clock + Drop>(
     ensures { result ≡ record { desk = desk; clock = clock; caller = spec.caller_of asked.now.shop number; mix = asked.now.mix; steps = asked.now.steps } }
 {
     let Session { scale, seed } = asked.shop;
-    Task::new(
-        alloc,
-        desk,
-        index,
-        clock,
+    let errand = Errand {
         number,
         seed,
         scale,
-        asked.mix,
-        asked.steps,
-    )
+        mix: asked.mix,
+        steps: asked.steps,
+    };
+    Task::new(alloc, desk, index, clock, errand)
 }
 
 /// The tasks of the callers at these desks, numbered from 1.
@@ -154,10 +151,7 @@ pub(crate) fn race_browsers<
     C: Clock + Drop + Send + 'static,
 >(rt: &R, alloc: Global, asked: &Race, spawner: &mut Spawner, sink: &mut K, clock: &C) -> Status
     requires { spec.IsWithin asked.now }
-    ensures raced { spec.IsRaced asked.now (C.readings clock.now)
-        (record { held = K.held sink.old; writes = K.faults sink.old; spawning = spawner.old })
-        (record { held = K.held sink.new; writes = K.faults sink.new; spawning = spawner.new })
-        result }
+    ensures raced { spec.IsRaced asked.now (C.readings clock.now) (spec.shared K.Sink sink.old spawner.old) (spec.shared K.Sink sink.new spawner.new) result }
     ensures good_words { result ≢ Status.BadWords }
 {
     match told(rt, alloc, asked, spawner, clock) {

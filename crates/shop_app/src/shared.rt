@@ -2,7 +2,7 @@
 ghost use Rattle.std.specs.Prelude.{◌≡◌, ◌≢◌, ◌≤◌, ◌↔◌, IsTrue};
 ghost use Rattle.shop_words.specs.declared.command.Command.{Command};
 ghost use Rattle.shop_words.specs.Commands.{IsCommand};
-ghost use Rattle.shop_app.specs.Racing.{IsSharedRun};
+ghost use Rattle.shop_app.specs.Racing.{IsSharedRun, shared};
 ghost use Rattle.shop_app.specs.Runs.{IsForSeveral, IsShared, IsTold};
 
 use crate::Status;
@@ -43,9 +43,7 @@ pub fn run_shared<
     ensures bad_words { result ≡ Status.BadWords → (command : Command) → IsCommand words.now command → ¬ (IsForSeveral command) }
     ensures untouched { result ≡ Status.BadWords → (spawner.new ≡ spawner.old) × (sink.new ≡ sink.old) }
     ensures run { result ≢ Status.BadWords → IsSharedRun words.now (C.readings clock.now)
-        (record { held = K.held sink.old; writes = K.faults sink.old; spawning = spawner.old })
-        (record { held = K.held sink.new; writes = K.faults sink.new; spawning = spawner.new })
-        result }
+        (shared K.Sink sink.old spawner.old) (shared K.Sink sink.new spawner.new) result }
     ensures told { IsTold (K.held faults.old) (K.held faults.new) (K.faults faults.old) (K.faults faults.new) result }
     ensures later { K.faults faults.old ≤ K.faults faults.new }
 {
@@ -63,9 +61,7 @@ fn run<
     ensures bad_words { result ≡ Status.BadWords → (command : Command) → IsCommand words.now command → ¬ (IsForSeveral command) }
     ensures untouched { result ≡ Status.BadWords → (spawner.new ≡ spawner.old) × (sink.new ≡ sink.old) }
     ensures run { result ≢ Status.BadWords → IsSharedRun words.now (C.readings clock.now)
-        (record { held = K.held sink.old; writes = K.faults sink.old; spawning = spawner.old })
-        (record { held = K.held sink.new; writes = K.faults sink.new; spawning = spawner.new })
-        result }
+        (shared K.Sink sink.old spawner.old) (shared K.Sink sink.new spawner.new) result }
 {
     match command_of(alloc, words) {
         Parsed::Good(Command::Race(asked)) => {

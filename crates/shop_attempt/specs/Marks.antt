@@ -3,7 +3,7 @@ use Rattle.std.specs.Prelude.{ℕ, ◌≤◌, List, length, drop, All, IsNone}
 use Rattle.shop_history.specs.declared.acts.Entry.{Entry}
 use Rattle.shop_attempt.specs.declared.attempts.Attempt.{Attempt}
 use Rattle.shop_attempt.specs.declared.attempts.Settle.{Settle}
-use Rattle.shop_attempt.specs.declared.attempts.Settle.TheVariants.{Done, Stale, Full, Memory}
+use Rattle.shop_attempt.specs.declared.attempts.Settle.TheVariants.{Done}
 use Rattle.shop_attempt.specs.Seats.{Seat, Looked}
 
 -- each entry of a log behind the front has a stamp of at least the moment
@@ -32,6 +32,4 @@ pub record Looks {Store : Type 0} (seat : Store → Seat) (marked : Store → �
 -- a reading attempt that is done leaves a mark
 abbrev pub LeavesMark : (ℕ → ℕ → Type 0) → Attempt → Settle → Type 0
 LeavesMark marked attempt (Done drawn) = IsNone attempt.act → marked drawn.front attempt.moment
-LeavesMark marked attempt (Stale conflict) = Unit {0}
-LeavesMark marked attempt (Full size) = Unit {0}
-LeavesMark marked attempt Memory = Unit {0}
+LeavesMark marked attempt _ = Unit {0}

@@ -1,6 +1,6 @@
 ghost use Rattle.std.specs.Prelude.{◌≡◌, ◌≤◌};
-ghost use Rattle.shop_attempt.specs.Marks.{KeepsMarks};
 ghost use Rattle.shop_attempt.specs.Seats.{Follows};
+ghost use Rattle.shop_engine.specs.Stores.{Keeps};
 ghost use Rattle.shop_engine.specs.Workers.{standing};
 ghost use Rattle.shop_history.specs.Lawful.{IsLawful};
 ghost use Rattle.shop_drive.specs.Drives.{Drives};
@@ -26,13 +26,14 @@ pub fn drive<St: Store, C: Clock, G: Gateway>(
     browsers: &mut [Browser],
     steps: u32,
 ) -> Result<Tally, Memory>
-    ensures drives { Drives (St.marked worker.new.store) (record { worker = standing St.seat worker.old (C.readings clock.old) (G.answers gateway.old); browsers = browsers.old; failures = G.faults gateway.old })
+    ensures drives { Drives (St.marked worker.new.store)
+        (record { worker = standing St.seat worker.old (C.readings clock.old) (G.answers gateway.old); browsers = browsers.old; failures = G.faults gateway.old })
         (record { worker = standing St.seat worker.new (C.readings clock.new) (G.answers gateway.new); browsers = browsers.new; failures = G.faults gateway.new })
         steps result }
     ensures caller { worker.new.caller ≡ worker.old.caller }
     ensures follows { Follows (St.seat worker.old.store) (St.seat worker.new.store) }
     ensures lawful { IsLawful (St.seat worker.new.store).opening (St.seat worker.new.store).seen }
-    ensures marks { KeepsMarks (St.marked worker.old.store) (St.marked worker.new.store) (St.seat worker.old.store) (St.seat worker.new.store) }
+    ensures marks { Keeps St.Store worker.old.store worker.new.store }
     ensures later { G.faults gateway.old ≤ G.faults gateway.new }
 {
     let tally = take_turns(alloc, worker, clock, gateway, browsers, steps);
@@ -50,11 +51,12 @@ fn take_turns<St: Store, C: Clock, G: Gateway>(
     browsers: &mut [Browser],
     steps: u32,
 ) -> Result<Tally, Memory>
-    ensures drives { Drives (St.marked worker.new.store) (record { worker = standing St.seat worker.old (C.readings clock.old) (G.answers gateway.old); browsers = browsers.old; failures = G.faults gateway.old })
+    ensures drives { Drives (St.marked worker.new.store)
+        (record { worker = standing St.seat worker.old (C.readings clock.old) (G.answers gateway.old); browsers = browsers.old; failures = G.faults gateway.old })
         (record { worker = standing St.seat worker.new (C.readings clock.new) (G.answers gateway.new); browsers = browsers.new; failures = G.faults gateway.new })
         steps result }
     ensures caller { worker.new.caller ≡ worker.old.caller }
-    ensures marks { KeepsMarks (St.marked worker.old.store) (St.marked worker.new.store) (St.seat worker.old.store) (St.seat worker.new.store) }
+    ensures marks { Keeps St.Store worker.old.store worker.new.store }
     ensures later { G.faults gateway.old ≤ G.faults gateway.new }
 {
     let mut message = Browser::empty_message(alloc)?;
@@ -62,7 +64,7 @@ fn take_turns<St: Store, C: Clock, G: Gateway>(
     for round in 0..steps {
         for place in 0..browsers.len() {
             let browser = &mut browsers[place];
-            let is_page = take_turn(alloc, worker, clock, gateway, browser, &mut message)?;
+            let is_page = take_turn(worker, clock, gateway, browser, &mut message)?;
             tally.count(is_page);
         }
     }
@@ -72,22 +74,22 @@ fn take_turns<St: Store, C: Clock, G: Gateway>(
 /// Has a browser ask by the message that is kept for it, and lets it take what the reply shows; tells whether that has
 /// status 200.
 fn take_turn<St: Store, C: Clock, G: Gateway>(
-    alloc: Global,
     worker: &mut Worker<St>,
     clock: &mut C,
     gateway: &mut G,
     browser: &mut Browser,
     message: &mut Message,
 ) -> Result<bool, Memory>
-    ensures turn { TurnAs (St.marked worker.new.store) (record { worker = standing St.seat worker.old (C.readings clock.old) (G.answers gateway.old); browser = browser.old; failures = G.faults gateway.old })
+    ensures turn { TurnAs (St.marked worker.new.store)
+        (record { worker = standing St.seat worker.old (C.readings clock.old) (G.answers gateway.old); browser = browser.old; failures = G.faults gateway.old })
         (record { worker = standing St.seat worker.new (C.readings clock.new) (G.answers gateway.new); browser = browser.new; failures = G.faults gateway.new })
         result }
     ensures caller { worker.new.caller ≡ worker.old.caller }
-    ensures marks { KeepsMarks (St.marked worker.old.store) (St.marked worker.new.store) (St.seat worker.old.store) (St.seat worker.new.store) }
+    ensures marks { Keeps St.Store worker.old.store worker.new.store }
     ensures later { G.faults gateway.old ≤ G.faults gateway.new }
 {
     browser.next_message(message)?;
-    let Some(_) = worker.answer(alloc, message, false, clock, gateway) else {
+    let Some(_) = worker.answer(message, false, clock, gateway) else {
         return Err(Memory);
     };
     let reply = worker.reply();

@@ -9,6 +9,7 @@ pub mod Failures
 pub mod Decided
 pub mod Tries
 pub mod Steps
+pub mod Stores
 pub mod Served
 pub mod Connections
 pub mod OneOrder

@@ -6,6 +6,7 @@ use Rattle.shop_model.specs.declared.requests.Request.TheVariants.{BuyConfirm}
 use Rattle.shop_model.specs.declared.tables.Tables.{Tables}
 use Rattle.shop_edges.specs.declared.charge.Call.{Call}
 use Rattle.shop_edges.specs.declared.gateway.Answer.{Answer}
+use Rattle.shop_edges.specs.declared.gateway.Reason.{Reason}
 use Rattle.shop_edges.specs.declared.gateway.Verdict.TheVariants as verdict
 use Rattle.shop_edges.specs.Charges.{ChargeValue}
 use Rattle.shop_edges.specs.Gateways.{Answered}
@@ -20,7 +21,7 @@ use Rattle.shop_attempt.specs.declared.attempts.Attempt.{Attempt}
 use Rattle.shop_attempt.specs.declared.attempts.Conflict.{Conflict}
 use Rattle.shop_attempt.specs.Marks.{AreMarks}
 use Rattle.shop_attempt.specs.Reads.{Agrees}
-use Rattle.shop_attempt.specs.Seats.{Seat}
+use Rattle.shop_attempt.specs.Seats.{Seat, IsSeat, Looked}
 use Rattle.shop_browse.specs.declared.attempted.Attempted.{Attempted}
 use Rattle.shop_browse.specs.Attempts.{Asking, AttemptedAs, IsReady, asking_of}
 use Rattle.shop_browse.specs.Lists.{AreListed}
@@ -70,6 +71,9 @@ pub record Trying : Type 0 where
   pub kept : Option Answer
   pub told : Option (List Answer)
 
+abbrev pub trying : Seat → Option Answer → Option (List Answer) → Trying
+trying seat kept told = record { seat = seat; kept = kept; told = told }
+
 -- what it was asked meanwhile, and said
 pub record Asks (old new : Trying) (job : Job) (answers : List Answer) : Type 0 where
   pub charges : All (IsAnswerTo job.request.now job.call) answers
@@ -93,6 +97,10 @@ pub record IsAnswer (old new : Seat) (job : Job) (answers : List Answer) (bytes 
   pub decided : IsDecided old new job.request.now (record { point = point_of job outcome; made = made; answers = answers }) page
   pub lines : HasLines new job.request.now outcome.kind outcome.lines
   pub bytes_are : bytes ≡ reply page job.form
+
+-- a denial decided
+abbrev pub denial : Answer → Reason → ℕ → ℕ → Outcome
+denial answer reason front tries = record { kind = kind.Denied answer.charge reason; front = front; tries = tries; lines = None }
 
 -- it was decided, and the gateway tells what it answered
 pub record IsOutcome (old new : Trying) (job : Job) (bytes : List ℕ) (outcome : Outcome) : Type 0 where
@@ -149,6 +157,13 @@ pub record IsTried (old new : Trying) (job : Job) (bytes : List ℕ) (tried : Tr
 -- what was attempted, from some seat on
 abbrev pub WasAttempted : Seat → Asking → Draft → Attempted → Type 0
 WasAttempted now asking draft attempted = (start : Seat) × AttemptedAs start now asking draft attempted
+
+-- from this seat of the job's caller on
+pub record MayTry (start now : Seat) (job : Job) (draft : Draft) (attempted : Attempted) : Type 0 where
+  pub looked : Looked start now
+  pub valid : IsSeat start
+  pub caller : start.caller ≡ job.call.caller
+  pub made : AttemptedAs start now (asking_for job) draft attempted
 
 -- what is done, if anything, was paid in these tables
 abbrev pub IsPaidFor : Option Act → Tables → Call → List Answer → Type 0

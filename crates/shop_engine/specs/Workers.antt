@@ -1,5 +1,5 @@
 -- What contracts see of a worker.
-use Rattle.std.specs.Prelude.{◌≡◌, ℕ, List, length, Option}
+use Rattle.std.specs.Prelude.{◌≡◌, ℕ, List, [], length, Option}
 use Rattle.shop_edges.specs.declared.gateway.Answer.{Answer}
 use Rattle.shop_cache.specs.Caches.{Entries}
 use Rattle.shop_model.specs.lists.Catalogues.{Catalogue, catalogue}
@@ -32,6 +32,10 @@ pub record WorkerState (St : Type 0) : Type 0 where
 
 abbrev pub at_first : Progress
 at_first = record { accepted = 0; last = 0 }
+
+-- a worker that has served no request
+abbrev pub first_state : {St : Type 0} → St → Caller → WorkerState St
+first_state store caller = record { store = store; caller = caller; progress = at_first; kept = []; reply = [] }
 
 -- the seat is one, and the caller's, and the index and the scale are those of its opening tables
 pub record IsPosted (seat : Seat) (index : Catalogue) (caller : Caller) : Type 0 where

@@ -1,12 +1,11 @@
 //! The messages of one connection, one after another, to its end.
-ghost use Rattle.std.specs.Prelude.{◌≡◌, ℕ, ◌+◌, ◌≤◌, ◌<◌, [], ◌∷◌, ◌++◌, All, Some};
+ghost use Rattle.std.specs.Prelude.{◌≡◌, ℕ, ◌+◌, ◌≤◌, ◌<◌, [], ◌∷◌, ◌++◌, Some};
 ghost use Rattle.std.specs.Vec.{vec_len, vec_capacity};
 ghost use Rattle.shop_edges.specs.Causes.{Rose};
-ghost use Rattle.shop_attempt.specs.Marks.{KeepsMarks};
 ghost use Rattle.shop_engine.specs.Connections.{MessageAs, RefusalAs};
 ghost use Rattle.shop_engine.specs.Failures.{RoseBy, failures};
-ghost use Rattle.shop_engine.specs.Lists.{IsFreshPoint};
 ghost use Rattle.shop_engine.specs.Served.{Served};
+ghost use Rattle.shop_engine.specs.Stores.{AreFreshBy, Keeps};
 ghost use Rattle.shop_engine.specs.Workers.{standing};
 
 use crate::report::{Ended, Point, plain_point};
@@ -16,7 +15,6 @@ use shop_edges::{Clock, Gateway, Sink, Source, write_all};
 use shop_http::{Buffer, Message, Next, next_message};
 use shop_model::Refusal;
 use shop_pages::Form;
-use std::alloc::Global;
 
 /// The most answers of a connection.
 const ANSWERS: usize = 1_000;
@@ -27,9 +25,15 @@ const CLOSING: Form = Form {
     bodiless: false,
 };
 
+/// A message, and whether its answer is the last one that a connection may have.
+#[derive(Clone, Copy)]
+struct Turn<'a> {
+    message: &'a Message,
+    last: bool,
+}
+
 /// Answers one message after another, until there is an end.
 pub(crate) fn serve_all<St: Store, S: Source, K: Sink, C: Clock, G: Gateway>(
-    alloc: Global,
     worker: &mut Worker<St>,
     source: &mut S,
     sink: &mut K,
@@ -38,19 +42,22 @@ pub(crate) fn serve_all<St: Store, S: Source, K: Sink, C: Clock, G: Gateway>(
     points: &mut Vec<Point>,
 ) -> Ended
     requires { points.old.items ≡ [] }
-    ensures served { Served (standing St.seat worker.old (C.readings clock.old) (G.answers gateway.old)) (standing St.seat worker.new (C.readings clock.new) (G.answers gateway.new))
-        (record { left = S.left source.old; held = K.held sink.old }) (record { left = S.left source.new; held = K.held sink.new })
+    ensures served { Served (standing St.seat worker.old (C.readings clock.old) (G.answers gateway.old))
+        (standing St.seat worker.new (C.readings clock.new) (G.answers gateway.new))
+        (record { left = S.left source.old; held = K.held sink.old })
+        (record { left = S.left source.new; held = K.held sink.new })
         result points.new.items }
     ensures caller { worker.new.caller ≡ worker.old.caller }
-    ensures marks { KeepsMarks (St.marked worker.old.store) (St.marked worker.new.store) (St.seat worker.old.store) (St.seat worker.new.store) }
+    ensures marks { Keeps St.Store worker.old.store worker.new.store }
     ensures read_fault { result ≡ Ended.ReadFault → Rose (S.faults source.old) (S.faults source.new) }
     ensures write_fault { result ≡ Ended.WriteFault → Rose (K.faults sink.old) (K.faults sink.new) }
     ensures reads { S.faults source.old ≤ S.faults source.new }
     ensures writes { K.faults sink.old ≤ K.faults sink.new }
-    ensures fresh { All (IsFreshPoint (St.marked worker.new.store) (St.seat worker.new.store).seen) points.new.items }
+    ensures fresh { AreFreshBy St.Store worker.new.store points.new.items }
     ensures failures { RoseBy (G.faults gateway.old) (failures points.new.items) (G.faults gateway.new) }
     ensures asks { G.faults gateway.old ≤ G.faults gateway.new }
 {
+    let alloc = worker.alloc();
     let Ok(mut buffer) = Buffer::new(alloc) else {
         return Ended::Memory;
     };
@@ -63,8 +70,11 @@ pub(crate) fn serve_all<St: Store, S: Source, K: Sink, C: Clock, G: Gateway>(
             Next::ReadFault => return Ended::ReadFault,
             Next::Memory => return Ended::Memory,
         };
-        let last = points.len() + 1 == ANSWERS;
-        let ended = serve_one(alloc, worker, sink, clock, gateway, points, &message, last);
+        let turn = Turn {
+            message: &message,
+            last: points.len() + 1 == ANSWERS,
+        };
+        let ended = serve_one(worker, sink, clock, gateway, points, &turn);
         if let Some(end) = ended {
             return end;
         }
@@ -75,31 +85,34 @@ pub(crate) fn serve_all<St: Store, S: Source, K: Sink, C: Clock, G: Gateway>(
 
 /// Answers a message; the end of the connection, where it is one.
 fn serve_one<St: Store, K: Sink, C: Clock, G: Gateway>(
-    alloc: Global,
     worker: &mut Worker<St>,
     sink: &mut K,
     clock: &mut C,
     gateway: &mut G,
     points: &mut Vec<Point>,
-    message: &Message,
-    last: bool,
+    turn: &Turn,
 ) -> Option<Ended>
-    ensures message { MessageAs (record { message = message.now; last = last }) (standing St.seat worker.old (C.readings clock.old) (G.answers gateway.old)) (standing St.seat worker.new (C.readings clock.new) (G.answers gateway.new))
-        (record { points = points.old.items; held = K.held sink.old }) (record { points = points.new.items; held = K.held sink.new }) result }
+    ensures message { MessageAs (record { message = turn.now.message.now; last = turn.now.last })
+        (standing St.seat worker.old (C.readings clock.old) (G.answers gateway.old))
+        (standing St.seat worker.new (C.readings clock.new) (G.answers gateway.new))
+        (record { points = points.old.items; held = K.held sink.old })
+        (record { points = points.new.items; held = K.held sink.new })
+        result }
     ensures caller { worker.new.caller ≡ worker.old.caller }
-    ensures marks { KeepsMarks (St.marked worker.old.store) (St.marked worker.new.store) (St.seat worker.old.store) (St.seat worker.new.store) }
+    ensures marks { Keeps St.Store worker.old.store worker.new.store }
     ensures write_fault { result ≡ Some Ended.WriteFault → Rose (K.faults sink.old) (K.faults sink.new) }
     ensures writes { K.faults sink.old ≤ K.faults sink.new }
-    ensures fresh { All (IsFreshPoint (St.marked worker.old.store) (St.seat worker.old.store).seen) points.old.items
-        → All (IsFreshPoint (St.marked worker.new.store) (St.seat worker.new.store).seen) points.new.items }
-    ensures failures { (before : ℕ) → RoseBy before (failures points.old.items) (G.faults gateway.old) → RoseBy before (failures points.new.items) (G.faults gateway.new) }
+    ensures fresh { AreFreshBy St.Store worker.old.store points.old.items → AreFreshBy St.Store worker.new.store points.new.items }
+    ensures failures { (before : ℕ) → RoseBy before (failures points.old.items) (G.faults gateway.old)
+        → RoseBy before (failures points.new.items) (G.faults gateway.new) }
     ensures asks { G.faults gateway.old ≤ G.faults gateway.new }
 {
     // Room for the point, so that no answer is without one.
     let Ok(()) = points.reserve(1) else {
         return Some(Ended::Memory);
     };
-    let Some(point) = worker.answer(alloc, message, last, clock, gateway) else {
+    let message = turn.message;
+    let Some(point) = worker.answer(message, turn.last, clock, gateway) else {
         return Some(Ended::Memory);
     };
     add_point(points, point);
@@ -129,12 +142,12 @@ fn refuse<St: Store, K: Sink>(
     points: &mut Vec<Point>,
     refusal: Refusal,
 ) -> Ended
-    ensures told { RefusalAs refusal (record { points = points.old.items; held = K.held sink.old }) (record { points = points.new.items; held = K.held sink.new }) result }
+    ensures told { RefusalAs refusal (record { points = points.old.items; held = K.held sink.old })
+        (record { points = points.new.items; held = K.held sink.new }) result }
     ensures write_fault { result ≡ Ended.WriteFault → Rose (K.faults sink.old) (K.faults sink.new) }
     ensures writes { K.faults sink.old ≤ K.faults sink.new }
-    ensures fresh { All (IsFreshPoint (St.marked worker.old.store) (St.seat worker.old.store).seen) points.old.items
-        → All (IsFreshPoint (St.marked worker.new.store) (St.seat worker.new.store).seen) points.new.items }
-    ensures worker { worker.new ≡ record { store = worker.old.store; caller = worker.old.caller; progress = worker.old.progress; kept = worker.old.kept; reply = worker.new.reply } }
+    ensures fresh { AreFreshBy St.Store worker.old.store points.old.items → AreFreshBy St.Store worker.new.store points.new.items }
+    ensures worker { worker.new ≡ record worker.old { reply = worker.new.reply } }
 {
     let Ok(()) = worker.refuse(refusal, CLOSING) else {
         return Ended::Memory;

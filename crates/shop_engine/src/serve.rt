@@ -1,11 +1,11 @@
-ghost use Rattle.std.specs.Prelude.{◌≡◌, ◌≤◌, All};
+ghost use Rattle.std.specs.Prelude.{◌≡◌, ◌≤◌};
 ghost use Rattle.shop_edges.specs.Causes.{Rose};
 ghost use Rattle.shop_history.specs.Lawful.{IsLawful};
-ghost use Rattle.shop_attempt.specs.Marks.{KeepsMarks};
 ghost use Rattle.shop_engine.specs.Failures.{RoseBy, failures, failures_of};
-ghost use Rattle.shop_engine.specs.Lists.{AnswersFresh, IsFreshPoint};
+ghost use Rattle.shop_engine.specs.Lists.{AnswersFresh};
 ghost use Rattle.shop_engine.specs.Served.{Served};
 ghost use Rattle.shop_engine.specs.Steps.{AnsweredAs};
+ghost use Rattle.shop_engine.specs.Stores.{AreFreshBy, Keeps};
 ghost use Rattle.shop_engine.specs.Workers.{standing};
 
 use crate::connection::serve_all;
@@ -28,10 +28,11 @@ pub fn serve_message<St: Store, C: Clock, G: Gateway>(
     clock: &mut C,
     gateway: &mut G,
 ) -> Answered
-    ensures answered { AnsweredAs last (standing St.seat worker.old (C.readings clock.old) (G.answers gateway.old)) (standing St.seat worker.new (C.readings clock.new) (G.answers gateway.new)) message.now result }
+    ensures answered { AnsweredAs last (standing St.seat worker.old (C.readings clock.old) (G.answers gateway.old))
+        (standing St.seat worker.new (C.readings clock.new) (G.answers gateway.new)) message.now result }
     ensures caller { worker.new.caller ≡ worker.old.caller }
     ensures lawful { IsLawful (St.seat worker.new.store).opening (St.seat worker.new.store).seen }
-    ensures marks { KeepsMarks (St.marked worker.old.store) (St.marked worker.new.store) (St.seat worker.old.store) (St.seat worker.new.store) }
+    ensures marks { Keeps St.Store worker.old.store worker.new.store }
     ensures fresh { AnswersFresh (St.marked worker.new.store) (St.seat worker.new.store).seen result }
     ensures failures { RoseBy (G.faults gateway.old) (failures_of result) (G.faults gateway.new) }
     ensures later { G.faults gateway.old ≤ G.faults gateway.new }
@@ -51,9 +52,10 @@ fn reply_to<St: Store, C: Clock, G: Gateway>(
     clock: &mut C,
     gateway: &mut G,
 ) -> Answered
-    ensures answered { AnsweredAs last (standing St.seat worker.old (C.readings clock.old) (G.answers gateway.old)) (standing St.seat worker.new (C.readings clock.new) (G.answers gateway.new)) message.now result }
+    ensures answered { AnsweredAs last (standing St.seat worker.old (C.readings clock.old) (G.answers gateway.old))
+        (standing St.seat worker.new (C.readings clock.new) (G.answers gateway.new)) message.now result }
     ensures caller { worker.new.caller ≡ worker.old.caller }
-    ensures marks { KeepsMarks (St.marked worker.old.store) (St.marked worker.new.store) (St.seat worker.old.store) (St.seat worker.new.store) }
+    ensures marks { Keeps St.Store worker.old.store worker.new.store }
     ensures fresh { AnswersFresh (St.marked worker.new.store) (St.seat worker.new.store).seen result }
     ensures failures { RoseBy (G.faults gateway.old) (failures_of result) (G.faults gateway.new) }
     ensures later { G.faults gateway.old ≤ G.faults gateway.new }
@@ -62,7 +64,7 @@ fn reply_to<St: Store, C: Clock, G: Gateway>(
     let Ok(fresh) = Reply::new(alloc) else {
         return Answered::Memory;
     };
-    let Some(point) = worker.answer(alloc, message, last, clock, gateway) else {
+    let Some(point) = worker.answer(message, last, clock, gateway) else {
         return Answered::Memory;
     };
     let reply = mem::replace(&mut worker.reply, fresh);
@@ -78,22 +80,24 @@ pub fn serve_connection<St: Store, S: Source, K: Sink, C: Clock, G: Gateway>(
     clock: &mut C,
     gateway: &mut G,
 ) -> Report
-    ensures served { Served (standing St.seat worker.old (C.readings clock.old) (G.answers gateway.old)) (standing St.seat worker.new (C.readings clock.new) (G.answers gateway.new))
-        (record { left = S.left source.old; held = K.held sink.old }) (record { left = S.left source.new; held = K.held sink.new })
+    ensures served { Served (standing St.seat worker.old (C.readings clock.old) (G.answers gateway.old))
+        (standing St.seat worker.new (C.readings clock.new) (G.answers gateway.new))
+        (record { left = S.left source.old; held = K.held sink.old })
+        (record { left = S.left source.new; held = K.held sink.new })
         result.end result.points }
     ensures caller { worker.new.caller ≡ worker.old.caller }
     ensures lawful { IsLawful (St.seat worker.new.store).opening (St.seat worker.new.store).seen }
-    ensures marks { KeepsMarks (St.marked worker.old.store) (St.marked worker.new.store) (St.seat worker.old.store) (St.seat worker.new.store) }
+    ensures marks { Keeps St.Store worker.old.store worker.new.store }
     ensures read_fault { result.end ≡ Ended.ReadFault → Rose (S.faults source.old) (S.faults source.new) }
     ensures write_fault { result.end ≡ Ended.WriteFault → Rose (K.faults sink.old) (K.faults sink.new) }
     ensures reads { S.faults source.old ≤ S.faults source.new }
     ensures writes { K.faults sink.old ≤ K.faults sink.new }
-    ensures fresh { All (IsFreshPoint (St.marked worker.new.store) (St.seat worker.new.store).seen) result.points }
+    ensures fresh { AreFreshBy St.Store worker.new.store result.points }
     ensures failures { RoseBy (G.faults gateway.old) (failures result.points) (G.faults gateway.new) }
     ensures asks { G.faults gateway.old ≤ G.faults gateway.new }
 {
     let mut points = Vec::new(alloc);
-    let end = serve_all(alloc, worker, source, sink, clock, gateway, &mut points);
+    let end = serve_all(worker, source, sink, clock, gateway, &mut points);
     // Wherever it ended, the seat of the worker is one.
     let _ = &worker.store;
     Report {

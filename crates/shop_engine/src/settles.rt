@@ -4,12 +4,12 @@ ghost use Rattle.shop_model.specs.rows.Limits.{stamp_limit};
 ghost use Rattle.shop_model.specs.declared.requests.Request.TheVariants as request_kinds;
 ghost use Rattle.shop_model.specs.asked.PurchaseAsked.{PurchaseAsked};
 ghost use Rattle.shop_attempt.specs.Faithful.{Faithful};
-ghost use Rattle.shop_attempt.specs.Marks.{KeepsMarks};
 ghost use Rattle.shop_attempt.specs.Seats.{Seat, Looked};
 ghost use Rattle.shop_edges.specs.declared.gateway.Answer.{Answer};
 ghost use Rattle.shop_pages.specs.ReplyStates.{bytes_of};
 ghost use Rattle.shop_order.specs.Payments.{IsDenied};
 ghost use Rattle.shop_browse.specs.Attempts.{IsList};
+ghost use Rattle.shop_engine.specs.Stores.{Keeps};
 ghost use Rattle.shop_engine.specs.Tries.{TriedAs, MaySettle, HasAsked, LeavesListMark, asking_for};
 
 use crate::replies::refusal_reply;
@@ -35,7 +35,7 @@ pub(crate) fn settle_page<St: Store>(
         → MaySettle start (St.seat store.old) job.now answers reply.old.draft attempt
         → TriedAs start (St.seat store.new) job.now answers (bytes_of reply.new) result }
     ensures never { ¬ (result ≡ Tried.Failed) }
-    ensures marks { KeepsMarks (St.marked store.old) (St.marked store.new) (St.seat store.old) (St.seat store.new) }
+    ensures marks { Keeps St.Store store.old store.new }
     ensures mark { LeavesListMark (St.marked store.new) (St.seat store.new).seen job.now.ask.moment result }
 {
     let Ok(()) = reply.reserve() else {
@@ -76,7 +76,7 @@ pub(crate) fn settle_list<St: Store>(
         → HasAsked job.now answers kept → IsList start (St.seat store.old) (asking_for job.now) reply.old.draft attempt lines
         → TriedAs start (St.seat store.new) job.now answers (bytes_of reply.new) result }
     ensures never { ¬ (result ≡ Tried.Failed) }
-    ensures marks { KeepsMarks (St.marked store.old) (St.marked store.new) (St.seat store.old) (St.seat store.new) }
+    ensures marks { Keeps St.Store store.old store.new }
     ensures mark { LeavesListMark (St.marked store.new) (St.seat store.new).seen attempt.moment result }
 {
     let Ok(()) = reply.reserve() else {
@@ -110,7 +110,7 @@ pub(crate) fn settle_denied<St: Store>(
         → IsDenied start (St.seat store.old) (asking_for job.now) asked job.now.call reply.old.draft kept attempt reason
         → TriedAs start (St.seat store.new) job.now answers (bytes_of reply.new) result }
     ensures never { ¬ (result ≡ Tried.Failed) }
-    ensures marks { KeepsMarks (St.marked store.old) (St.marked store.new) (St.seat store.old) (St.seat store.new) }
+    ensures marks { Keeps St.Store store.old store.new }
     ensures mark { LeavesListMark (St.marked store.new) (St.seat store.new).seen job.now.ask.moment result }
 {
     let Ok(()) = reply.reserve() else {

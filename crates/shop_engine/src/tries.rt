@@ -2,12 +2,13 @@ ghost use Rattle.std.specs.Prelude.{◌≡◌, ◌≤◌, None, Some, IfSome, Is
 ghost use Rattle.shop_model.specs.rows.Limits.{stamp_limit};
 ghost use Rattle.shop_edges.specs.Causes.{Rose};
 ghost use Rattle.shop_edges.specs.declared.gateway.Answer.{Answer as AnswerValue};
-ghost use Rattle.shop_attempt.specs.Marks.{KeepsMarks};
-ghost use Rattle.shop_attempt.specs.Seats.{Seat, IsSeat, Looked};
-ghost use Rattle.shop_browse.specs.Attempts.{AttemptedAs, Suits};
+ghost use Rattle.shop_attempt.specs.Seats.{Seat, IsSeat};
+ghost use Rattle.shop_browse.specs.Attempts.{Suits};
 ghost use Rattle.shop_pages.specs.ReplyStates.{bytes_of};
 ghost use Rattle.shop_engine.specs.Failures.{RoseBy, failures_as};
-ghost use Rattle.shop_engine.specs.Tries.{IsTried, IsOutcome, IsGivenUp, LeavesListMark, LeavesMarkOf, WasAttempted, asking_for};
+ghost use Rattle.shop_engine.specs.Stores.{Keeps};
+ghost use Rattle.shop_engine.specs.Tries.{IsTried, IsOutcome, IsGivenUp, LeavesListMark, LeavesMarkOf, MayTry, WasAttempted};
+ghost use Rattle.shop_engine.specs.Tries.{asking_for, denial, trying};
 
 use crate::replies::refusal_reply;
 use crate::report::PointKind;
@@ -18,7 +19,7 @@ use shop_cache::ListLines;
 use shop_edges::{Answer, Call, Gateway, Reason};
 use shop_model::{Refusal, Request};
 use shop_order::attempt;
-use shop_order::buy_confirm::{Paid, pay};
+use shop_order::buy_confirm::{Paid, Paying, pay};
 use shop_pages::{Form, Reply};
 use shop_text::{Boxed, Listed};
 use std::alloc::Global;
@@ -26,9 +27,11 @@ use std::alloc::Global;
 /// How often a request is tried.
 pub const TRIES: u32 = 8;
 
-/// A request that is to be decided, the form of its reply, and who asks, in which call.
+/// A request that is to be decided, the form of its reply, and who asks, in which call; and where memory is
+/// taken from.
 #[derive(Clone, Copy)]
 pub(crate) struct Job<'a, 'r> {
+    pub(crate) alloc: Global,
     pub(crate) ask: Ask<'a>,
     pub(crate) request: &'r Request,
     pub(crate) form: Form,
@@ -63,7 +66,6 @@ pub(crate) struct Outcome {
 /// Reads what the request is about, writes its page, makes room for its reply, settles it, and finishes
 /// the reply. A purchase is paid before it is settled.
 fn try_once<St: Store, G: Gateway>(
-    alloc: Global,
     store: &mut St,
     job: &Job,
     reply: &mut Reply,
@@ -74,17 +76,16 @@ fn try_once<St: Store, G: Gateway>(
     requires caller { (St.seat store.old).caller ≡ job.now.call.caller }
     requires suits { Suits job.now.ask (St.seat store.old) }
     requires moment { job.now.ask.moment ≤ stamp_limit }
-    ensures tried { IsTried (record { seat = St.seat store.old; kept = kept.old; told = G.answers gateway.old })
-        (record { seat = St.seat store.new; kept = kept.new; told = G.answers gateway.new })
-        job.now (bytes_of reply.new) result }
-    ensures marks { KeepsMarks (St.marked store.old) (St.marked store.new) (St.seat store.old) (St.seat store.new) }
+    ensures tried { IsTried (trying (St.seat store.old) kept.old (G.answers gateway.old))
+        (trying (St.seat store.new) kept.new (G.answers gateway.new)) job.now (bytes_of reply.new) result }
+    ensures marks { Keeps St.Store store.old store.new }
     ensures mark { LeavesListMark (St.marked store.new) (St.seat store.new).seen job.now.ask.moment result }
     ensures failed { result ≡ Tried.Failed → Rose (G.faults gateway.old) (G.faults gateway.new) }
     ensures later { G.faults gateway.old ≤ G.faults gateway.new }
 {
-    match attempt(alloc, store, &job.ask, job.request, reply.draft()) {
+    match attempt(job.alloc, store, &job.ask, job.request, reply.draft()) {
         Attempted::Ready(attempt) => settle_page(store, job, attempt, reply),
-        other => try_other(alloc, store, job, other, reply, kept, gateway),
+        other => try_other(store, job, other, reply, kept, gateway),
     }
 }
 
@@ -92,7 +93,6 @@ fn try_once<St: Store, G: Gateway>(
 /// requests make no room for it.
 #[inline(never)]
 fn try_other<St: Store, G: Gateway>(
-    alloc: Global,
     store: &mut St,
     job: &Job,
     attempted: Attempted,
@@ -104,11 +104,10 @@ fn try_other<St: Store, G: Gateway>(
     requires suits { Suits job.now.ask (St.seat store.old) }
     requires caller { (St.seat store.old).caller ≡ job.now.call.caller }
     requires moment { job.now.ask.moment ≤ stamp_limit }
-    ensures tried { (start : Seat) → Looked start (St.seat store.old) → IsSeat start → start.caller ≡ job.now.call.caller → AttemptedAs start (St.seat store.old) (asking_for job.now) reply.old.draft attempted
-        → IsTried (record { seat = start; kept = kept.old; told = G.answers gateway.old })
-        (record { seat = St.seat store.new; kept = kept.new; told = G.answers gateway.new })
-        job.now (bytes_of reply.new) result }
-    ensures marks { KeepsMarks (St.marked store.old) (St.marked store.new) (St.seat store.old) (St.seat store.new) }
+    ensures tried { (start : Seat) → MayTry start (St.seat store.old) job.now reply.old.draft attempted
+        → IsTried (trying start kept.old (G.answers gateway.old))
+        (trying (St.seat store.new) kept.new (G.answers gateway.new)) job.now (bytes_of reply.new) result }
+    ensures marks { Keeps St.Store store.old store.new }
     ensures mark { LeavesListMark (St.marked store.new) (St.seat store.new).seen job.now.ask.moment result }
     ensures failed { result ≡ Tried.Failed → Rose (G.faults gateway.old) (G.faults gateway.new) }
     ensures later { G.faults gateway.old ≤ G.faults gateway.new }
@@ -121,9 +120,12 @@ fn try_other<St: Store, G: Gateway>(
                 unreachable!()
             };
             let draft = reply.draft();
-            match pay(
-                alloc, &job.ask, asked, job.call, attempt, kept, gateway, draft,
-            ) {
+            let paying = Paying {
+                ask: &job.ask,
+                asked,
+                call: job.call,
+            };
+            match pay(job.alloc, &paying, attempt, kept, gateway, draft) {
                 Paid::Approved(attempt) => settle_page(store, job, attempt, reply),
                 Paid::Denied(attempt, reason) => settle_denied(store, job, attempt, reason, reply),
                 Paid::Failed => match refusal_reply(reply, Refusal::GatewayFailed, job.form) {
@@ -150,8 +152,7 @@ fn denied(
     tries: u32,
 ) -> Option<Outcome>
     requires { IsSome kept }
-    ensures { IfSome result (λ outcome. (answer : AnswerValue) → kept ≡ Some answer →
-        outcome ≡ record { kind = PointKind.Denied answer.charge reason; front = front; tries = tries; lines = None }) }
+    ensures { IfSome result (λ outcome. (answer : AnswerValue) → kept ≡ Some answer → outcome ≡ denial answer reason front tries) }
 {
     let Some(answer) = kept else { unreachable!() };
     let Ok(charge) = Boxed::new(alloc, answer.charge) else {
@@ -168,7 +169,6 @@ fn denied(
 /// Tries a request until it is decided, eight times at most. There is no outcome where memory ran out.
 /// What the gateway said is kept from try to try, so that it is not asked again for an equal charge.
 pub(crate) fn try_all<St: Store, G: Gateway>(
-    alloc: Global,
     store: &mut St,
     job: &Job,
     reply: &mut Reply,
@@ -178,19 +178,19 @@ pub(crate) fn try_all<St: Store, G: Gateway>(
     requires caller { (St.seat store.old).caller ≡ job.now.call.caller }
     requires suits { Suits job.now.ask (St.seat store.old) }
     requires moment { job.now.ask.moment ≤ stamp_limit }
-    ensures answer { IfSome result (IsOutcome (record { seat = St.seat store.old; kept = None; told = G.answers gateway.old })
-        (record { seat = St.seat store.new; kept = None; told = G.answers gateway.new }) job.now (bytes_of reply.new)) }
-    ensures memory { IsNone result → IsGivenUp (record { seat = St.seat store.old; kept = None; told = G.answers gateway.old })
-        (record { seat = St.seat store.new; kept = None; told = G.answers gateway.new }) job.now }
-    ensures marks { KeepsMarks (St.marked store.old) (St.marked store.new) (St.seat store.old) (St.seat store.new) }
+    ensures answer { IfSome result (IsOutcome (trying (St.seat store.old) None (G.answers gateway.old))
+        (trying (St.seat store.new) None (G.answers gateway.new)) job.now (bytes_of reply.new)) }
+    ensures memory { IsNone result → IsGivenUp (trying (St.seat store.old) None (G.answers gateway.old))
+        (trying (St.seat store.new) None (G.answers gateway.new)) job.now }
+    ensures marks { Keeps St.Store store.old store.new }
     ensures mark { IfSome result (LeavesMarkOf (St.marked store.new) (St.seat store.new).seen job.now.ask.moment) }
     ensures failures { IfSome result (λ outcome. RoseBy (G.faults gateway.old) (failures_as outcome.kind) (G.faults gateway.new)) }
     ensures later { G.faults gateway.old ≤ G.faults gateway.new }
 {
-    let mut conflicts = Listed::new(alloc);
+    let mut conflicts = Listed::new(job.alloc);
     let mut kept = None;
     for tried in 0..TRIES {
-        match try_once(alloc, store, job, reply, &mut kept, gateway) {
+        match try_once(store, job, reply, &mut kept, gateway) {
             Tried::Settled(kind, front) => {
                 return Some(Outcome {
                     kind,
@@ -208,7 +208,7 @@ pub(crate) fn try_all<St: Store, G: Gateway>(
                 });
             }
             Tried::Denied(reason, front) => {
-                return denied(alloc, kept, reason, front, tried + 1);
+                return denied(job.alloc, kept, reason, front, tried + 1);
             }
             Tried::Again(conflict) => {
                 let Ok(()) = conflicts.push(conflict) else {

@@ -1,8 +1,8 @@
-ghost use Rattle.std.specs.Prelude.{◌≡◌, IfOk, [], is_some};
+ghost use Rattle.std.specs.Prelude.{◌≡◌, IfOk, is_some};
 ghost use Rattle.shop_cache.specs.Keys.{key_asked};
 ghost use Rattle.std.specs.Arc.{arc_value};
 ghost use Rattle.shop_engine.specs.Steps as spec;
-ghost use Rattle.shop_engine.specs.Workers.{IsPosted, at_first};
+ghost use Rattle.shop_engine.specs.Workers.{IsPosted};
 
 use crate::calls::Calls;
 use crate::replies::{list_reply, refusal_reply};
@@ -24,6 +24,7 @@ use std::sync::Arc;
 /// Serves the requests of one caller from its seat at a shop, over one connection after another.
 #[derive(Drop)]
 pub struct Worker<St: Store> {
+    pub(crate) alloc: Global,
     pub(crate) store: St,
     pub(crate) index: Arc<Index, Global>,
     pub(crate) routes: Routes,
@@ -48,7 +49,9 @@ impl<St: Store> Model for Worker<St> {
 
     ghost view = { state_of };
 
-    ghost invariant = { λ i. IsPosted (St.seat i.store) (arc_value i.index) i.calls.caller × (i.last ≤ stamp_limit) × AreKept (St.seat i.store) (St.marked i.store) i.last i.cache };
+    ghost invariant = { λ i. IsPosted (St.seat i.store) (arc_value i.index) i.calls.caller
+        × (i.last ≤ stamp_limit)
+        × AreKept (St.seat i.store) (St.marked i.store) i.last i.cache };
 }
 
 /// The form of the reply to a message, behind which there is no other or there may be.
@@ -96,20 +99,20 @@ impl Accepted {
 }
 
 impl<St: Store> Worker<St> {
-    ghost use Rattle.std.specs.Prelude.{◌≡◌, ◌≤◌, min, max, [], Ok, IfOk, IfSome, IsSome, IsNone, OnOk, OnErr};
+    ghost use Rattle.std.specs.Prelude.{◌≡◌, ◌≤◌, min, max, Ok, IfOk, IfSome, IsSome, IsNone, OnOk, OnErr};
     ghost use Rattle.shop_model.specs.rows.Limits.{stamp_limit};
     ghost use Rattle.shop_model.specs.asked.Refusals.{page_of};
     ghost use Rattle.shop_edges.specs.Causes.{count_up};
     ghost use Rattle.shop_history.specs.Lawful.{IsLawful};
-    ghost use Rattle.shop_attempt.specs.Marks.{KeepsMarks};
     ghost use Rattle.shop_cache.specs.Keys.{key_asked};
     ghost use Rattle.shop_http.specs.Requests.{asked};
     ghost use Rattle.shop_pages.specs.Replies as replies;
     ghost use Rattle.shop_engine.specs.Keeping.{IsAnsweredBy, IsLookedOnce, KeepsLines, kept_now};
-    ghost use Rattle.shop_engine.specs.Lists.{IsFreshPoint, looked_for};
+    ghost use Rattle.shop_engine.specs.Lists.{looked_for};
     ghost use Rattle.shop_engine.specs.Failures.{RoseBy, failures_as};
     ghost use Rattle.shop_engine.specs.Steps.{Answers, AnswersRequest, GivesUp, draw_of};
-    ghost use Rattle.shop_engine.specs.Workers.{IsPosted, at_first, standing};
+    ghost use Rattle.shop_engine.specs.Stores.{IsFreshBy, Keeps};
+    ghost use Rattle.shop_engine.specs.Workers.{IsPosted, first_state, standing};
 
     /// A worker that has served no request. Its words are drawn by this seed and scale.
     pub fn new(
@@ -123,18 +126,13 @@ impl<St: Store> Worker<St> {
     where
         St: Drop,
         requires { IsPosted (St.seat store) (arc_value index) (record { number = caller; seed = seed; scale = scale }) }
-        ensures { IfOk result (λ worker. worker ≡ record {
-          store = store;
-          caller = record { number = caller; seed = seed; scale = scale };
-          progress = at_first;
-          kept = [];
-          reply = [];
-        }) }
+        ensures { IfOk result (λ worker. worker ≡ first_state store (record { number = caller; seed = seed; scale = scale })) }
     {
         Ok(Worker {
             routes: Routes::new(alloc)?,
             cache: ListCache::new(alloc)?,
             reply: Reply::new(alloc)?,
+            alloc,
             store,
             index,
             calls: Calls::new(caller, seed, scale),
@@ -142,11 +140,17 @@ impl<St: Store> Worker<St> {
         })
     }
 
+    /// Where it takes its memory from.
+    pub(crate) fn alloc(&self) -> Global {
+        self.alloc
+    }
+
     /// The store.
     pub fn into_store(self) -> St
         ensures { result ≡ self.store }
     {
         let Worker {
+            alloc: _,
             store,
             index: _,
             routes: _,
@@ -177,24 +181,26 @@ impl<St: Store> Worker<St> {
     /// point. There is none where memory ran out.
     pub fn answer<C: Clock, G: Gateway>(
         &mut self,
-        alloc: Global,
         message: &Message,
         last: bool,
         clock: &mut C,
         gateway: &mut G,
     ) -> Option<Point>
-        ensures answers { IfSome result (λ point. Answers last (standing St.seat self.old (C.readings clock.old) (G.answers gateway.old)) (standing St.seat self.new (C.readings clock.new) (G.answers gateway.new))
-            message.now point self.new.reply) }
-        ensures memory { IsNone result → GivesUp (asked message.now) (standing St.seat self.old (C.readings clock.old) (G.answers gateway.old)) (standing St.seat self.new (C.readings clock.new) (G.answers gateway.new)) }
+        ensures answers { let from = standing St.seat self.old (C.readings clock.old) (G.answers gateway.old) in
+            let to = standing St.seat self.new (C.readings clock.new) (G.answers gateway.new) in
+            IfSome result (λ point. Answers last from to message.now point self.new.reply) }
+        ensures memory { let from = standing St.seat self.old (C.readings clock.old) (G.answers gateway.old) in
+            let to = standing St.seat self.new (C.readings clock.new) (G.answers gateway.new) in
+            IsNone result → GivesUp (asked message.now) from to }
         ensures caller { self.new.caller ≡ self.old.caller }
-        ensures marks { KeepsMarks (St.marked self.old.store) (St.marked self.new.store) (St.seat self.old.store) (St.seat self.new.store) }
-        ensures fresh { IfSome result (IsFreshPoint (St.marked self.new.store) (St.seat self.new.store).seen) }
+        ensures marks { Keeps St.Store self.old.store self.new.store }
+        ensures fresh { IfSome result (IsFreshBy St.Store self.new.store) }
         ensures failures { IfSome result (λ point. RoseBy (G.faults gateway.old) (failures_as point.kind) (G.faults gateway.new)) }
         ensures later { G.faults gateway.old ≤ G.faults gateway.new }
     {
         let form = form_of(message, last);
-        match request(alloc, &self.routes, message) {
-            Asked::Request(request) => self.answer_request(alloc, &request, form, clock, gateway),
+        match request(self.alloc, &self.routes, message) {
+            Asked::Request(request) => self.answer_request(&request, form, clock, gateway),
             Asked::Refuse(refusal) => match self.refuse(refusal.told(), form) {
                 Ok(()) => Some(plain_point()),
                 Err(Memory) => None,
@@ -206,23 +212,25 @@ impl<St: Store> Worker<St> {
     /// Answers a request in this form.
     fn answer_request<C: Clock, G: Gateway>(
         &mut self,
-        alloc: Global,
         request: &Request,
         form: Form,
         clock: &mut C,
         gateway: &mut G,
     ) -> Option<Point>
-        ensures answers { IfSome result (λ point. AnswersRequest form (standing St.seat self.old (C.readings clock.old) (G.answers gateway.old)) (standing St.seat self.new (C.readings clock.new) (G.answers gateway.new))
-            request.now point self.new.reply) }
-        ensures memory { IsNone result → GivesUp (Ok request.now) (standing St.seat self.old (C.readings clock.old) (G.answers gateway.old)) (standing St.seat self.new (C.readings clock.new) (G.answers gateway.new)) }
+        ensures answers { let from = standing St.seat self.old (C.readings clock.old) (G.answers gateway.old) in
+            let to = standing St.seat self.new (C.readings clock.new) (G.answers gateway.new) in
+            IfSome result (λ point. AnswersRequest form from to request.now point self.new.reply) }
+        ensures memory { let from = standing St.seat self.old (C.readings clock.old) (G.answers gateway.old) in
+            let to = standing St.seat self.new (C.readings clock.new) (G.answers gateway.new) in
+            IsNone result → GivesUp (Ok request.now) from to }
         ensures caller { self.new.caller ≡ self.old.caller }
-        ensures marks { KeepsMarks (St.marked self.old.store) (St.marked self.new.store) (St.seat self.old.store) (St.seat self.new.store) }
-        ensures fresh { IfSome result (IsFreshPoint (St.marked self.new.store) (St.seat self.new.store).seen) }
+        ensures marks { Keeps St.Store self.old.store self.new.store }
+        ensures fresh { IfSome result (IsFreshBy St.Store self.new.store) }
         ensures failures { IfSome result (λ point. RoseBy (G.faults gateway.old) (failures_as point.kind) (G.faults gateway.new)) }
         ensures later { G.faults gateway.old ≤ G.faults gateway.new }
     {
         let accepted = self.accept(clock.now());
-        match self.answer_kept(alloc, request, form) {
+        match self.answer_kept(request, form) {
             Ok(Some(front)) => return Some(accepted.point(PointKind::List, front, 0)),
             Ok(None) => {}
             Err(Memory) => return None,
@@ -238,15 +246,16 @@ impl<St: Store> Worker<St> {
             number: accepted.call,
         };
         let job = Job {
+            alloc: self.alloc,
             ask,
             request,
             form,
             call,
         };
         let (store, reply) = (&mut self.store, &mut self.reply);
-        let outcome = try_all(alloc, store, &job, reply, gateway)?;
+        let outcome = try_all(store, &job, reply, gateway)?;
         let (front, tries) = (outcome.front, outcome.tries);
-        let Ok(()) = self.keep(alloc, request, front, outcome.lines) else {
+        let Ok(()) = self.keep(request, front, outcome.lines) else {
             return None;
         };
         Some(accepted.point(outcome.kind, front, tries))
@@ -254,20 +263,15 @@ impl<St: Store> Worker<St> {
 
     /// Answers by the list that is kept, where one is asked for, and young enough: makes the reply, and
     /// tells the front of the list.
-    fn answer_kept(
-        &mut self,
-        alloc: Global,
-        request: &Request,
-        form: Form,
-    ) -> Result<Option<u64>, Memory>
+    fn answer_kept(&mut self, request: &Request, form: Form) -> Result<Option<u64>, Memory>
         ensures found { IfOk result (IsAnsweredBy St.seat St.marked (key_asked request.now) request.now form self.old self.new) }
         ensures looked { OnOk result (self.new.kept ≡ looked_for (key_asked request.now) self.old.kept) }
         ensures refused { OnErr result (IsLookedOnce self.old.kept self.new.kept) }
-        ensures worker { self.new ≡ record { store = self.old.store; caller = self.old.caller; progress = self.old.progress; kept = self.new.kept; reply = self.new.reply } }
+        ensures worker { self.new ≡ record self.old { kept = self.new.kept; reply = self.new.reply } }
     {
         // Most requests ask for none, and make no room for its key.
         if asks_list(request) {
-            self.answer_list(alloc, request, form)
+            self.answer_list(request, form)
         } else {
             Ok(None)
         }
@@ -275,18 +279,13 @@ impl<St: Store> Worker<St> {
 
     /// Answers by the list that is asked for, if it is kept, and young enough.
     #[inline(never)]
-    fn answer_list(
-        &mut self,
-        alloc: Global,
-        request: &Request,
-        form: Form,
-    ) -> Result<Option<u64>, Memory>
+    fn answer_list(&mut self, request: &Request, form: Form) -> Result<Option<u64>, Memory>
         ensures found { IfOk result (IsAnsweredBy St.seat St.marked (key_asked request.now) request.now form self.old self.new) }
         ensures looked { OnOk result (self.new.kept ≡ looked_for (key_asked request.now) self.old.kept) }
         ensures refused { OnErr result (IsLookedOnce self.old.kept self.new.kept) }
-        ensures worker { self.new ≡ record { store = self.old.store; caller = self.old.caller; progress = self.old.progress; kept = self.new.kept; reply = self.new.reply } }
+        ensures worker { self.new ≡ record self.old { kept = self.new.kept; reply = self.new.reply } }
     {
-        let Some(key) = ListKey::asked(alloc, request)? else {
+        let Some(key) = ListKey::asked(self.alloc, request)? else {
             return Ok(None);
         };
         let Some(kept) = self.cache.look(&key, self.last) else {
@@ -300,7 +299,6 @@ impl<St: Store> Worker<St> {
     /// Keeps the lines of a list, if some were read, as of this front and the last moment.
     fn keep(
         &mut self,
-        alloc: Global,
         request: &Request,
         front: u64,
         lines: Option<ListLines>,
@@ -309,12 +307,12 @@ impl<St: Store> Worker<St> {
         ensures kept { OnOk result (self.new.kept ≡ kept_now (key_asked request.now) front self.old.progress.last lines self.old.kept) }
         ensures refused { OnErr result (self.new.kept ≡ self.old.kept) }
         ensures some { OnErr result (IsSome lines) }
-        ensures worker { self.new ≡ record { store = self.old.store; caller = self.old.caller; progress = self.old.progress; kept = self.new.kept; reply = self.old.reply } }
+        ensures worker { self.new ≡ record self.old { kept = self.new.kept } }
     {
         let Some(lines) = lines else {
             return Ok(());
         };
-        let Some(key) = ListKey::asked(alloc, request)? else {
+        let Some(key) = ListKey::asked(self.alloc, request)? else {
             return Ok(());
         };
         let kept = Kept {
@@ -332,7 +330,7 @@ impl<St: Store> Worker<St> {
         ensures moment { result.moment ≡ max self.old.progress.last (min reading stamp_limit) }
         ensures bound { result.moment ≤ stamp_limit }
         ensures draw { result.draw ≡ draw_of self.old.caller result.call }
-        ensures worker { self.new ≡ record { store = self.old.store; caller = self.old.caller; progress = record { accepted = result.call; last = result.moment }; kept = self.old.kept; reply = self.old.reply } }
+        ensures worker { self.new ≡ record self.old { progress = record { accepted = result.call; last = result.moment } } }
     {
         let moment = self.last.max(reading.min(STAMP_LIMIT));
         let (call, draw) = self.calls.next();
@@ -343,7 +341,7 @@ impl<St: Store> Worker<St> {
     /// Makes the reply around the page of a refusal.
     pub(crate) fn refuse(&mut self, refusal: Refusal, form: Form) -> Result<(), Memory>
         ensures reply { OnOk result (self.new.reply ≡ replies.reply (page_of refusal) form) }
-        ensures worker { self.new ≡ record { store = self.old.store; caller = self.old.caller; progress = self.old.progress; kept = self.old.kept; reply = self.new.reply } }
+        ensures worker { self.new ≡ record self.old { reply = self.new.reply } }
     {
         refusal_reply(&mut self.reply, refusal, form)
     }

@@ -1,8 +1,9 @@
 -- Admin Confirm: what it reads, round by round, and the change that it makes.
 use Rattle.std.specs.Prelude.{◌≡◌, ℕ, zero, suc, ◌^◌, ◌<◌, ◌≤◌, List, [], ◌∷◌, drop, map, sum_by, All}
+use Rattle.shop_model.specs.declared.requests.IdsAsked.{IdsAsked}
 use Rattle.shop_model.specs.declared.tables.Tables.{Tables}
 use Rattle.shop_model.specs.asked.AdminAsked.{AdminAsked}
-use Rattle.shop_model.specs.lists.Catalogues.{catalogue}
+use Rattle.shop_model.specs.lists.Catalogues.{Catalogue, catalogue}
 use Rattle.shop_model.specs.lists.Related.{five_of}
 use Rattle.shop_model.specs.pages.AdminConfirm.{mended_page}
 use Rattle.shop_model.specs.rows.Rows.{ItemRow}
@@ -91,7 +92,12 @@ mended_row asked five item = record item {
 abbrev pub published_at : ℕ → ItemRow → ItemRow
 published_at stamp item = record item { published = day_after stamp 0 }
 
--- the change that leaves this item, with the draft of its page in whichever tables have the catalogue
+-- the draft is of the page of an item that is published at the settle, in whichever tables have the catalogue
+abbrev pub IsMendedPage : Catalogue → IdsAsked → ItemRow → Draft → Type 0
+IsMendedPage index ids item draft =
+    (t : Tables) → catalogue t ≡ index → (drawn : Drawn) → IsPage draft drawn (mended_page t ids (published_at drawn.stamp item))
+
+-- the change that leaves this item, with the draft of its page
 pub record IsChangeTo (ask : Ask) (asked : AdminAsked) (item : ItemRow) (draft : Draft) (next : Next) : Type 0 where
-  pub written : (t : Tables) → catalogue t ≡ ask.index.now → (drawn : Drawn) → IsPage draft drawn (mended_page t asked.ids (published_at drawn.stamp item))
+  pub written : IsMendedPage ask.index.now asked.ids item draft
   pub is : next ≡ Change (Admin asked) (PutItem item ∷ [])

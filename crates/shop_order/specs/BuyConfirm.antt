@@ -2,13 +2,16 @@
 use Rattle.std.specs.Prelude.{◌≡◌, ℕ, zero, suc, Bool, true, false, List, [], ◌∷◌, ◌++◌, map, Option, Some, None}
 use Rattle.shop_model.specs.declared.address.AddressText.{AddressText}
 use Rattle.shop_model.specs.asked.PurchaseAsked.{PurchaseAsked}
+use Rattle.shop_model.specs.declared.requests.Request.TheVariants as request
 use Rattle.shop_history.specs.declared.keys.Key.{Key}
 use Rattle.shop_history.specs.declared.keys.Key.TheVariants as key
 use Rattle.shop_history.specs.declared.keys.Row.{Row}
 use Rattle.shop_history.specs.declared.keys.Row.TheVariants as rows
 use Rattle.shop_attempt.specs.declared.attempts.ReadOf.{ReadOf}
+use Rattle.shop_browse.specs.Attempts.{Asking, asking_of}
 use Rattle.shop_browse.specs.Driver.{keys_of}
 use Rattle.shop_order.specs.declared.basket.Basket.{Basket}
+use Rattle.shop_order.specs.declared.buy_confirm.Paying.{Paying}
 use Rattle.shop_order.specs.ShoppingCart.{lines_in}
 use Rattle.shop_order.specs.Stops.{AreBought}
 
@@ -75,3 +78,7 @@ abbrev pub FollowsConfirm : PurchaseAsked → ℕ → List ReadOf → Type 0
 FollowsConfirm asked zero reads = reads ≡ []
 FollowsConfirm asked (suc zero) reads = keys_of reads ≡ first_keys asked
 FollowsConfirm asked (suc (suc more)) reads = HasSecond asked reads
+
+-- what is asked for by a purchase that is to be paid
+abbrev pub asking_for : Paying → Asking
+asking_for paying = asking_of paying.ask.now (request.BuyConfirm paying.asked.now)

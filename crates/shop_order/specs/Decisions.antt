@@ -40,14 +40,19 @@ days_of sale = 1 + sale.draw % 7
 abbrev pub order_in : Sale → OrderRow
 order_in sale = order_of sale.purchase sale.bill sale.auth
 
+-- the draft is of the page of a sale, in whichever tables show the items
+abbrev pub IsPageOf : Sale → Draft → Type 0
+IsPageOf sale draft =
+    (t : Tables)
+    → Shows t sale.purchase.items.now
+    → (drawn : Drawn)
+    → IsPage draft drawn (confirm_page t (purchase_ids sale.purchase.asked.now) (drawn_order drawn (days_of sale) (order_in sale)))
+
 -- the act and the writes of a sale, and its page, in whichever tables show the items
 pub record IsSale (sale : Sale) (draft : Draft) (act : Act) (writes : List Write) : Type 0 where
   pub act_is : act ≡ Confirm sale.purchase.asked.now sale.draw sale.auth
   pub writes_are : (t : Tables) → Shows t sale.purchase.items.now → writes ≡ purchase_writes t sale.purchase (order_in sale) (days_of sale)
-  pub page : (t : Tables)
-      → Shows t sale.purchase.items.now
-      → (drawn : Drawn)
-      → IsPage draft drawn (confirm_page t (purchase_ids sale.purchase.asked.now) (drawn_order drawn (days_of sale) (order_in sale)))
+  pub page : IsPageOf sale draft
 
 -- it is approved, and done so
 abbrev pub IsApproved : Sale → Draft → Decision → Type 0

@@ -1,5 +1,6 @@
 -- What a request for the shopping cart reads, the lines that it makes of its cart's, and the change to them.
 use Rattle.std.specs.Prelude.{◌≡◌, ℕ, zero, suc, List, [], ◌∷◌, ◌++◌, length, map, drop, Option, Some, None, IfSome, unwrap_or}
+use Rattle.shop_model.specs.declared.requests.Request.TheVariants.{CartRequest}
 use Rattle.shop_model.specs.declared.tables.Tables.{Tables}
 use Rattle.shop_model.specs.asked.CartAsked.{CartAsked}
 use Rattle.shop_model.specs.trade.Carts.{wanted, cart_lines, check_lines, lines_named, check_cart}
@@ -19,7 +20,7 @@ use Rattle.shop_pricing.specs.Bounds.{AreLines}
 use Rattle.shop_browse.specs.declared.attempted.Ask.{Ask}
 use Rattle.shop_browse.specs.declared.driver.Next.{Next}
 use Rattle.shop_browse.specs.declared.driver.Next.TheVariants.{Change}
-use Rattle.shop_browse.specs.Driver.{keys_of}
+use Rattle.shop_browse.specs.Driver.{keys_of, IsNext}
 use Rattle.shop_order.specs.declared.shopping_cart.Begun.{Begun}
 use Rattle.shop_order.specs.declared.shopping_cart.Begun.TheVariants.{Lines, Refused, Never}
 use Rattle.shop_order.specs.Page.{page_at}
@@ -104,6 +105,10 @@ abbrev pub FollowsCart : CartAsked → Option (List (ℕ × ℕ)) → Ask → �
 FollowsCart asked kept ask zero reads = reads ≡ []
 FollowsCart asked kept ask (suc zero) reads = keys_of reads ≡ cart_keys asked.ids.cart
 FollowsCart asked kept ask (suc (suc more)) reads = HasItems asked kept ask reads
+
+-- what is done next, where the cart was read, if one is named
+abbrev pub IsNextFor : CartAsked → Option (List (ℕ × ℕ)) → Ask → Option ReadOf → Draft → Next → Type 0
+IsNextFor asked kept ask cart draft next = IsNext (FollowsCart asked kept ask) (CartRequest asked) ask 1 (cart_reads cart) draft next
 
 -- the write of a cart with these lines: the one that is named, or a new one
 abbrev pub put_lines : Option ℕ → List (ℕ × ℕ) → List Write

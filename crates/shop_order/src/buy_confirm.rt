@@ -6,7 +6,7 @@ ghost use Rattle.shop_edges.specs.Payments.{AsksOnce};
 ghost use Rattle.shop_attempt.specs.Marks.{Looks};
 ghost use Rattle.shop_browse.specs.Attempts.{AttemptedAs, Suits, asking_of};
 ghost use Rattle.shop_browse.specs.Baskets.{HasBasket};
-ghost use Rattle.shop_order.specs.BuyConfirm.{FollowsConfirm};
+ghost use Rattle.shop_order.specs.BuyConfirm.{FollowsConfirm, asking_for};
 ghost use Rattle.shop_order.specs.Payments.{PaidFor};
 
 use crate::basket::{begin, first_keys, is_ship, second_keys};
@@ -32,27 +32,33 @@ pub enum Paid {
     Memory,
 }
 
-/// Pays for a purchase, which is asked for in a call: asks the gateway, unless the answer that is
-/// kept is to the same charge, and keeps its answer.
+/// A purchase that is to be paid: what is asked for, and in which call.
+#[derive(Clone, Copy)]
+pub struct Paying<'a> {
+    pub ask: &'a Ask<'a>,
+    pub asked: &'a Shared<BuyConfirm>,
+    pub call: Call,
+}
+
+/// Pays for a purchase: asks the gateway, unless the answer that is kept is to the same charge, and
+/// keeps its answer.
 #[inline(never)]
 pub fn pay<G: Gateway>(
     alloc: Global,
-    ask: &Ask,
-    asked: &Shared<BuyConfirm>,
-    call: Call,
+    paying: &Paying,
     attempt: Attempt,
     kept: &mut Option<Answer>,
     gateway: &mut G,
     draft: &mut Draft,
 ) -> Paid
-    requires { HasBasket ask.now.index.now (request_kinds.BuyConfirm asked.now) attempt.reads }
-    ensures paid { PaidFor (asking_of ask.now (request_kinds.BuyConfirm asked.now)) asked.now call attempt draft.new kept.new result }
-    ensures asks { AsksOnce asked.now call kept.old kept.new (G.answers gateway.old) (G.answers gateway.new) }
+    requires { HasBasket paying.now.ask.now.index.now (request_kinds.BuyConfirm paying.now.asked.now) attempt.reads }
+    ensures paid { PaidFor (asking_for paying.now) paying.now.asked.now paying.now.call attempt draft.new kept.new result }
+    ensures asks { AsksOnce paying.now.asked.now paying.now.call kept.old kept.new (G.answers gateway.old) (G.answers gateway.new) }
     ensures failed { result ≡ Paid.Failed → Rose (G.faults gateway.old) (G.faults gateway.new) }
     ensures later { G.faults gateway.old ≤ G.faults gateway.new }
 {
     let reads = attempt.reads.as_slice();
-    match decide(alloc, asked, call, ask.draw, reads, kept, gateway, draft) {
+    match decide(alloc, paying, reads, kept, gateway, draft) {
         Ok(Decision::Approved(act, writes)) => Paid::Approved(Attempt {
             writes: Some(writes),
             act: Some(act),

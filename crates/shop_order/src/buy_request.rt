@@ -31,6 +31,13 @@ pub(crate) struct Begun<'a> {
     found: Option<u32>,
 }
 
+/// What is bought, who was found, and all that was read.
+#[derive(Clone, Copy)]
+pub(crate) struct Gathered<'a> {
+    begun: Begun<'a>,
+    reads: &'a [ReadOf],
+}
+
 /// The id in a row that tells of a buyer.
 fn found_in(buyer: &Buyer, row: &Row) -> Result<Option<u32>, Stop>
     ensures ok { IfOk result (spec.IsFound buyer.now row.now) }
@@ -114,14 +121,14 @@ fn by_login(
     ask: &Ask,
     asked: &BuyRequest,
     login: &Login,
-    begun: &Begun,
-    reads: &[ReadOf],
+    gathered: &Gathered,
     draft: &mut Draft,
 ) -> Result<Next, Memory>
     requires buyer { asked.now.buyer ≡ buyers.Returning login.now }
-    requires all { spec.HasAll asked.now begun.now reads.now }
-    ensures { IfOk result (spec.IsEnd asked.now ask.now reads.now draft.new) }
+    requires all { spec.HasAll asked.now gathered.now.begun gathered.now.reads.now }
+    ensures { IfOk result (spec.IsEnd asked.now ask.now gathered.now.reads.now draft.new) }
 {
+    let Gathered { begun, reads } = *gathered;
     let customer = match customer_in(&login.pass, &reads[2].row) {
         Ok(customer) => customer,
         Err(stop) => return stopped(draft, stop),
@@ -138,14 +145,14 @@ fn by_newcomer(
     ask: &Ask,
     asked: &BuyRequest,
     newcomer: &Newcomer,
-    begun: &Begun,
-    reads: &[ReadOf],
+    gathered: &Gathered,
     draft: &mut Draft,
 ) -> Result<Next, Memory>
     requires buyer { asked.now.buyer ≡ buyers.Newcomer newcomer.now }
-    requires all { spec.HasAll asked.now begun.now reads.now }
-    ensures { IfOk result (spec.IsEnd asked.now ask.now reads.now draft.new) }
+    requires all { spec.HasAll asked.now gathered.now.begun gathered.now.reads.now }
+    ensures { IfOk result (spec.IsEnd asked.now ask.now gathered.now.reads.now draft.new) }
 {
+    let Gathered { begun, reads } = *gathered;
     let shopper = Shopper::newcomer(newcomer, ask.draw);
     write_page(alloc, draft, &shopper, asked.cart, begun.lines, &reads[2..])?;
     let writes = newcomer_writes(alloc, newcomer, begun.found, ask.draw)?;
@@ -157,17 +164,16 @@ fn by_all(
     alloc: Global,
     ask: &Ask,
     asked: &BuyRequest,
-    begun: &Begun,
-    reads: &[ReadOf],
+    gathered: &Gathered,
     draft: &mut Draft,
 ) -> Result<Next, Memory>
-    requires { spec.HasAll asked.now begun.now reads.now }
-    ensures { IfOk result (spec.IsEnd asked.now ask.now reads.now draft.new) }
+    requires { spec.HasAll asked.now gathered.now.begun gathered.now.reads.now }
+    ensures { IfOk result (spec.IsEnd asked.now ask.now gathered.now.reads.now draft.new) }
 {
     match &asked.buyer {
-        Buyer::Returning(login) => by_login(alloc, ask, asked, login, begun, reads, draft),
+        Buyer::Returning(login) => by_login(alloc, ask, asked, login, gathered, draft),
         Buyer::Newcomer(newcomer) => {
-            by_newcomer(alloc, ask, asked, newcomer.get(), begun, reads, draft)
+            by_newcomer(alloc, ask, asked, newcomer.get(), gathered, draft)
         }
     }
 }
@@ -204,7 +210,8 @@ impl<'a> Interaction for Buying<'a> {
         if round == 1 {
             return Ok(Next::Read(second_keys(alloc, &asked.buyer, &begun)?));
         }
-        by_all(alloc, ask, asked, &begun, reads, draft)
+        let gathered = Gathered { begun, reads };
+        by_all(alloc, ask, asked, &gathered, draft)
     }
 }
 

@@ -1,17 +1,12 @@
 //! The page of a customer who buys a cart.
-ghost use Rattle.std.specs.Prelude.{◌≡◌, ◌+◌, ◌≤◌, ◌++◌, ℕ, Some, IfOk, OnOk, codes, decimal, length};
+ghost use Rattle.std.specs.Prelude.{◌≡◌, ◌≤◌, ◌++◌, ℕ, Some, IfOk, OnOk, codes, decimal};
 ghost use Rattle.shop_model.specs.declared.page.Block.TheVariants as block;
 ghost use Rattle.shop_model.specs.declared.tables.Tables.{Tables};
-ghost use Rattle.shop_model.specs.pages.BuyRequest.{buy_request};
 ghost use Rattle.shop_model.specs.pages.PageText.{block_line};
-ghost use Rattle.shop_model.specs.pages.Priced.{order_lines, totals_text};
 ghost use Rattle.shop_model.specs.rows.Limits.{discount_limit};
-ghost use Rattle.shop_model.specs.rows.Rows.{CustomerRow};
-ghost use Rattle.shop_model.specs.trade.Buyers.{logged_in, new_customer};
-ghost use Rattle.shop_model.specs.trade.Money as money;
+ghost use Rattle.shop_model.specs.trade.Buyers.{logged_in};
 ghost use Rattle.shop_history.specs.declared.acts.Drawn.{Drawn};
 ghost use Rattle.shop_draft.specs.Drawing.{id_at, ids_at};
-ghost use Rattle.shop_draft.specs.Pages.{IsPage};
 ghost use Rattle.shop_draft.specs.Templates.{Adds, Says};
 ghost use Rattle.shop_attempt.specs.Reads.{Shows};
 ghost use Rattle.shop_pricing.specs.Bounds.{AreLines};
@@ -54,8 +49,7 @@ impl<'a> Shopper<'a> {
 
     /// Who is new, with the discount that a word draws.
     pub(crate) fn newcomer(newcomer: &'a Newcomer, draw: u32) -> Shopper<'a>
-        ensures shopper { (t : Tables) → (stamp : ℕ) → (drawn : Drawn) → drawn.ids.customer ≡ Some (length t.customers + 1)
-            → spec.IsShopper drawn result (new_customer t stamp draw newcomer.now) }
+        ensures shopper { spec.IsNewShopper draw newcomer.now result }
         ensures discount { result.discount ≤ discount_limit }
     {
         Shopper {
@@ -114,8 +108,7 @@ fn totals(
     requires items { AreItems lines.now items.now }
     requires lines { AreLines lines.now }
     requires discount { discount ≤ discount_limit }
-    ensures { OnOk result ((t : Tables) → Shows t items.now
-        → Says page.old page.new (block_line (block.Para (totals_text (money.totals (order_lines t 1 lines.now) discount))))) }
+    ensures { OnOk result ((t : Tables) → Shows t items.now → Says page.old page.new (spec.totals_line t lines.now discount)) }
 {
     let priced = priced(alloc, lines, items)?;
     let totals = Totals::of(priced.as_slice(), discount);
@@ -135,8 +128,7 @@ pub(crate) fn write_page(
     requires items { AreItems lines.now items.now }
     requires lines { AreLines lines.now }
     requires discount { shopper.now.discount ≤ discount_limit }
-    ensures { OnOk result ((t : Tables) → Shows t items.now → (drawn : Drawn) → (row : CustomerRow) → spec.IsShopper drawn shopper.now row
-        → IsPage draft.new drawn (buy_request t row cart lines.now)) }
+    ensures { OnOk result ((t : Tables) → Shows t items.now → spec.IsBuyersPage t shopper.now cart lines.now draft.new) }
 {
     let ids = page_ids(shopper.id, cart);
     draft.status = 200;

@@ -1,14 +1,12 @@
 //! The page of an order that was just placed.
-ghost use Rattle.std.specs.Prelude.{◌≡◌, ◌+◌, ◌%◌, ◌++◌, OnOk, codes, decimal};
+ghost use Rattle.std.specs.Prelude.{◌≡◌, ◌++◌, OnOk, codes, decimal};
 ghost use Rattle.shop_model.specs.declared.page.Block.TheVariants as block;
-ghost use Rattle.shop_model.specs.declared.tables.Tables.{Tables};
-ghost use Rattle.shop_model.specs.pages.BuyConfirm.{confirm_page, purchase_ids};
+ghost use Rattle.shop_model.specs.pages.BuyConfirm.{purchase_ids};
 ghost use Rattle.shop_model.specs.pages.PageText.{block_line};
 ghost use Rattle.shop_history.specs.declared.acts.Drawn.{Drawn};
 ghost use Rattle.shop_draft.specs.Drawing.{ids_at, or_zero};
-ghost use Rattle.shop_draft.specs.Pages.{IsPage};
 ghost use Rattle.shop_draft.specs.Templates.{Adds};
-ghost use Rattle.shop_attempt.specs.Reads.{Shows};
+ghost use Rattle.shop_order.specs.Decisions.{IsPageOf};
 ghost use Rattle.shop_order.specs.Purchases as spec;
 
 use crate::purchase::{Bill, Purchase};
@@ -47,8 +45,7 @@ pub(crate) fn write_page(
 ) -> Result<(), Memory>
     requires goods { spec.AreGoods purchase.now.lines.now purchase.now.items.now }
     requires bill { spec.IsBill purchase.now bill.now }
-    ensures { OnOk result ((t : Tables) → Shows t purchase.now.items.now → (drawn : Drawn)
-        → IsPage draft.new drawn (confirm_page t (purchase_ids purchase.now.asked.now) (spec.drawn_order drawn (1 + draw % 7) (spec.order_of purchase.now bill.now auth.now)))) }
+    ensures { OnOk result (IsPageOf (record { purchase = purchase.now; bill = bill.now; auth = auth.now; draw = draw }) draft.new) }
 {
     let ids = page_ids(purchase.asked.get());
     let customer = purchase.customer;

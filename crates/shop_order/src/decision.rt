@@ -5,6 +5,7 @@ ghost use Rattle.shop_edges.specs.Payments.{AsksOnce};
 ghost use Rattle.shop_order.specs.Decisions as spec;
 ghost use Rattle.shop_order.specs.Purchases.{IsRead, AreGoods, IsBill};
 
+use crate::buy_confirm::Paying;
 use crate::confirm_page::write_page;
 use crate::new_order::order;
 use crate::payment::{ask_gateway, charge_of};
@@ -12,10 +13,10 @@ use crate::purchase::{Bill, Purchase};
 use crate::sale::{purchase_act, purchase_writes};
 use shop_attempt::{ReadOf, Write};
 use shop_draft::{Draft, refusal};
-use shop_edges::{Answer, Call, Gateway, Reason, Verdict};
+use shop_edges::{Answer, Gateway, Reason, Verdict};
 use shop_history::Act;
-use shop_model::{AuthId, BuyConfirm};
-use shop_text::{Listed, Memory, Shared};
+use shop_model::AuthId;
+use shop_text::{Listed, Memory};
 use std::alloc::Global;
 
 /// What is decided of a purchase.
@@ -60,23 +61,22 @@ fn denied(reason: Reason, draft: &mut Draft) -> Result<Decision, Memory>
 /// keeps its answer.
 pub(crate) fn decide<G: Gateway>(
     alloc: Global,
-    asked: &Shared<BuyConfirm>,
-    call: Call,
-    draw: u32,
+    paying: &Paying,
     reads: &[ReadOf],
     kept: &mut Option<Answer>,
     gateway: &mut G,
     draft: &mut Draft,
 ) -> Result<Decision, Memory>
-    requires { IsRead asked.now reads.now }
-    ensures decides { IfOk result (spec.Decides asked.now call draw reads.now draft.new kept.new) }
-    ensures asks { AsksOnce asked.now call kept.old kept.new (G.answers gateway.old) (G.answers gateway.new) }
+    requires { IsRead paying.now.asked.now reads.now }
+    ensures decides { IfOk result (spec.Decides paying.now.asked.now paying.now.call paying.now.ask.now.draw reads.now draft.new kept.new) }
+    ensures asks { AsksOnce paying.now.asked.now paying.now.call kept.old kept.new (G.answers gateway.old) (G.answers gateway.new) }
     ensures failed { IfOk result (λ decision. decision ≡ Decision.Failed → Rose (G.faults gateway.old) (G.faults gateway.new)) }
     ensures later { G.faults gateway.old ≤ G.faults gateway.new }
 {
-    let purchase = Purchase::of(asked, reads);
+    let draw = paying.ask.draw;
+    let purchase = Purchase::of(paying.asked, reads);
     let bill = Bill::of(alloc, &purchase)?;
-    let charge = charge_of(asked.get(), call, bill.totals.total);
+    let charge = charge_of(paying.asked.get(), paying.call, bill.totals.total);
     match ask_gateway(charge, kept, gateway) {
         Verdict::Approved(auth) => approved(alloc, &purchase, &bill, &auth, draw, draft),
         Verdict::Denied(reason) => denied(reason, draft),

@@ -1,13 +1,9 @@
 //! The page of an item that was just administered.
-ghost use Rattle.std.specs.Prelude.{◌≡◌, ◌++◌, OnOk, codes, decimal};
+ghost use Rattle.std.specs.Prelude.{◌++◌, OnOk, codes, decimal};
 ghost use Rattle.shop_model.specs.declared.page.Block.TheVariants as block;
-ghost use Rattle.shop_model.specs.declared.tables.Tables.{Tables};
-ghost use Rattle.shop_model.specs.lists.Catalogues.{catalogue};
-ghost use Rattle.shop_model.specs.pages.AdminConfirm.{mended_page, mended_text};
+ghost use Rattle.shop_model.specs.pages.AdminConfirm.{mended_text};
 ghost use Rattle.shop_model.specs.pages.PageText.{block_line};
-ghost use Rattle.shop_history.specs.declared.acts.Drawn.{Drawn};
 ghost use Rattle.shop_draft.specs.Drawing.{day_after};
-ghost use Rattle.shop_draft.specs.Pages.{IsPage};
 ghost use Rattle.shop_draft.specs.Templates.{Adds, Says};
 ghost use Rattle.shop_order.specs.AdminConfirm as spec;
 
@@ -57,8 +53,7 @@ pub(crate) fn write_page(
     item: &Item,
     ids: IdsAsked,
 ) -> Result<(), Memory>
-    ensures { OnOk result ((t : Tables) → catalogue t ≡ index.now → (drawn : Drawn)
-        → IsPage draft.new drawn (mended_page t ids (spec.published_at drawn.stamp item.now))) }
+    ensures { OnOk result (spec.IsMendedPage index.now ids item.now draft.new) }
 {
     let ids = PageIds::of(ids);
     draft.status = 200;

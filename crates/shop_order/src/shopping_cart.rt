@@ -3,7 +3,7 @@ ghost use Rattle.std.specs.Prelude.{◌≡◌, ◌++◌, ◌≤◌, ◌≢◌, N
 ghost use Rattle.shop_history.specs.declared.keys.Key.TheVariants as key_kinds;
 ghost use Rattle.shop_attempt.specs.Marks.{Looks};
 ghost use Rattle.shop_browse.specs.Attempts.{AttemptedAs, Suits, asking_of};
-ghost use Rattle.shop_browse.specs.Driver.{IsWhole, IsNext};
+ghost use Rattle.shop_browse.specs.Driver.{IsWhole};
 ghost use Rattle.shop_pricing.specs.Bounds.{AreLines};
 ghost use Rattle.shop_order.specs.ShoppingCart as spec;
 
@@ -143,7 +143,7 @@ fn by_cart(
     requires whole { IsWhole ask.now }
     requires named { spec.IsNamed asked.now.ids.cart (option_copied cart) }
     requires fit { spec.IsFitRead (option_copied cart) }
-    ensures { IfOk result (IsNext (spec.FollowsCart asked.now kept.new ask.now) (Request.CartRequest asked.now) ask.now 1 (spec.cart_reads (option_copied cart.entry)) draft.new) }
+    ensures { IfOk result (spec.IsNextFor asked.now kept.new ask.now (option_copied cart.entry) draft.new) }
 {
     let begun = begin(alloc, ask, asked, cart)?;
     match begun {

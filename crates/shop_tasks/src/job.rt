@@ -2,15 +2,15 @@ ghost use Rattle.std.specs.Prelude.{◌≡◌, IfOk};
 ghost use Rattle.std.specs.Arc.{arc_value};
 ghost use Rattle.shop_engine.specs.Workers.{IsPosted};
 ghost use Rattle.shop_turn.specs.Desks.{seat_of};
+ghost use Rattle.shop_tasks.specs.TaskValues.{caller_of, task_of};
 ghost use Rattle.shop_tasks.specs.Tasks as spec;
 
-use crate::{Raced, Task};
-use shop_browsers::{Browser, Mix};
+use crate::{Errand, Raced, Task};
+use shop_browsers::Browser;
 use shop_drive::drive;
 use shop_edges::{Clock, Job};
 use shop_engine::Worker;
 use shop_gateway::Emulator;
-use shop_model::Scale;
 use shop_search::Index;
 use shop_text::Memory;
 use shop_turn::Desk;
@@ -24,25 +24,17 @@ impl<R: Wait + Drop, C: Clock + Drop> Task<R, C> {
         desk: Desk<R>,
         index: Arc<Index, Global>,
         clock: C,
-        number: u32,
-        seed: u32,
-        scale: Scale,
-        mix: Mix,
-        steps: u32,
+        errand: Errand,
     ) -> Task<R, C>
-        requires { IsPosted (seat_of desk) (arc_value index) (record { number = number; seed = seed; scale = scale }) }
-        ensures { result ≡ record { desk = desk; clock = clock; caller = record { number = number; seed = seed; scale = scale }; mix = mix; steps = steps } }
+        requires { IsPosted (seat_of desk) (arc_value index) (caller_of errand) }
+        ensures { result ≡ task_of desk clock errand }
     {
         Task {
             alloc,
             desk,
             index,
             clock,
-            number,
-            seed,
-            scale,
-            mix,
-            steps,
+            errand,
         }
     }
 }
@@ -62,12 +54,15 @@ impl<R: Wait + Drop + Send + 'static, C: Clock + Drop + Send + 'static> Job for 
             desk,
             index,
             mut clock,
+            errand,
+        } = self;
+        let Errand {
             number,
             seed,
             scale,
             mix,
             steps,
-        } = self;
+        } = errand;
         let worker = Worker::new(alloc, desk, number, seed, scale, index)?;
         let browser = Browser::new(seed, number, mix, &scale);
         drive_one(alloc, worker, &mut clock, browser, steps)

@@ -6,4 +6,4 @@ mod running;
 mod task;
 
 pub use running::{Ran, race};
-pub use task::{Raced, Task};
+pub use task::{Errand, Raced, Task};

@@ -24,20 +24,11 @@ use Rattle.shop_model.specs.rows.Lookups.{row_numbered}
 
 -- whether a request changes rows, where nothing refuses it
 abbrev pub is_changing : Request → Bool
-is_changing (Home asked) = false
-is_changing (NewProducts asked) = false
-is_changing (BestSellers asked) = false
-is_changing (ProductDetail asked) = false
-is_changing (SearchRequest asked) = false
-is_changing (SearchResults asked) = false
 is_changing (CartRequest asked) = true
-is_changing (CustomerRegistration asked) = false
 is_changing (BuyRequest asked) = true
 is_changing (BuyConfirm asked) = true
-is_changing (OrderInquiry asked) = false
-is_changing (OrderDisplay asked) = false
-is_changing (AdminRequest asked) = false
 is_changing (AdminConfirm asked) = true
+is_changing _ = false
 
 -- a row that has to be there
 abbrev pub check_there : {Row : Type 0} → Refusal → Option Row → Option Refusal
@@ -74,14 +65,11 @@ page_for tables (BestSellers asked) draw = Some (best_sellers tables asked.subje
 page_for tables (ProductDetail asked) draw = product_detail tables asked.item asked.ids
 page_for tables (SearchRequest asked) draw = Some (search_request tables asked.ids draw)
 page_for tables (SearchResults asked) draw = Some (search_results tables asked.kind asked.text asked.ids)
-page_for tables (CartRequest asked) draw = None
 page_for tables (CustomerRegistration asked) draw = Some (customer_registration asked.ids (customer_asked tables asked.ids.c))
-page_for tables (BuyRequest asked) draw = None
-page_for tables (BuyConfirm asked) draw = None
 page_for tables (OrderInquiry asked) draw = Some (order_inquiry asked.ids (customer_asked tables asked.ids.c))
 page_for tables (OrderDisplay asked) draw = order_display tables asked.login asked.ids
 page_for tables (AdminRequest asked) draw = admin_request tables asked.item asked.ids
-page_for tables (AdminConfirm asked) draw = None
+page_for tables _ draw = None
 
 -- the page of a refusal, where there is one, or else another
 abbrev pub refused_or : Option Refusal → Option Page → Option Page

@@ -11,7 +11,7 @@ returns-in_default-clause-message g c = (nothing_begun _ _, ap (λ (l : List Poi
 pub returns-then-message-clause-message : goal.returns-then-message-clause-message
 returns-then-message-clause-message g c = (
   _,
-  adds_point c.args.last _ _ c.args.message.now c.in-Some.point _ _ _ c.in-Some.ensures.answers
+  adds_point c.args.turn.now.last _ _ c.args.turn.now.message.now c.in-Some.point _ _ _ c.in-Some.ensures.answers
       (c.add_point.ensures ∙ ap (λ (l : List Point). l ++ c.in-Some.point ∷ []) c.reserve.ensures.items),
   rw c.reply.ensures at (c.write_all.ensures.all c.if-write_all.true),
   c.if-message.true,
@@ -20,7 +20,7 @@ returns-then-message-clause-message g c = (
 pub returns-then-write_all-clause-message : goal.returns-then-write_all-clause-message
 returns-then-write_all-clause-message g c = (
   _,
-  adds_point c.args.last _ _ c.args.message.now c.in-Some.point _ _ _ c.in-Some.ensures.answers
+  adds_point c.args.turn.now.last _ _ c.args.turn.now.message.now c.in-Some.point _ _ _ c.in-Some.ensures.answers
       (c.add_point.ensures ∙ ap (λ (l : List Point). l ++ c.in-Some.point ∷ []) c.reserve.ensures.items),
   rw c.reply.ensures at (c.write_all.ensures.all c.if-write_all.true),
   c.if-message.false,
@@ -29,7 +29,7 @@ returns-then-write_all-clause-message g c = (
 pub returns-clause-message : goal.returns-clause-message
 returns-clause-message g c = (
   _,
-  adds_point c.args.last _ _ c.args.message.now c.in-Some.point _ _ _ c.in-Some.ensures.answers
+  adds_point c.args.turn.now.last _ _ c.args.turn.now.message.now c.in-Some.point _ _ _ c.in-Some.ensures.answers
       (c.add_point.ensures ∙ ap (λ (l : List Point). l ++ c.in-Some.point ∷ []) c.reserve.ensures.items),
   rw c.reply.ensures at (c.write_all.ensures.front c.if-write_all.false),
 )

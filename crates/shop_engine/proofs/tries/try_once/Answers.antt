@@ -33,4 +33,9 @@ try_other-requires-clause-suits g c =
 
 pub returns-in_default-clause-tried : goal.returns-in_default-clause-tried
 returns-in_default-clause-tried g c =
-    c.try_other.ensures.tried _ c.attempt.ensures.looks.looked c.requires.valid c.requires.caller c.attempt.ensures.attempted
+    c.try_other.ensures.tried _ (record {
+      looked = c.attempt.ensures.looks.looked;
+      valid = c.requires.valid;
+      caller = c.requires.caller;
+      made = c.attempt.ensures.attempted;
+    })

@@ -85,11 +85,11 @@ unreachable-requires-in_default-settle g c =
 -- at a page
 
 pub returns-in-Ready-clause-tried : goal.returns-in-Ready-clause-tried
-returns-in-Ready-clause-tried g c start looked valid caller made =
-    let was = subst (AttemptedAs start _ _ _) c.in-Ready.is made in
+returns-in-Ready-clause-tried g c start may =
+    let was = subst (AttemptedAs start _ _ _) c.in-Ready.is may.made in
     unasked _ _ _ _ _ refl refl
-    (λ before has. c.settle_page.ensures.tried _ before looked (record {
-      caller = looked.follows.caller ∙ caller;
+    (λ before has. c.settle_page.ensures.tried _ before may.looked (record {
+      caller = may.looked.follows.caller ∙ may.caller;
       kept = c.args.kept.now;
       asked = has;
       ready = was.ready;
@@ -101,51 +101,51 @@ pub returns-in-Ready-clause-failed : goal.returns-in-Ready-clause-failed
 returns-in-Ready-clause-failed g c failed = absurd (c.settle_page.ensures.never failed)
 
 pub returns-in-Listed-clause-tried : goal.returns-in-Listed-clause-tried
-returns-in-Listed-clause-tried g c start looked valid caller made =
-    unasked _ _ _ _ _ refl refl (λ before has. c.settle_list.ensures.tried _ _ before looked has (subst (AttemptedAs start _ _ _) c.in-Listed.is made))
+returns-in-Listed-clause-tried g c start may =
+    unasked _ _ _ _ _ refl refl (λ before has. c.settle_list.ensures.tried _ _ before may.looked has (subst (AttemptedAs start _ _ _) c.in-Listed.is may.made))
 
 -- at a purchase
 
 pub returns-in-Approved-clause-tried : goal.returns-in-Approved-clause-tried
-returns-in-Approved-clause-tried g c start looked valid caller made =
+returns-in-Approved-clause-tried g c start may =
     asked_once _ _ _ _ _ _ c.in-BuyConfirm.is c.in-Approved.ensures.asks
-    (λ all has. c.settle_page-in-Approved.ensures.tried _ all looked
-    (approved_may _ _ c.args.job.now _ _ _ _ c.in-BuyConfirm.is (subst (AttemptedAs start _ _ _) c.in-Pay.is made) c.in-Approved.attempt all (looked.follows.caller ∙ caller) has c.in-Approved.ensures.paid))
+    (λ all has. c.settle_page-in-Approved.ensures.tried _ all may.looked
+    (approved_may _ _ c.args.job.now _ _ _ _ c.in-BuyConfirm.is (subst (AttemptedAs start _ _ _) c.in-Pay.is may.made) c.in-Approved.attempt all (may.looked.follows.caller ∙ may.caller) has c.in-Approved.ensures.paid))
 
 pub returns-in-Approved-clause-failed : goal.returns-in-Approved-clause-failed
 returns-in-Approved-clause-failed g c failed = absurd (c.settle_page-in-Approved.ensures.never failed)
 
 pub returns-in-Denied-clause-tried : goal.returns-in-Denied-clause-tried
-returns-in-Denied-clause-tried g c start looked valid caller made =
-    let payable = subst (AttemptedAs start _ _ _) c.in-Pay.is made in
+returns-in-Denied-clause-tried g c start may =
+    let payable = subst (AttemptedAs start _ _ _) c.in-Pay.is may.made in
     let denied = paid_is _ _ c.args.job.now _ _ _ _ c.in-BuyConfirm.is payable (paid.Denied c.in-Denied.attempt c.in-Denied.reason) c.in-Denied.ensures.paid in
-    asked_once _ _ _ _ _ _ c.in-BuyConfirm.is c.in-Denied.ensures.asks (λ all has. c.settle_denied.ensures.tried _ _ _ all looked c.in-BuyConfirm.is has denied)
+    asked_once _ _ _ _ _ _ c.in-BuyConfirm.is c.in-Denied.ensures.asks (λ all has. c.settle_denied.ensures.tried _ _ _ all may.looked c.in-BuyConfirm.is has denied)
 
 pub returns-in-Denied-clause-failed : goal.returns-in-Denied-clause-failed
 returns-in-Denied-clause-failed g c failed = absurd (c.settle_denied.ensures.never failed)
 
 pub returns-in-Ok-clause-tried : goal.returns-in-Ok-clause-tried
-returns-in-Ok-clause-tried g c start looked valid caller made =
-    let payable = subst (AttemptedAs start _ _ _) c.in-Pay.is made in
+returns-in-Ok-clause-tried g c start may =
+    let payable = subst (AttemptedAs start _ _ _) c.in-Pay.is may.made in
     let passes = paid_is _ _ c.args.job.now _ _ c.pay.new.draft c.pay.new.kept c.in-BuyConfirm.is payable paid.Failed c.in-Failed.ensures.paid in
     asked_once _ _ _ _ _ _ c.in-BuyConfirm.is c.in-Failed.ensures.asks
-    (λ all has. failed_is _ _ _ _ _ all _ _ looked valid caller c.in-BuyConfirm.is has payable passes c.in-Ok.ensures)
+    (λ all has. failed_is _ _ _ _ _ all _ _ may.looked may.valid may.caller c.in-BuyConfirm.is has payable passes c.in-Ok.ensures)
 
 pub returns-in-Err-clause-tried : goal.returns-in-Err-clause-tried
-returns-in-Err-clause-tried g c start looked valid caller made =
-    asked_once _ _ _ _ _ _ c.in-BuyConfirm.is c.in-Failed.ensures.asks (λ all has. no_room _ _ _ looked)
+returns-in-Err-clause-tried g c start may =
+    asked_once _ _ _ _ _ _ c.in-BuyConfirm.is c.in-Failed.ensures.asks (λ all has. no_room _ _ _ may.looked)
 
 pub returns-in-Memory-pay-clause-tried : goal.returns-in-Memory-pay-clause-tried
-returns-in-Memory-pay-clause-tried g c start looked valid caller made =
-    asked_once _ _ _ _ _ _ c.in-BuyConfirm.is c.in-Memory-pay.ensures.asks (λ all has. no_room _ _ _ looked)
+returns-in-Memory-pay-clause-tried g c start may =
+    asked_once _ _ _ _ _ _ c.in-BuyConfirm.is c.in-Memory-pay.ensures.asks (λ all has. no_room _ _ _ may.looked)
 
 -- at what no shop shows
 
 pub returns-in-Stale-clause-tried : goal.returns-in-Stale-clause-tried
-returns-in-Stale-clause-tried g c start looked valid caller made =
+returns-in-Stale-clause-tried g c start may =
     let settled = c.settle.ensures in
-    let was = subst (AttemptedAs start _ _ _) c.in-Contradiction.is made in
-    unasked _ _ _ _ _ refl refl (λ before has. again_is _ _ _ _ _ _ looked settled.follows settled.settles was.attempts c.in-Stale.ensures.settled)
+    let was = subst (AttemptedAs start _ _ _) c.in-Contradiction.is may.made in
+    unasked _ _ _ _ _ refl refl (λ before has. again_is _ _ _ _ _ _ may.looked settled.follows settled.settles was.attempts c.in-Stale.ensures.settled)
 
 pub returns-in-Memory-clause-tried : goal.returns-in-Memory-clause-tried
-returns-in-Memory-clause-tried g c start looked valid caller made = unasked _ _ _ _ _ refl refl (λ before has. no_room _ _ _ looked)
+returns-in-Memory-clause-tried g c start may = unasked _ _ _ _ _ refl refl (λ before has. no_room _ _ _ may.looked)

@@ -7,9 +7,9 @@ use Rattle.shop_order.proofs.buy_confirm.pay.Goals as goal
 
 pub returns-in-Ok-Approved-clause-paid : goal.returns-in-Ok-Approved-clause-paid
 returns-in-Ok-Approved-clause-paid g c =
-    let ask = c.args.ask.now in
-    let asked = c.args.asked.now in
-    let call = c.args.call in
+    let ask = c.args.paying.now.ask.now in
+    let asked = c.args.paying.now.asked.now in
+    let call = c.args.paying.now.call in
     let draft = c.decide.new.draft in
     let kept = c.decide.new.kept in
     let act = c.in-Ok-Approved.act in
@@ -20,9 +20,9 @@ returns-in-Ok-Approved-clause-paid g c =
 
 pub returns-in-Ok-Denied-clause-paid : goal.returns-in-Ok-Denied-clause-paid
 returns-in-Ok-Denied-clause-paid g c =
-    let ask = c.args.ask.now in
-    let asked = c.args.asked.now in
-    let call = c.args.call in
+    let ask = c.args.paying.now.ask.now in
+    let asked = c.args.paying.now.asked.now in
+    let call = c.args.paying.now.call in
     let draft = c.decide.new.draft in
     let kept = c.decide.new.kept in
     let reason = c.in-Ok-Denied.reason in
@@ -32,9 +32,9 @@ returns-in-Ok-Denied-clause-paid g c =
 
 pub returns-in-Ok-Failed-clause-paid : goal.returns-in-Ok-Failed-clause-paid
 returns-in-Ok-Failed-clause-paid g c =
-    let ask = c.args.ask.now in
-    let asked = c.args.asked.now in
-    let call = c.args.call in
+    let ask = c.args.paying.now.ask.now in
+    let asked = c.args.paying.now.asked.now in
+    let call = c.args.paying.now.call in
     let draft = c.decide.new.draft in
     let kept = c.decide.new.kept in
     paid_failed ask asked call c.args.attempt draft kept
