@@ -32,7 +32,7 @@ use Rattle.shop_book.specs.Planning.{items_in, certain_changes}
 use Rattle.shop_book.proofs.Ascending.{by_test}
 use Rattle.shop_book.proofs.NamedLemmas.{some_found}
 use Rattle.shop_book.proofs.Placed.{has_row}
-use Rattle.shop_book.proofs.StoredLemmas.{set_here}
+use Rattle.shop_book.proofs.Grid.{set_here}
 
 -- each item of some lines has units in them
 

@@ -37,6 +37,8 @@ use Rattle.shop_book.specs.Watching.{MayCome}
 use Rattle.shop_book.specs.RowsNow.{tables_with, HasRoom}
 use Rattle.shop_book.specs.Settles.{IsNext}
 use Rattle.shop_book.specs.Stored.{stored, HasPlaces, MorePlaces}
+use Rattle.shop_book.proofs.Placed.{more_have}
+use Rattle.shop_book.proofs.Fitting.{same_sizes}
 use Rattle.shop_book.specs.Summaries.{cents_in}
 use Rattle.shop_book.proofs.Callers.{entries_mine, entries_theirs}
 use Rattle.shop_book.proofs.Readiness.{are_ready}
@@ -178,7 +180,7 @@ kept_roomy b rows roomy versions wide counts counted lists more_lists cents kept
     record {
       is_book = kept.is_book;
       rows_are = same b.opening.tables ∙ kept.rows_are;
-      places = grind (arith, same b.opening.tables, kept.places, more);
+      places = more_have more (same_sizes b.opening.tables (same b.opening.tables) kept.places);
       versions_are = λ key. same_versions key ∙ kept.versions_are key;
       counts_are = λ caller. same_counts caller ∙ kept.counts_are caller;
       lists_are = same_lists (tables_of b) kept.lists_are;

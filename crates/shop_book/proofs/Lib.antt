@@ -1,11 +1,12 @@
 pub mod cited
 pub mod SaidLemmas
 pub mod NamedLemmas
-pub mod StoredLemmas
+pub mod Grid
 pub mod Readiness
 pub mod WatchingLemmas
 pub mod Placed
 pub mod Sizes
+pub mod Fitting
 pub mod KeptLists
 pub mod Keeping
 pub mod Laws

@@ -31,9 +31,9 @@ use Rattle.shop_book.specs.declared.lists.Lists.{Lists}
 use Rattle.shop_book.specs.declared.rows.Rows.{Rows}
 use Rattle.shop_book.specs.KeptLists.{AreLists}
 use Rattle.shop_book.specs.Mending.{IsMended, IsListedAnew}
-use Rattle.shop_book.specs.Stored.{subject_id}
+use Rattle.shop_book.specs.Places.{subject_id}
 use Rattle.shop_book.proofs.RankedSales.{value_there}
-use Rattle.shop_book.proofs.StoredLemmas.{set_here}
+use Rattle.shop_book.proofs.Grid.{set_here}
 use Rattle.shop_book.proofs.SubjectIds.{there, subject_at_place}
 use Rattle.shop_book.proofs.WatchingLemmas.{key_cases}
 

@@ -1,5 +1,5 @@
 -- Which keys have a place for a version, and when two carts are equal.
-use Rattle.std.proofs.Common.{◌≡◌, ◌≢◌, ℕ, ◌-◌, ◌≤◌, ◌&&◌, Bool, true, List, length, Some, None, nat_eq, refl, sym, ◌∙◌, ap, arith}
+use Rattle.std.proofs.Common.{◌≡◌, ◌≢◌, ℕ, ◌-◌, ◌≤◌, ◌&&◌, Bool, true, List, length, Option, Some, None, nat_eq, refl, sym, ◌∙◌, ap, arith}
 use Rattle.std.specs.Cmp.Lexicographic.{pointwise}
 use Rattle.std.proofs.lemmas.Option.{slice_get_within}
 use lib.Pointwise.{pointwise_decides}
@@ -16,7 +16,8 @@ use Rattle.shop_history.specs.Same.{same}
 use Rattle.shop_history.proofs.cited.Places.{IsThere, is_there}
 use Rattle.shop_book.specs.declared.rows.Rows.{Rows}
 use Rattle.shop_book.specs.declared.versions.Versions.{Versions}
-use Rattle.shop_book.specs.Stored.{HasPlace, HasPlaces, MorePlaces, subject_id}
+use Rattle.shop_book.specs.Places.{place_of}
+use Rattle.shop_book.specs.Stored.{HasPlace, HasPlaceIn, HasPlaces, MorePlaces}
 use Rattle.shop_book.specs.RowsNow.{tables_with}
 use Rattle.shop_book.specs.Watching.{CanWatch, IsWatchable}
 
@@ -25,25 +26,25 @@ has_row rows id x is =
     let there : IsThere rows id x = is_there rows id x is in
     record { first = there.above; last = omega (arith, slice_get_within rows (id - 1) x there.at, there.above) }
 
-more_places : (size more id : ℕ) → size ≤ more → Has size id → Has more id
+pub more_places : (size more id : ℕ) → size ≤ more → Has size id → Has more id
 more_places size more id longer has = record { first = has.first; last = omega (arith, has.last, longer) }
+
+pub same_places : {v : Versions} → MorePlaces v v
+same_places = record { long = refl; each = λ column. omega arith }
+
+pub then_more : {old mid new : Versions} → MorePlaces old mid → MorePlaces mid new → MorePlaces old new
+then_more first next = record { long = next.long ∙ first.long; each = λ column. omega (arith, first.each column, next.each column) }
+
+pub more_have : {v w : Versions} {rows : Rows} → MorePlaces v w → HasPlaces v rows → HasPlaces w rows
+more_have more has = record { long = more.long ∙ has.long; each = λ column. omega (arith, more.each column, has.each column) }
 
 -- a key keeps its place
 pub more_place : (old new : Versions) (k : Key) → MorePlaces old new → HasPlace old k → HasPlace new k
-more_place old new (key.TheVariants.Item id) more has = more_places _ _ id more.items has
-more_place old new (key.TheVariants.Label id) more has = absurd has
-more_place old new (key.TheVariants.Customer id) more has = more_places _ _ id more.customers has
-more_place old new (key.TheVariants.Cart id) more has = more_places _ _ id more.carts has
-more_place old new (key.TheVariants.NewIn subject) more has = more_places _ _ (subject_id subject) (omega (arith, more.new_in)) has
-more_place old new (key.TheVariants.BestIn subject) more has = more_places _ _ (subject_id subject) (omega (arith, more.best_in)) has
-more_place old new (key.TheVariants.Buyers item) more has = more_places _ _ item more.buyers has
-more_place old new (key.TheVariants.Bought customer) more has = more_places _ _ customer more.bought has
-more_place old new (key.TheVariants.Name user) more has = tt
-more_place old new (key.TheVariants.Address id) more has = more_places _ _ id more.addresses has
-more_place old new (key.TheVariants.SameAddress text) more has = tt
-more_place old new (key.TheVariants.Country id) more has = absurd has
-more_place old new (key.TheVariants.Order id) more has = more_places _ _ id more.orders has
-more_place old new (key.TheVariants.LastOrder customer) more has = more_places _ _ customer more.last_orders has
+more_place old new k more has = by (place_of k) has
+  where
+    by : (o : Option (ℕ × ℕ)) → HasPlaceIn old k o → HasPlaceIn new k o
+    by None is = is
+    by (Some place) is = more_places _ _ place.1 (more.each place.0) is
 
 -- a row that is shown is one of so many
 shown_has : {A : Type 0} (make : A → Row) (rows : List A) (id size : ℕ) → length rows ≤ size → shown make (row_numbered rows id) ≢ row.Absent → Has size id
@@ -55,10 +56,10 @@ shown_has make rows id size few is_shown =
 
 -- a watched key that shows a row has a place
 pub place_shown : (v : Versions) (rows : Rows) (t : Tables) (k : Key) → IsWatchable k → HasPlaces v rows → row_of (tables_with t rows) k ≢ row.Absent → HasPlace v k
-place_shown v rows t (key.TheVariants.Item id) kind places is_shown = shown_has row.Item rows.items.items id _ places.items is_shown
-place_shown v rows t (key.TheVariants.Customer id) kind places is_shown = shown_has row.Customer rows.customers.items id _ places.customers is_shown
-place_shown v rows t (key.TheVariants.Cart id) kind places is_shown = shown_has row.Cart rows.carts.items id _ places.carts is_shown
-place_shown v rows t (key.TheVariants.Address id) kind places is_shown = shown_has row.Address rows.addresses.rows id _ places.addresses is_shown
+place_shown v rows t (key.TheVariants.Item id) kind places is_shown = shown_has row.Item rows.items.items id _ (places.each 0) is_shown
+place_shown v rows t (key.TheVariants.Customer id) kind places is_shown = shown_has row.Customer rows.customers.items id _ (places.each 2) is_shown
+place_shown v rows t (key.TheVariants.Cart id) kind places is_shown = shown_has row.Cart rows.carts.items id _ (places.each 3) is_shown
+place_shown v rows t (key.TheVariants.Address id) kind places is_shown = shown_has row.Address rows.addresses.rows id _ (places.each 8) is_shown
 place_shown v rows t (key.TheVariants.Name user) kind places is_shown = tt
 place_shown v rows t (key.TheVariants.SameAddress text) kind places is_shown = tt
 place_shown v rows t _ kind places is_shown = absurd kind

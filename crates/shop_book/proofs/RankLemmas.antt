@@ -15,7 +15,7 @@ use Rattle.shop_history.specs.declared.keys.Key.TheVariants as key
 use Rattle.shop_history.specs.MayChange.{items_of}
 use Rattle.shop_ranking.specs.StandingBest.{Units}
 use Rattle.shop_book.specs.Sales.{AreThere, Bumps, IsRenewed, Renews, subject_in}
-use Rattle.shop_book.specs.Stored.{subject_id}
+use Rattle.shop_book.specs.Places.{subject_id}
 use Rattle.shop_book.proofs.Ascending.{by_test}
 use Rattle.shop_book.proofs.SubjectIds.{subject_at_place}
 

@@ -25,7 +25,7 @@ use Rattle.shop_history.proofs.SaleFrame.{contains_map, any_contains, none_units
 use Rattle.shop_history.proofs.WindowFrame.{window_sum}
 use Rattle.shop_ranking.specs.StandingBest.{Units, AreSoldLately, standing_best}
 use Rattle.shop_ranking.proofs.cited.Standing.{standing_best_is}
-use Rattle.shop_book.specs.Stored.{subject_id}
+use Rattle.shop_book.specs.Places.{subject_id}
 use Rattle.shop_book.specs.Sales.{Bumps, Renews, IsRenewed, subject_in, subjects_in, gone_items, gone_subjects}
 use Rattle.shop_book.proofs.Ascending.{by_test}
 use Rattle.shop_book.proofs.KeptLists.{sold_is}
@@ -64,19 +64,7 @@ a_subject one other same = cc
 -- keys of best sold items, and others
 by_kind : (k : Key) → ((s : Subject) × (k ≡ key.BestIn s)) ⊎ ((s : Subject) → k ≢ key.BestIn s)
 by_kind (key.BestIn s) = inl (s, refl)
-by_kind (key.Item id) = inr (λ s same. absurd cc)
-by_kind (key.Label id) = inr (λ s same. absurd cc)
-by_kind (key.Customer id) = inr (λ s same. absurd cc)
-by_kind (key.Cart id) = inr (λ s same. absurd cc)
-by_kind (key.NewIn subject) = inr (λ s same. absurd cc)
-by_kind (key.Buyers item) = inr (λ s same. absurd cc)
-by_kind (key.Bought customer) = inr (λ s same. absurd cc)
-by_kind (key.Name user) = inr (λ s same. absurd cc)
-by_kind (key.Address id) = inr (λ s same. absurd cc)
-by_kind (key.SameAddress text) = inr (λ s same. absurd cc)
-by_kind (key.Country id) = inr (λ s same. absurd cc)
-by_kind (key.Order id) = inr (λ s same. absurd cc)
-by_kind (key.LastOrder customer) = inr (λ s same. absurd cc)
+by_kind _ = inr (λ s same. absurd cc)
 
 module _ (t : Tables) (sound : Sound t) (order : OrderRow) where
   abbrev after : Tables

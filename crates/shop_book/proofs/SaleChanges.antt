@@ -30,7 +30,7 @@ use Rattle.shop_book.specs.KeptLists.{AreLists}
 use Rattle.shop_book.specs.Planning.{items_in, certain_changes}
 use Rattle.shop_book.specs.RowsNow.{tables_with}
 use Rattle.shop_book.specs.Sales.{IsSale}
-use Rattle.shop_book.specs.Stored.{HasPlace, HasPlaces}
+use Rattle.shop_book.specs.Stored.{numbers, HasPlace, HasPlaces}
 use Rattle.shop_book.proofs.CertainChanges.{certain_differ}
 use Rattle.shop_book.proofs.KeptLists.{best_same, newest_same, lists_same}
 use Rattle.shop_book.proofs.Placed.{has_row}
@@ -54,20 +54,12 @@ module _ (t : Tables) (sound : Sound t) (asked : PurchaseAsked) (stamp draw : �
 
   -- an order more shows of most keys what the purchase does, and of the others what there was
   row_same : (k : Key) → (row_of bought k ≡ row_of sold k) ⊎ (row_of sold k ≡ row_of t k)
-  row_same (key.Item id) = inl refl
-  row_same (key.Label id) = inl refl
-  row_same (key.Customer id) = inl refl
   row_same (key.Cart id) = inr refl
   row_same (key.NewIn subject) = inl (ap row.Items (newest_same sold bought refl refl subject))
   row_same (key.BestIn subject) = inl (ap row.Items (best_same sold bought refl refl subject))
-  row_same (key.Buyers item) = inl refl
-  row_same (key.Bought customer) = inl refl
-  row_same (key.Name user) = inl refl
   row_same (key.Address id) = inr refl
   row_same (key.SameAddress text) = inr refl
-  row_same (key.Country id) = inl refl
-  row_same (key.Order id) = inl refl
-  row_same (key.LastOrder customer) = inl refl
+  row_same _ = inl refl
 
   abbrev IsListed : Key → Type 0
   IsListed k = row_of bought k ≡ row_of sold k
@@ -155,22 +147,22 @@ module _ (t : Tables) (sound : Sound t) (asked : PurchaseAsked) (stamp draw : �
         (All-cons (HasPlace v) (key.LastOrder asked.c) (map key.Item (items_in t asked.cart) ++ ship_changes t asked.address) last_place
         (All-append (HasPlace v) (map key.Item (items_in t asked.cart)) (ship_changes t asked.address) item_places (ship_places asked.address refl))))
       where
-        cart_place : Has (length v.carts.items) asked.cart
+        cart_place : HasPlace v (key.Cart asked.cart)
         cart_place =
             let has = has_row t.carts asked.cart cart basket in
             let long : length rows.carts.items ≡ length t.carts = ap (λ (u : Tables). length u.carts) are ∙ length-set t.carts (asked.cart - 1) (record { id = asked.cart; lines = [] }) in
-            record { first = has.first; last = omega (arith, has.last, long, places.carts) }
+            record { first = has.first; last = omega (arith, has.last, long, places.each 3) }
 
-        order_place : Has (length v.orders.items) (length t.orders + 1)
+        order_place : HasPlace v (key.Order (length t.orders + 1))
         order_place =
             let long : length rows.orders.items ≡ length t.orders + 1 = ap (λ (u : Tables). length u.orders) are ∙ length-append t.orders (order ∷ []) in
-            record { first = omega arith; last = omega (arith, long, places.orders) }
+            record { first = omega arith; last = omega (arith, long, places.each 10) }
 
-        last_place : Has (length v.last_orders.items) asked.c
+        last_place : HasPlace v (key.LastOrder asked.c)
         last_place =
             let has = has_row t.customers asked.c customer buys in
             let long : length rows.customers.items ≡ length t.customers = ap (λ (u : Tables). length u.customers) are in
-            record { first = has.first; last = omega (arith, has.last, long, places.last_orders) }
+            record { first = has.first; last = omega (arith, has.last, long, places.each 11) }
 
         item_places : All (HasPlace v) (map key.Item (items_in t asked.cart))
         item_places =
@@ -179,8 +171,8 @@ module _ (t : Tables) (sound : Sound t) (asked : PurchaseAsked) (stamp draw : �
             = subst (All (λ (l : ℕ × ℕ). Has (length t.items) l.0)) (sym (ap (λ (c : Option CartRow). unwrap_or (option_map (λ (c : CartRow). c.lines) c) []) basket))
             (all_numbered (λ (c : CartRow). All (λ l. Has (length t.items) l.0) c.lines) t.carts asked.cart cart basket sound.names.carts) in
             All-map (HasPlace v) key.Item (items_in t asked.cart)
-            (All-map (λ item. Has (length v.items.items) item) (λ (l : ℕ × ℕ). l.0) (unwrap_or (lines_named t.carts (Some asked.cart)) [])
-            (λ k d within. let has = there k d within in record { first = has.first; last = omega (arith, has.last, long, places.items) }))
+            (All-map (λ item. Has (length (numbers v 0)) item) (λ (l : ℕ × ℕ). l.0) (unwrap_or (lines_named t.carts (Some asked.cart)) [])
+            (λ k d within. let has = there k d within in record { first = has.first; last = omega (arith, has.last, long, places.each 0) }))
 
         ship_places : (address : Option AddressText) → asked.address ≡ address → All (HasPlace v) (ship_changes t address)
         ship_places None given = All-nil (HasPlace v)
@@ -193,5 +185,5 @@ module _ (t : Tables) (sound : Sound t) (asked : PurchaseAsked) (stamp draw : �
                 let long : length rows.addresses.rows ≡ length t.addresses + 1
                 = ap (λ (u : Tables). length u.addresses) are ∙ ap (λ (a : Option AddressText). length (ship_addresses t a)) given ∙ ap (λ (o : Option Address). length (addresses_with t.addresses text o)) is
                 ∙ length-append t.addresses (new ∷ []) in
-                All-cons (HasPlace v) (key.Address (length t.addresses + 1)) (key.SameAddress text ∷ []) (record { first = omega arith; last = omega (arith, long, places.addresses) })
+                All-cons (HasPlace v) (key.Address (length t.addresses + 1)) (key.SameAddress text ∷ []) (record { first = omega arith; last = omega (arith, long, places.each 8) })
                 (All-cons (HasPlace v) (key.SameAddress text) [] tt (All-nil (HasPlace v)))

@@ -8,7 +8,7 @@ use Rattle.shop_model.specs.declared.subject.Subject.{Subject}
 use Rattle.shop_model.specs.declared.subject.Subject.TheVariants as subject
 use Rattle.shop_model.specs.rows.Sound.{Has}
 use Rattle.shop_model.specs.rows.Subjects.{subjects, subject_name}
-use Rattle.shop_book.specs.Stored.{subject_id}
+use Rattle.shop_book.specs.Places.{subject_id}
 
 pub there : (s : Subject) → slice_get subjects (subject_id s - 1) ≡ Some s
 unfolding subjects subject_name subject_id

@@ -26,7 +26,7 @@ use Rattle.shop_book.specs.declared.versions.Versions.{Versions}
 use Rattle.shop_book.specs.Planning.{MovesNoList}
 use Rattle.shop_book.specs.RowsNow.{tables_with}
 use Rattle.shop_book.specs.Changing.{RaisesAll}
-use Rattle.shop_book.specs.Stored.{stored, HasSpare, SpareFor, SparesFor, SparesOne}
+use Rattle.shop_book.specs.Stored.{stored, HasSpare, SpareFor}
 use Rattle.shop_book.specs.Watching.{IsWatchable, keys_of, RaisesOne}
 use Rattle.shop_log.proofs.cited.Codes.{decided_by}
 
@@ -109,25 +109,6 @@ pub spare_one : (k : Key) (v : Versions) → HasSpare v 1 → SpareFor k v
 spare_one (key.Name user) v spare = spare
 spare_one (key.SameAddress text) v spare = spare
 spare_one _ v spare = tt
-
-less_spare : (v : Versions) (more : ℕ) → HasSpare v (more + 1) → HasSpare v more
-less_spare v more spare = grind (arith, spare)
-
-pub spares_one : (k : Key) (old new : Versions) → SparesFor k old new → SparesOne old new
-spares_one (key.Name user) old new spares = spares
-spares_one (key.SameAddress text) old new spares = spares
-spares_one (key.Item id) old new spares = λ more room. spares more (less_spare old more room)
-spares_one (key.Label id) old new spares = λ more room. spares more (less_spare old more room)
-spares_one (key.Customer id) old new spares = λ more room. spares more (less_spare old more room)
-spares_one (key.Cart id) old new spares = λ more room. spares more (less_spare old more room)
-spares_one (key.NewIn subject) old new spares = λ more room. spares more (less_spare old more room)
-spares_one (key.BestIn subject) old new spares = λ more room. spares more (less_spare old more room)
-spares_one (key.Buyers item) old new spares = λ more room. spares more (less_spare old more room)
-spares_one (key.Bought customer) old new spares = λ more room. spares more (less_spare old more room)
-spares_one (key.Address id) old new spares = λ more room. spares more (less_spare old more room)
-spares_one (key.Country id) old new spares = λ more room. spares more (less_spare old more room)
-spares_one (key.Order id) old new spares = λ more room. spares more (less_spare old more room)
-spares_one (key.LastOrder customer) old new spares = λ more room. spares more (less_spare old more room)
 
 -- the keys of one more
 pub keys_more : (watched : List Watched) (kept : Watched) → keys_of (watched ++ kept ∷ []) ≡ keys_of watched ++ kept.key ∷ []

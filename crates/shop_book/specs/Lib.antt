@@ -8,6 +8,8 @@ pub mod RowsNow
 pub mod Puts
 pub mod Readiness
 pub mod Sizes
+pub mod Columns
+pub mod Places
 pub mod Stored
 pub mod Counted
 pub mod Watching

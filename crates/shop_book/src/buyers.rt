@@ -4,7 +4,7 @@ ghost use Rattle.shop_model.specs.rows.Limits.{lines_limit};
 ghost use Rattle.shop_model.specs.rows.Sound.{Has, HasLines, units_in};
 ghost use Rattle.shop_history.specs.MayChange.{items_of};
 ghost use Rattle.shop_book.specs.Sales as spec;
-ghost use Rattle.shop_book.specs.Stored.{stored, MorePlaces};
+ghost use Rattle.shop_book.specs.Stored.{stored, numbers, MorePlaces};
 
 use crate::versions::Versions;
 use shop_history::Key;
@@ -19,7 +19,7 @@ pub(crate) fn raise_buyers(
     versions: &mut Versions,
     number: u64,
 )
-    requires { spec.AreThere (length versions.old.buyers.items) order.now }
+    requires { spec.AreThere (length (numbers versions.old 6)) order.now }
     ensures raised { spec.RaisesBuyers (spec.has_bought recent.now.kept order.now.customer) (items_of order.now) number (stored versions.old) (stored versions.new) }
     ensures places { MorePlaces versions.old versions.new }
 {
@@ -79,9 +79,9 @@ pub(crate) fn raise_bought(
     number: u64,
 )
     requires lines { HasLines coming.now }
-    requires customer { Has (length versions.old.bought.items) coming.now.customer }
+    requires customer { Has (length (numbers versions.old 7)) coming.now.customer }
     requires gone { IfSome gone (λ order. HasLines order.now) }
-    requires other { IfSome gone (λ order. Has (length versions.old.bought.items) order.now.customer) }
+    requires other { IfSome gone (λ order. Has (length (numbers versions.old 7)) order.now.customer) }
     ensures raised { spec.RaisesBought (spec.BuysElse coming.now (option_map (λ order. order.now) gone.entry)) number (stored versions.old) (stored versions.new) }
     ensures places { MorePlaces versions.old versions.new }
 {

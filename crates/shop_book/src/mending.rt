@@ -1,6 +1,6 @@
 //! The lists that are kept, where an item is administered: it is published anew, and the newest items of
 //! its subject are listed anew.
-ghost use Rattle.std.specs.Prelude.{◌≡◌, ℕ, ◌-◌, ◌∷◌, [], length, set, get_or};
+ghost use Rattle.std.specs.Prelude.{◌≡◌, ◌≤◌, ℕ, ◌-◌, ◌∷◌, [], length, set, get_or};
 ghost use Rattle.shop_model.specs.asked.AdminAsked.{AdminAsked};
 ghost use Rattle.shop_model.specs.declared.tables.Tables.{Tables};
 ghost use Rattle.shop_model.specs.rows.Subjects.{subjects};
@@ -11,7 +11,8 @@ ghost use Rattle.shop_history.proofs.cited.Versions.{RaisedFor};
 ghost use Rattle.shop_ranking.specs.StandingNewest.{standing_newest};
 ghost use Rattle.shop_book.specs.KeptLists.{AreLists};
 ghost use Rattle.shop_book.specs.Mending as spec;
-ghost use Rattle.shop_book.specs.Stored.{stored, subject_id, HasPlaces, MorePlaces};
+ghost use Rattle.shop_book.specs.Places.{subject_id};
+ghost use Rattle.shop_book.specs.Stored.{stored, numbers, HasPlaces, MorePlaces};
 
 use crate::listing::Listing;
 use crate::lists::Lists;
@@ -31,7 +32,7 @@ fn renew_newest(
     number: u64,
 )
     requires size { length lists.old.items ≡ length subjects }
-    requires place { length versions.old.new_in.items ≡ 24 }
+    requires place { 24 ≤ length (numbers versions.old 4) }
     ensures lists { lists.new.items ≡ set lists.old.items (subject_id subject - 1) (standing_newest newest.now subject) }
     ensures renewed { spec.IsListedAnew (get_or lists.old.items (subject_id subject - 1) []) (standing_newest newest.now subject) number subject (stored versions.old) (stored versions.new) }
     ensures places { MorePlaces versions.old versions.new }

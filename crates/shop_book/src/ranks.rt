@@ -1,5 +1,5 @@
 //! The ranks of the items of an order that comes or no longer counts.
-ghost use Rattle.std.specs.Prelude.{◌≡◌, ℕ, ◌++◌, ◌∷◌, [], List, length};
+ghost use Rattle.std.specs.Prelude.{◌≡◌, ◌≤◌, ℕ, ◌++◌, ◌∷◌, [], List, length};
 ghost use Rattle.shop_model.specs.declared.subject.Subject.{Subject};
 ghost use Rattle.shop_model.specs.lists.Related.{units_in_orders};
 ghost use Rattle.shop_model.specs.rows.Subjects.{subjects};
@@ -7,7 +7,7 @@ ghost use Rattle.shop_history.specs.declared.keys.Key.{Key};
 ghost use Rattle.shop_history.specs.MayChange.{items_of};
 ghost use Rattle.shop_ranking.specs.StandingBest.{Units, standing_best};
 ghost use Rattle.shop_book.specs.Sales as spec;
-ghost use Rattle.shop_book.specs.Stored.{stored, MorePlaces};
+ghost use Rattle.shop_book.specs.Stored.{stored, numbers, MorePlaces};
 
 use crate::listing::Listing;
 use crate::versions::Versions;
@@ -37,7 +37,7 @@ fn renew_list(
     number: u64,
 )
     requires size { length lists.old.items ≡ length subjects }
-    requires place { length versions.old.best_in.items ≡ 24 }
+    requires place { 24 ≤ length (numbers versions.old 5) }
     ensures renewed { (was : Subject → List ℕ) → (old : Key → ℕ) → (done : List Subject) → spec.Renews was (standing_best best.now) number done lists.old.items old (stored versions.old)
         → spec.Renews was (standing_best best.now) number (done ++ subject ∷ []) lists.new.items old (stored versions.new) }
     ensures size { length lists.new.items ≡ length lists.old.items }
@@ -60,7 +60,7 @@ pub(crate) fn renew_lists(
 )
     requires size { length lists.old.items ≡ length subjects }
     requires items { spec.AreThere (length items.now) order.now }
-    requires place { length versions.old.best_in.items ≡ 24 }
+    requires place { 24 ≤ length (numbers versions.old 5) }
     ensures renewed { (was : Subject → List ℕ) → (old : Key → ℕ) → (done : List Subject) → spec.Renews was (standing_best best.now) number done lists.old.items old (stored versions.old)
         → spec.Renews was (standing_best best.now) number (done ++ spec.subjects_in items.now order.now) lists.new.items old (stored versions.new) }
     ensures places { MorePlaces versions.old versions.new }

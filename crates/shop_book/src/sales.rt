@@ -17,7 +17,7 @@ ghost use Rattle.shop_ranking.specs.StandingBest.{Units, standing_best};
 ghost use Rattle.shop_window.specs.Windows as windows;
 ghost use Rattle.shop_book.specs.KeptLists.{AreLists, HasRoom, IsAdmitted};
 ghost use Rattle.shop_book.specs.Sales as spec;
-ghost use Rattle.shop_book.specs.Stored.{stored, HasPlaces, MorePlaces};
+ghost use Rattle.shop_book.specs.Stored.{stored, numbers, HasPlaces, MorePlaces};
 
 use crate::buyers::{raise_bought, raise_buyers};
 use crate::listing::Listing;
@@ -78,7 +78,7 @@ fn renew_gone(
 )
     requires size { length lists.old.items ≡ length subjects }
     requires items { IfSome gone (λ order. spec.AreThere (length items.now) order.now) }
-    requires place { length versions.old.best_in.items ≡ 24 }
+    requires place { 24 ≤ length (numbers versions.old 5) }
     ensures renewed { (was : Subject → List ℕ) → (old : Key → ℕ) → (done : List Subject) → spec.Renews was (standing_best best.now) number done lists.old.items old (stored versions.old)
         → spec.Renews was (standing_best best.now) number (done ++ spec.gone_subjects items.now (option_map (λ order. order.now) gone.entry)) lists.new.items old (stored versions.new) }
     ensures places { MorePlaces versions.old versions.new }
@@ -95,7 +95,7 @@ fn raise_gone(
     versions: &mut Versions,
     number: u64,
 )
-    requires { IfSome gone (λ order. spec.AreThere (length versions.old.buyers.items) order.now) }
+    requires { IfSome gone (λ order. spec.AreThere (length (numbers versions.old 6)) order.now) }
     ensures raised { spec.RaisesGone recent.now.kept (option_map (λ order. order.now) gone.entry) number (stored versions.old) (stored versions.new) }
     ensures places { MorePlaces versions.old versions.new }
 {

@@ -4,9 +4,9 @@ use Rattle.shop_model.specs.rows.Sound.{Has}
 use Rattle.shop_history.specs.declared.keys.Key.TheVariants as key
 use Rattle.shop_book.specs.declared.versions.Versions.{Versions}
 use Rattle.shop_book.specs.Sales.{RaisesBuyers, has_bought}
-use Rattle.shop_book.specs.Stored.{stored}
+use Rattle.shop_book.specs.Stored.{stored, numbers}
 use Rattle.shop_book.proofs.BuyerLemmas.{buyers_none, buyers_raised, buyers_left}
-use Rattle.shop_book.proofs.Placed.{more_place}
+use Rattle.shop_book.proofs.Placed.{same_places, then_more, more_place}
 use Rattle.shop_book.proofs.RankLemmas.{items_more, items_all, item_there}
 use Rattle.shop_book.proofs.buyers.raise_buyers.Goals as goal
 use Rattle.shop_book.proofs.buyers.raise_buyers.Goals.{then-not-has, else-not-has}
@@ -15,12 +15,12 @@ pub raise-requires-clause-place : goal.raise-requires-clause-place
 raise-requires-clause-place c =
     let item : c.line-item.result.item ≡ c.line.inside.item = sym (ap (λ (l : LineRow). l.item) c.line.view_is) in
     more_place c.args.versions.now c.loop-line.versions (key.Buyers c.line.inside.item) c.loop-line.invariant.places
-    (subst (Has (length c.args.versions.now.buyers.items)) item
-    (item_there (length c.args.versions.now.buyers.items) c.args.order.now c.as_slice-line-items.result.now c.loop-line.line-index c.line-item.result c.requires (c.as_slice-line-items.ensures ∙ ap (λ (o : OrderRow). o.lines) c.order.view_is) c.loop-line-test.true c.line-item.is))
+    (subst (Has (length (numbers c.args.versions.now 6))) item
+    (item_there (length (numbers c.args.versions.now 6)) c.args.order.now c.as_slice-line-items.result.now c.loop-line.line-index c.line-item.result c.requires (c.as_slice-line-items.ensures ∙ ap (λ (o : OrderRow). o.lines) c.order.view_is) c.loop-line-test.true c.line-item.is))
 
 pub loop-line-init : goal.loop-line-init
 loop-line-init c = record {
-  places = grind arith;
+  places = same_places;
   raised = buyers_none (has_bought c.args.recent.now.kept c.args.order.now.customer) c.args.number (stored c.args.versions.now);
 }
 
@@ -39,7 +39,7 @@ loop-line-preserved c =
     elim c.if-not-has.branch [
       | then-not-has w ↦
           record {
-            places = rw w.versions-is (grind (arith, w.raise.ensures.places, c.loop-line.invariant.places));
+            places = rw w.versions-is (then_more c.loop-line.invariant.places w.raise.ensures.places);
             raised =
                 subst (λ (v : Versions). RaisesBuyers has (map (λ (l : LineRow). l.item) (take (i + 1) lines)) c.args.number (stored c.args.versions.now) (stored v)) (sym w.versions-is)
                 (subst (λ (all : List ℕ). RaisesBuyers has all c.args.number (stored c.args.versions.now) (stored w.raise.new.self)) items

@@ -12,6 +12,7 @@ use Rattle.shop_book.specs.declared.ids.Sizes.{Sizes}
 use Rattle.shop_book.specs.Sizes.{ids_behind}
 use Rattle.shop_book.specs.Stored.{stored}
 use Rattle.shop_book.proofs.Sizes.{FewMore, few_more}
+use Rattle.shop_book.proofs.Fitting.{few_sizes, room_for}
 use Rattle.shop_book.proofs.Doing.{done_of, watchable_done}
 use Rattle.shop_book.proofs.WatchingLemmas.{raised_from}
 use Rattle.shop_book.proofs.changes.change_rows.Goals as goal
@@ -21,20 +22,10 @@ pub grow-requires : goal.grow-requires
 grow-requires c =
     let few : FewMore (tables_with no_tables c.args.rows.now) (tables_with no_tables c.put_all.new.self) (length c.args.puts.items)
     = subst (λ u. FewMore (tables_with no_tables c.args.rows.now) u (length c.args.puts.items)) (sym (c.put_all.ensures no_tables)) (few_more (tables_with no_tables c.args.rows.now) c.args.stamp c.args.puts.items) in
-    grind (
-      arith,
-      few,
-      c.requires.places,
-      c.requires.room,
-      c.args.versions.now.items.ok,
-      c.args.versions.now.customers.ok,
-      c.args.versions.now.carts.ok,
-      c.args.versions.now.addresses.ok,
-      c.args.versions.now.orders.ok,
-      c.args.versions.now.last_orders.ok,
-      c.args.versions.now.buyers.ok,
-      c.args.versions.now.bought.ok,
-    )
+    record {
+      long = c.requires.places.long;
+      each = λ column. room_for c.args.versions.now c.args.rows.now c.put_all.new.self (length c.args.puts.items) c.requires.places c.requires.room (few_sizes c.args.rows.now c.put_all.new.self (length c.args.puts.items) few) column;
+    }
 
 -- the change is done once the writes were made
 done : (c : After-put_all) (t : Tables) (a : Act) → IsChange t a c.args.rows.now c.args.lists.now c.args.plan c.args.stamp c.args.puts.items → IsDone t a c.args.stamp c.put_all.new.self c.args.lists.now c.args.plan

@@ -6,8 +6,8 @@ use Rattle.std.proofs.lemmas.List.Elements.{All-head, All-tail}
 use Rattle.shop_history.specs.declared.keys.Key.{Key}
 use Rattle.shop_book.specs.Changing.{RaisesAll}
 use Rattle.shop_book.specs.Stored.{stored, HasPlace, HasSpare}
-use Rattle.shop_book.proofs.Placed.{more_place}
-use Rattle.shop_book.proofs.WatchingLemmas.{all_more, spare_one, spares_one}
+use Rattle.shop_book.proofs.Placed.{more_place, then_more}
+use Rattle.shop_book.proofs.WatchingLemmas.{all_more, spare_one}
 use Rattle.shop_book.proofs.changes.raise_all.Goals as goal
 
 pub raise-requires-clause-place : goal.raise-requires-clause-place
@@ -27,8 +27,8 @@ loop-key-preserved c =
     let is = c.in-Some.ensures.steps.0 in
     record {
       all = append_assoc c.loop-key.yielded (key ∷ []) rest ∙ ap (λ (l : List Key). c.loop-key.yielded ++ l) (sym is) ∙ c.loop-key.invariant.all;
-      places = grind (arith, c.raise.ensures.places, c.loop-key.invariant.places);
-      spare = spares_one key c.loop-key.versions c.raise.new.self c.raise.ensures.spare (length rest) (rw (is, ← add-one) at c.loop-key.invariant.spare);
+      places = then_more c.loop-key.invariant.places c.raise.ensures.places;
+      spare = c.raise.ensures.spare (length rest) (rw (is, ← add-one) at c.loop-key.invariant.spare);
       left = All-tail (HasPlace c.args.versions.now) key rest (subst (All (HasPlace c.args.versions.now)) is c.loop-key.invariant.left);
       raised = all_more c.args.number c.loop-key.yielded key (stored c.args.versions.now) (stored c.loop-key.versions) (stored c.raise.new.self) c.loop-key.invariant.raised c.raise.ensures.here c.raise.ensures.others;
     }

@@ -3,7 +3,8 @@ use Rattle.std.proofs.lemmas.List.{get_or_default}
 use Rattle.std.proofs.lemmas.Option.{slice_get_within}
 use Rattle.shop_model.specs.rows.Sound.{Has}
 use Rattle.shop_model.specs.rows.Subjects.{subjects}
-use Rattle.shop_book.specs.Stored.{subject_id}
+use Rattle.shop_book.specs.Places.{subject_id}
+use Rattle.shop_book.proofs.Placed.{more_places}
 use Rattle.shop_book.proofs.SubjectIds.{subject_has, subject_at_place}
 use Rattle.shop_book.proofs.mending.renew_newest.Goals as goal
 use Rattle.shop_book.proofs.mending.renew_newest.Goals.{After-renew}
@@ -24,7 +25,7 @@ lists_are : (c : After-renew) → set c.args.lists.now.items c.number.result c.r
 lists_are c = ap (λ n. set c.args.lists.now.items n c.renew.new.self) (place_is c)
 
 pub raise-requires-clause-place : goal.raise-requires-clause-place
-raise-requires-clause-place c = subst (λ (n : ℕ). Has n (subject_id c.args.subject)) (sym c.requires.place) (subject_has c.args.subject)
+raise-requires-clause-place c = more_places _ _ (subject_id c.args.subject) c.requires.place (subject_has c.args.subject)
 
 pub returns-then-renew-clause-lists : goal.returns-then-renew-clause-lists
 returns-then-renew-clause-lists c = lists_are (goal.at.returns-then-renew-clause-lists c).After-renew ∙ ap (set c.args.lists.now.items (subject_id c.args.subject - 1)) c.renew.ensures.list

@@ -4,8 +4,10 @@ use Rattle.std.proofs.lemmas.Option.{slice_get_within}
 use Rattle.shop_model.specs.rows.Sound.{Has}
 use Rattle.shop_model.specs.rows.Subjects.{subjects}
 use Rattle.shop_ranking.specs.StandingBest.{standing_best}
-use Rattle.shop_book.specs.Stored.{stored, subject_id}
+use Rattle.shop_book.specs.Places.{subject_id}
+use Rattle.shop_book.specs.Stored.{stored}
 use Rattle.shop_book.proofs.RankLemmas.{renews_more}
+use Rattle.shop_book.proofs.Placed.{more_places}
 use Rattle.shop_book.proofs.SubjectIds.{subject_has}
 use Rattle.shop_book.proofs.ranks.renew_list.Goals as goal
 use Rattle.shop_book.proofs.ranks.renew_list.Goals.{After-renew}
@@ -17,7 +19,7 @@ list_was c =
     c.index_mut-list.ensures.value ∙ get_or_default c.args.lists.now.items c.number.result c.index_mut-list.result.now [] (omega (arith, within, c.requires.size))
 
 pub raise-requires-clause-place : goal.raise-requires-clause-place
-raise-requires-clause-place c = subst (λ (n : ℕ). Has n (subject_id c.args.subject)) (sym c.requires.place) (subject_has c.args.subject)
+raise-requires-clause-place c = more_places _ _ (subject_id c.args.subject) c.requires.place (subject_has c.args.subject)
 
 pub returns-then-renew-clause-renewed : goal.returns-then-renew-clause-renewed
 returns-then-renew-clause-renewed c = λ was old done renews.

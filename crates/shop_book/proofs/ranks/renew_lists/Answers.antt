@@ -6,6 +6,7 @@ use Rattle.shop_model.specs.rows.Sound.{Has}
 use Rattle.shop_ranking.specs.StandingBest.{standing_best}
 use Rattle.shop_book.specs.Sales.{Renews, subject_in}
 use Rattle.shop_book.specs.Stored.{stored}
+use Rattle.shop_book.proofs.Placed.{same_places, then_more}
 use Rattle.shop_book.proofs.RankLemmas.{items_all, item_there, subjects_more, subject_is}
 use Rattle.shop_book.proofs.ranks.renew_lists.Goals as goal
 use Rattle.shop_book.proofs.ranks.renew_lists.Goals.{After-line-item}
@@ -19,12 +20,12 @@ pub renew_list-requires-clause-size : goal.renew_list-requires-clause-size
 renew_list-requires-clause-size c = c.loop-line.invariant.size
 
 pub renew_list-requires-clause-place : goal.renew_list-requires-clause-place
-renew_list-requires-clause-place c = c.loop-line.invariant.places.best_in ∙ c.requires.place
+renew_list-requires-clause-place c = omega (arith, c.loop-line.invariant.places.each 5, c.requires.place)
 
 pub loop-line-init : goal.loop-line-init
 loop-line-init c = record {
   size = c.requires.size;
-  places = grind arith;
+  places = same_places;
   renewed = λ was old done renews. subst (λ (all : List Subject). Renews was (standing_best c.args.best.now) c.args.number all c.args.lists.now.items old (stored c.args.versions.now)) (sym (append-nil done)) renews;
 }
 
@@ -40,7 +41,7 @@ loop-line-preserved c =
     ap (λ (d : ItemDetails). d.subject) c.get.ensures ∙ ap (λ (r : ItemRow). r.subject) c.item.view_is ∙ sym (subject_is items line.item row (line_item_there (goal.at.loop-line-preserved c).After-line-item) is) in
     record {
       size = c.renew_list.ensures.size ∙ c.loop-line.invariant.size;
-      places = grind (arith, c.renew_list.ensures.places, c.loop-line.invariant.places);
+      places = then_more c.loop-line.invariant.places c.renew_list.ensures.places;
       renewed = λ was old done renews.
           let before : List Subject = done ++ map (subject_in items) (map (λ (l : LineRow). l.item) (take i lines)) in
           subst (λ (all : List Subject). Renews was (standing_best c.args.best.now) c.args.number all c.renew_list.new.lists.items old (stored c.renew_list.new.versions))

@@ -11,7 +11,7 @@ use Rattle.shop_book.specs.declared.watching.Watched.{Watched}
 use Rattle.shop_book.specs.RowsNow.{tables_with}
 use Rattle.shop_book.specs.Stored.{stored}
 use Rattle.shop_book.specs.Watching.{keys_of, CanWatch, AreOf}
-use Rattle.shop_book.proofs.Placed.{more_place}
+use Rattle.shop_book.proofs.Placed.{more_place, then_more}
 use Rattle.shop_book.proofs.WatchingLemmas.{raised_more, keys_more}
 use Rattle.shop_book.proofs.watching.raise_changed.Goals as goal
 
@@ -30,7 +30,7 @@ loop-kept-preserved c =
     let left : (before : Tables) → AreOf before c.args.watched.items → AreOf before (kept ∷ rest) = λ before are. subst (AreOf before) is (c.loop-kept.invariant.left before are) in
     record {
       all = append_assoc c.loop-kept.yielded (kept ∷ []) rest ∙ ap (λ (l : List Watched). c.loop-kept.yielded ++ l) (sym is) ∙ c.loop-kept.invariant.all;
-      places = grind (arith, raised.places, c.loop-kept.invariant.places);
+      places = then_more c.loop-kept.invariant.places raised.places;
       spare = raised.spare (length rest) (rw (is, ← add-one) at c.loop-kept.invariant.spare);
       watchable = All-tail (CanWatch c.args.versions.now) kept rest (subst (All (CanWatch c.args.versions.now)) is c.loop-kept.invariant.watchable);
       left = λ before are. All-tail (λ (w : Watched). w.row ≡ row_of before w.key) kept rest (left before are);

@@ -8,7 +8,8 @@ use Rattle.shop_model.specs.rows.Rows.{ItemRow}
 use Rattle.shop_history.specs.MayChange.{subject_at}
 use Rattle.shop_ranking.specs.StandingNewest.{standing_newest}
 use Rattle.shop_book.specs.Mending.{IsMended, IsListedAnew}
-use Rattle.shop_book.specs.Stored.{stored, subject_id}
+use Rattle.shop_book.specs.Places.{subject_id}
+use Rattle.shop_book.specs.Stored.{stored}
 use Rattle.shop_book.proofs.MendedLists.{mended, row_now, its_subject, lists_mended, raised_mended}
 use Rattle.shop_book.proofs.lists.Lists.mend.Goals as goal
 use Rattle.shop_book.proofs.lists.Lists.mend.Goals.{After-get}

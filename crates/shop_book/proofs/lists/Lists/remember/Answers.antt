@@ -5,7 +5,7 @@ use Rattle.shop_model.specs.rows.Limits.{recent_orders}
 use Rattle.shop_model.specs.rows.Rows.{OrderRow}
 use Rattle.shop_history.specs.MayChange.{leaving, items_of}
 use Rattle.shop_book.specs.Sales.{IsSale, IsRemembered, AreThere, BuysElse, RaisesBuyers, RaisesBought, RaisesGone, has_bought}
-use Rattle.shop_book.specs.Stored.{stored}
+use Rattle.shop_book.specs.Stored.{stored, numbers}
 use Rattle.shop_book.proofs.RememberedSales.{remembered_raised}
 use Rattle.shop_book.proofs.SaleSteps.{found_is, items_kept, some_mapped, gone_lines, wide, wide_gone}
 use Rattle.shop_book.proofs.WindowMoves.{window_after}
@@ -20,15 +20,15 @@ gone_now c t sale remembered = found_is t c.args.coming.now c.args.rows.now sale
 pub raise_buyers-requires : goal.raise_buyers-requires
 raise_buyers-requires c =
     let sale = c.requires.sale in
-    wide sale.0 c.args.coming.now c.args.rows.now sale.1 c.args.coming.now (length c.args.versions.now.buyers.items) c.requires.places.buyers sale.1.there
+    wide sale.0 c.args.coming.now c.args.rows.now sale.1 c.args.coming.now (length (numbers c.args.versions.now 6)) (c.requires.places.each 6) sale.1.there
 
 pub raise_gone-requires : goal.raise_gone-requires
 raise_gone-requires c =
     let sale = c.requires.sale in
-    let size : length c.args.rows.now.items.items ≤ length c.raise_buyers.new.versions.buyers.items = omega (arith, c.requires.places.buyers, c.raise_buyers.ensures.places.buyers) in
-    some_mapped (λ order. order.now) (AreThere (length c.raise_buyers.new.versions.buyers.items)) c.order_with-gone.result
-    (subst (λ (gone : Option OrderRow). IfSome gone (AreThere (length c.raise_buyers.new.versions.buyers.items))) (sym (gone_now (goal.at.raise_gone-requires c).After-order_with-gone sale.0 sale.1 sale.2))
-    (wide_gone sale.0 c.args.coming.now c.args.rows.now sale.1 recent_orders (length c.raise_buyers.new.versions.buyers.items) size))
+    let size : length c.args.rows.now.items.items ≤ length (numbers c.raise_buyers.new.versions 6) = omega (arith, c.requires.places.each 6, c.raise_buyers.ensures.places.each 6) in
+    some_mapped (λ order. order.now) (AreThere (length (numbers c.raise_buyers.new.versions 6))) c.order_with-gone.result
+    (subst (λ (gone : Option OrderRow). IfSome gone (AreThere (length (numbers c.raise_buyers.new.versions 6)))) (sym (gone_now (goal.at.raise_gone-requires c).After-order_with-gone sale.0 sale.1 sale.2))
+    (wide_gone sale.0 c.args.coming.now c.args.rows.now sale.1 recent_orders (length (numbers c.raise_buyers.new.versions 6)) size))
 
 pub returns-clause-remembered : goal.returns-clause-remembered
 returns-clause-remembered c = λ t sale remembered. record {

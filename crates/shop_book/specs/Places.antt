@@ -1,0 +1,34 @@
+-- Where the version of a key stands: in which column, and where in it.
+use Rattle.std.specs.Prelude.{ℕ, ◌+◌, not, List, [], ◌∷◌, length, take_while, Option, Some, None, bytes_eq}
+use Rattle.shop_model.specs.declared.subject.Subject.{Subject}
+use Rattle.shop_model.specs.rows.Subjects.{subjects, subject_name}
+use Rattle.shop_history.specs.declared.keys.Key as key
+use Rattle.shop_history.specs.declared.keys.Key.{Key}
+use Rattle.shop_book.specs.declared.rows.Rows.{Rows}
+
+-- the place of a subject in the list of subjects, counted from 1
+unfoldable pub subject_id : Subject → ℕ
+subject_id subject = length (take_while (λ other. not (bytes_eq (subject_name other) (subject_name subject))) subjects) + 1
+
+-- the column of a key and its place there, counted from 1; none for a key that is a text
+abbrev pub place_of : Key → Option (ℕ × ℕ)
+place_of (key.TheVariants.Item id) = Some (0, id)
+place_of (key.TheVariants.Label id) = Some (1, id)
+place_of (key.TheVariants.Customer id) = Some (2, id)
+place_of (key.TheVariants.Cart id) = Some (3, id)
+place_of (key.TheVariants.NewIn subject) = Some (4, subject_id subject)
+place_of (key.TheVariants.BestIn subject) = Some (5, subject_id subject)
+place_of (key.TheVariants.Buyers item) = Some (6, item)
+place_of (key.TheVariants.Bought customer) = Some (7, customer)
+place_of (key.TheVariants.Name user) = None
+place_of (key.TheVariants.Address id) = Some (8, id)
+place_of (key.TheVariants.SameAddress text) = None
+place_of (key.TheVariants.Country id) = Some (9, id)
+place_of (key.TheVariants.Order id) = Some (10, id)
+place_of (key.TheVariants.LastOrder customer) = Some (11, customer)
+
+-- how many places each column needs; those of labels and countries, which never change, need none
+abbrev pub sizes : Rows → List ℕ
+sizes rows =
+    length rows.items.items ∷ 0 ∷ length rows.customers.items ∷ length rows.carts.items ∷ 24 ∷ 24 ∷ length rows.items.items ∷ length rows.customers.items
+    ∷ length rows.addresses.rows ∷ 0 ∷ length rows.orders.items ∷ length rows.customers.items ∷ []
