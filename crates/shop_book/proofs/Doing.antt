@@ -36,12 +36,12 @@ use Rattle.shop_book.specs.declared.puts.Put.{Put}
 use Rattle.shop_book.specs.Puts.{all_put}
 use Rattle.shop_book.specs.RowsNow.{tables_with}
 use Rattle.shop_book.specs.Sales.{IsSale}
-use Rattle.shop_book.specs.Stored.{stored, HasPlace, HasPlaces, MorePlaces}
+use Rattle.shop_book.specs.Stored.{stored, HasPlace, HasPlaces}
 use Rattle.shop_book.specs.Watching.{keys_of, AreOf, RaisesOne}
 use Rattle.shop_book.proofs.ChangesLemmas.{sound_named, rows_again}
 use Rattle.shop_book.proofs.KeptLists.{lists_kept}
 use Rattle.shop_history.specs.Keys.{row_of}
-use Rattle.shop_book.proofs.Placed.{more_place, place_shown}
+use Rattle.shop_book.proofs.Placed.{place_shown}
 use Rattle.shop_book.proofs.WatchingLemmas.{raised_and, raised_more}
 use Rattle.shop_book.proofs.SaleChanges.{purchase_raised, lists_bought, is_sale, certain_places}
 
@@ -80,18 +80,16 @@ mending t (act.Admin asked) item row planned = record { asked = asked; does = re
 
 -- watched keys have places where they showed rows
 pub watchable_done : (t : Tables) (a : Act) (rows : Rows) (lists : Lists) (plan : Plan) (stamp : ℕ) (puts : List Put) → IsChange t a rows lists plan stamp puts
-    → (old new : Versions) → HasPlaces old rows → MorePlaces old new → AreWatchable new plan
-watchable_done t a rows lists plan stamp puts change old new places longer = by plan refl
+    → (v : Versions) → HasPlaces v rows → AreWatchable v plan
+watchable_done t a rows lists plan stamp puts change v places = by plan refl
   where
-    by : (p : Plan) → plan ≡ p → AreWatchable new p
+    by : (p : Plan) → plan ≡ p → AreWatchable v p
     by (Sell keys) is = tt
     by (Mend item row) is =
         let mends : Mending t a item row = mending t a item row (subst (IsPlanOf t a) is change.plan_is) in
         record {
           kind = tt;
-          place = λ some.
-              more_place old new (key.Item item) longer
-              (place_shown old rows t (key.Item item) tt places (λ absent. some (mends.row_is ∙ sym (ap (λ (u : Tables). row_of u (key.Item item)) change.rows_are) ∙ absent)));
+          place = λ some. place_shown v rows t (key.Item item) tt places (λ absent. some (mends.row_is ∙ sym (ap (λ (u : Tables). row_of u (key.Item item)) change.rows_are) ∙ absent));
         }
     by (Compare watched) is =
         let compared : IsCompared t a watched.items = subst (IsPlanOf t a) is change.plan_is in
@@ -100,9 +98,8 @@ watchable_done t a rows lists plan stamp puts change old new places longer = by 
         record {
           kind = compared.kinds k d within;
           place = λ some.
-              more_place old new kept.key longer
-              (place_shown old rows t kept.key (compared.kinds k d within) places
-              (λ absent. some (compared.rows k d within ∙ sym (ap (λ (u : Tables). row_of u kept.key) change.rows_are) ∙ absent)));
+              place_shown v rows t kept.key (compared.kinds k d within) places
+              (λ absent. some (compared.rows k d within ∙ sym (ap (λ (u : Tables). row_of u kept.key) change.rows_are) ∙ absent));
         }
 
 -- an act whose keys were compared

@@ -1,56 +1,57 @@
--- Where there was room, each row that comes has a place.
-use Rattle.std.proofs.Common.{◌≡◌, ℕ, zero, suc, ◌+◌, ◌<◌, ◌≤◌, List, [], ◌∷◌, length, get_or, refl, sym, ap, subst, arith, ⊎_elim}
-use Rattle.std.proofs.lemmas.Bool.{cases_lt}
+-- Where there is room, each row that comes has a place.
+use Rattle.std.proofs.Common.{◌≡◌, ℕ, ◌+◌, ◌<◌, ◌≤◌, true, false, List, length, take, get_or, sym, ◌∙◌, ap, subst, arith, length-take-le}
+use Rattle.std.proofs.lemmas.Bool.{eqb-true}
+use Rattle.std.proofs.lemmas.List.Elements.{All-contains}
+use Rattle.std.proofs.lemmas.List.Sums.{count_by-le-length, count_by_more_yes, count_by_more_no}
+use Rattle.std.proofs.lemmas.Map.Views.{Contains-from_any}
 use Rattle.shop_model.specs.declared.tables.Tables.{Tables}
-use Rattle.shop_model.specs.rows.Empty.{no_tables}
-use Rattle.shop_book.specs.Places.{sizes}
-use Rattle.shop_book.specs.RowsNow.{tables_with}
-use Rattle.shop_book.specs.Stored.{empty, numbers, HasPlaces, HasRoom}
+use Rattle.shop_book.specs.declared.puts.Put.{Put}
 use Rattle.shop_book.specs.declared.rows.Rows.{Rows}
 use Rattle.shop_book.specs.declared.versions.Versions.{Versions}
-use Rattle.shop_book.proofs.Sizes.{FewMore}
-
--- each number is larger by so many at most
-AreFew : List ℕ → List ℕ → ℕ → Type 0
-AreFew [] ys more = Unit {0}
-AreFew (x ∷ xs) [] more = ⊥
-AreFew (x ∷ xs) (y ∷ ys) more = (x ≤ y + more) × AreFew xs ys more
-
-few_at : (xs ys : List ℕ) (more : ℕ) → AreFew xs ys more → (k : ℕ) → get_or xs k 0 ≤ get_or ys k 0 + more
-unfolding AreFew
-few_at [] ys more few k = omega arith
-few_at (x ∷ xs) [] more few k = absurd few
-few_at (x ∷ xs) (y ∷ ys) more few zero = few.0
-few_at (x ∷ xs) (y ∷ ys) more few (suc k) = few_at xs ys more few.1 k
-
-pub few_sizes : (old new : Rows) (more : ℕ) → FewMore (tables_with no_tables old) (tables_with no_tables new) more → (column : ℕ) → get_or (sizes new) column 0 ≤ get_or (sizes old) column 0 + more
-unfolding AreFew
-few_sizes old new more few column =
-    few_at (sizes new) (sizes old) more
-    (few.items, (omega arith, (few.customers, (few.carts, (omega arith, (omega arith, (few.items, (few.customers, (few.addresses, (omega arith, (few.orders, (few.customers, tt)))))))))))) column
-
-few_past : (column : ℕ) (xs : List ℕ) → length xs ≤ column → get_or xs column 0 ≡ 0
-few_past column [] past = refl
-few_past zero (x ∷ xs) past = absurd (omega (arith, past))
-few_past (suc k) (x ∷ xs) past = few_past k xs (omega (arith, past))
-
-pub room_for : (v : Versions) (old new : Rows) (more : ℕ) → HasPlaces v old → HasRoom v more → ((column : ℕ) → get_or (sizes new) column 0 ≤ get_or (sizes old) column 0 + more)
-    → (column : ℕ) → get_or (sizes new) column 0 ≤ length (numbers v column) + (get_or v.columns.items column empty).room
-room_for v old new more places room few column =
-    ⊎_elim
-    (λ (lt : column < 12). omega (arith, few column, places.each column, room.each column (omega (arith, lt, places.long))))
-    (λ (past : 12 ≤ column). omega (arith, few_past column (sizes new) past))
-    (cases_lt column 12)
+use Rattle.shop_book.specs.Places.{sizes, grown, grows, growth}
+use Rattle.shop_book.specs.Puts.{all_put}
+use Rattle.shop_book.specs.RowsNow.{tables_with}
+use Rattle.shop_book.specs.Stored.{numbers, HasPlaces, HasRoom, HasRoomFor, MorePlaces}
+use Rattle.shop_book.proofs.Ascending.{by_test}
+use Rattle.shop_book.proofs.Sizes.{sizes_in, few_more}
 
 -- rows that are the same need as many places
-
-abbrev sizes_in : Tables → List ℕ
-sizes_in t =
-    length t.items ∷ 0 ∷ length t.customers ∷ length t.carts ∷ 24 ∷ 24 ∷ length t.items ∷ length t.customers ∷ length t.addresses ∷ 0 ∷ length t.orders ∷ length t.customers ∷ []
-
 pub same_sizes : {v : Versions} {one other : Rows} (t : Tables) → tables_with t other ≡ tables_with t one → HasPlaces v one → HasPlaces v other
 same_sizes {v} {one} {other} t same has =
     record {
       long = has.long;
       each = λ column. subst (λ (ns : List ℕ). get_or ns column 0 ≤ length (numbers v column)) (sym (ap sizes_in same)) (has.each column);
     }
+
+pub room_places : {v : Versions} {rows : Rows} {puts : List Put} → HasRoom v rows puts → HasPlaces v rows
+room_places room = record { long = room.long; each = λ column. omega (arith, room.each column) }
+
+-- once the writes were made
+pub all_placed : (v : Versions) (old new : Rows) (t : Tables) (stamp : ℕ) (puts : List Put) → tables_with t new ≡ all_put (tables_with t old) stamp puts → HasRoom v old puts → HasPlaces v new
+all_placed v old new t stamp puts made room =
+    record {
+      long = room.long;
+      each = λ column.
+          let few : get_or (sizes new) column 0 ≤ get_or (sizes old) column 0 + growth puts column
+          = subst (λ (ns : List ℕ). get_or ns column 0 ≤ get_or (sizes old) column 0 + growth puts column) (sym (ap sizes_in made)) (few_more (tables_with t old) stamp puts column) in
+          omega (arith, few, room.each column);
+    }
+
+-- room for the first writes
+abbrev pub HasRoomUntil : Versions → Rows → List Put → ℕ → Type 0
+HasRoomUntil v rows puts i = (column : ℕ) → get_or (sizes rows) column 0 + growth (take i puts) column ≤ length (numbers v column)
+
+-- and for one more
+pub room_more : (v w : Versions) (rows : Rows) (puts : List Put) (i : ℕ) (p : Put) → i < length puts → p ≡ get_or puts i p → MorePlaces v w → HasRoomFor w rows (length puts) p
+    → HasRoomUntil v rows puts i → HasRoomUntil w rows puts (i + 1)
+room_more v w rows puts i p within is more for_one before column =
+    by_test (grows column p)
+    (λ (yes : grows column p ≡ true).
+    let one : growth (take (i + 1) puts) column ≡ growth (take i puts) column + 1 = count_by_more_yes (grows column) puts i p within (ap (grows column) (sym is) ∙ yes) in
+    let few : growth (take i puts) column ≤ length (take i puts) = count_by-le-length (grows column) (take i puts) in
+    let here : get_or (sizes rows) column 0 + length puts ≤ length (numbers w column)
+    = All-contains (λ (c : ℕ). get_or (sizes rows) c 0 + length puts ≤ length (numbers w c)) (grown p) column for_one (Contains-from_any (λ x y same. eqb-true x y same) column (grown p) yes) in
+    omega (arith, one, few, length-take-le i puts (omega (arith, within)), within, here))
+    (λ (no : grows column p ≡ false).
+    let none : growth (take (i + 1) puts) column ≡ growth (take i puts) column = count_by_more_no (grows column) puts i p within (ap (grows column) (sym is) ∙ no) in
+    omega (arith, none, before column, more.each column))

@@ -1,7 +1,7 @@
 -- One number of one column is set.
 use Rattle.std.proofs.Common.{◌≡◌, ◌≢◌, ℕ, zero, suc, ◌+◌, ◌++◌, ◌-◌, ◌<◌, ◌≤◌, List, [], ◌∷◌, length, get_or, set, Option, Some, None, unwrap_or, slice_get, slice_set, refl, sym, ◌∙◌, ap, subst, arith, ◌⊎◌, ⊎_elim}
 use Rattle.std.proofs.lemmas.Bool.{cases_eq, cond-false, ne_eqb}
-use Rattle.std.proofs.lemmas.List.{get_or-set_same, get_or-set_other, length-set}
+use Rattle.std.proofs.lemmas.List.{get_or-set_same, get_or-set_other}
 use Rattle.shop_model.specs.declared.subject.Subject.{Subject}
 use Rattle.shop_model.specs.declared.subject.Subject.TheVariants as subjects_of
 use Rattle.shop_model.specs.rows.Sound.{Has}
@@ -9,10 +9,10 @@ use Rattle.shop_model.specs.rows.Subjects.{subjects}
 use Rattle.shop_history.proofs.cited.Places.{row_set_apart}
 use Rattle.shop_history.specs.declared.keys.Key.{Key}
 use Rattle.shop_history.specs.declared.keys.Key.TheVariants as key
-use Rattle.shop_book.specs.Columns.{ColumnValue, at}
+use Rattle.shop_book.specs.Columns.{at}
 use Rattle.shop_book.specs.Places.{place_of, subject_id}
 use Rattle.shop_book.specs.Said.{alike}
-use Rattle.shop_book.specs.Stored.{empty, stored, stored_in, stored_text}
+use Rattle.shop_book.specs.Stored.{stored, stored_in, stored_text}
 use Rattle.shop_book.specs.declared.versions.Versions.{Versions}
 use Rattle.shop_model.specs.declared.address.AddressText.{AddressText}
 use Rattle.std.specs.Prelude.{bytes_eq}
@@ -33,47 +33,35 @@ at_set_other : (numbers : List ℕ) (id other number : ℕ) → Has (length numb
 at_set_other numbers id other number has apart = ap (λ o. unwrap_or o 0) (row_set_apart numbers id other number (omega (arith, has.first)) apart)
 
 -- the number at a place of some columns
-abbrev pub at_place : List ColumnValue → ℕ × ℕ → ℕ
-at_place columns place = at (get_or columns place.0 empty).numbers place.1
+abbrev pub at_place : List (List ℕ) → ℕ × ℕ → ℕ
+at_place columns place = at (get_or columns place.0 []) place.1
 
 -- the columns with one number set
-abbrev pub set_place : List ColumnValue → ℕ × ℕ → ℕ → List ColumnValue
+abbrev pub set_place : List (List ℕ) → ℕ × ℕ → ℕ → List (List ℕ)
 set_place columns place number =
-    set columns place.0 (record (get_or columns place.0 empty) { numbers = slice_set (get_or columns place.0 empty).numbers (place.1 - 1) number })
+    set columns place.0 (slice_set (get_or columns place.0 []) (place.1 - 1) number)
 
-pub within : (columns : List ColumnValue) (c id : ℕ) → Has (length (get_or columns c empty).numbers) id → c < length columns
+pub within : (columns : List (List ℕ)) (c id : ℕ) → Has (length (get_or columns c [])) id → c < length columns
 within [] c id has = absurd (omega (arith, has.first, has.last))
 within (column ∷ columns) zero id has = omega arith
 within (column ∷ columns) (suc c) id has = omega (arith, within columns c id has)
 
-pub place_here : (columns : List ColumnValue) (place : ℕ × ℕ) (number : ℕ) → Has (length (get_or columns place.0 empty).numbers) place.1 → at_place (set_place columns place number) place ≡ number
+pub place_here : (columns : List (List ℕ)) (place : ℕ × ℕ) (number : ℕ) → Has (length (get_or columns place.0 [])) place.1 → at_place (set_place columns place number) place ≡ number
 place_here columns place number has =
-    ap (λ (c : ColumnValue). at c.numbers place.1) (get_or-set_same columns place.0 _ empty (within columns place.0 place.1 has))
-    ∙ at_set_here (get_or columns place.0 empty).numbers place.1 number has
+    ap (λ (ns : List ℕ). at ns place.1) (get_or-set_same columns place.0 _ [] (within columns place.0 place.1 has))
+    ∙ at_set_here (get_or columns place.0 []) place.1 number has
 
-pub place_other : (columns : List ColumnValue) (place other : ℕ × ℕ) (number : ℕ) → Has (length (get_or columns place.0 empty).numbers) place.1 → other ≢ place → at_place (set_place columns place number) other ≡ at_place columns other
+pub place_other : (columns : List (List ℕ)) (place other : ℕ × ℕ) (number : ℕ) → Has (length (get_or columns place.0 [])) place.1 → other ≢ place → at_place (set_place columns place number) other ≡ at_place columns other
 place_other columns place other number has apart =
     ⊎_elim
     (λ (same : other.0 ≡ place.0).
     let ids : other.1 ≢ place.1 = λ id. apart (let pair : ℕ → ℕ → ℕ × ℕ = λ a b. (a, b) in ap (λ a. pair a other.1) same ∙ ap (pair place.0) id) in
     ap (λ n. at_place (set_place columns place number) (n, other.1)) same
-    ∙ ap (λ (c : ColumnValue). at c.numbers other.1) (get_or-set_same columns place.0 _ empty (within columns place.0 place.1 has))
-    ∙ at_set_other (get_or columns place.0 empty).numbers place.1 other.1 number has ids
+    ∙ ap (λ (ns : List ℕ). at ns other.1) (get_or-set_same columns place.0 _ [] (within columns place.0 place.1 has))
+    ∙ at_set_other (get_or columns place.0 []) place.1 other.1 number has ids
     ∙ ap (λ n. at_place columns (n, other.1)) (sym same))
-    (λ (apart : other.0 ≢ place.0). ap (λ (c : ColumnValue). at c.numbers other.1) (get_or-set_other columns place.0 other.0 _ empty apart))
+    (λ (apart : other.0 ≢ place.0). ap (λ (ns : List ℕ). at ns other.1) (get_or-set_other columns place.0 other.0 _ [] apart))
     (cases_eq other.0 place.0)
-
-pub place_long : (columns : List ColumnValue) (place : ℕ × ℕ) (number c : ℕ) → Has (length (get_or columns place.0 empty).numbers) place.1
-    → length (get_or (set_place columns place number) c empty).numbers ≡ length (get_or columns c empty).numbers
-place_long columns place number c has =
-    ⊎_elim
-    (λ (same : c ≡ place.0).
-    ap (λ n. length (get_or (set_place columns place number) n empty).numbers) same
-    ∙ ap (λ (c : ColumnValue). length c.numbers) (get_or-set_same columns place.0 _ empty (within columns place.0 place.1 has))
-    ∙ length-set (get_or columns place.0 empty).numbers (place.1 - 1) number
-    ∙ ap (λ n. length (get_or columns n empty).numbers) (sym same))
-    (λ (apart : c ≢ place.0). ap (λ (c : ColumnValue). length c.numbers) (get_or-set_other columns place.0 c _ empty apart))
-    (cases_eq c place.0)
 
 -- keys with one place are one
 
@@ -127,15 +115,15 @@ stored_same old new k places texts = by (place_of k) refl
     by (Some place) is = places place is
 
 -- one column more
-pub push_each : (P : ℕ → ColumnValue → Type 0) (columns : List ColumnValue) (column : ColumnValue) → ((c : ℕ) → c < length columns → P c (get_or columns c empty)) → P (length columns) column
-    → (c : ℕ) → c < length columns + 1 → P c (get_or (columns ++ column ∷ []) c empty)
+pub push_each : (P : ℕ → List ℕ → Type 0) (columns : List (List ℕ)) (column : List ℕ) → ((c : ℕ) → c < length columns → P c (get_or columns c [])) → P (length columns) column
+    → (c : ℕ) → c < length columns + 1 → P c (get_or (columns ++ column ∷ []) c [])
 push_each P [] column each here zero lt = here
 push_each P [] column each here (suc c) lt = absurd (omega (arith, lt))
 push_each P (x ∷ xs) column each here zero lt = each zero (omega arith)
 push_each P (x ∷ xs) column each here (suc c) lt = push_each (λ n. P (suc n)) xs column (λ n within. each (suc n) (omega (arith, within))) here c (omega (arith, lt))
 
-pub push_none : (columns : List ColumnValue) (column : ColumnValue) → ((c id : ℕ) → at (get_or columns c empty).numbers id ≡ 0) → ((id : ℕ) → at column.numbers id ≡ 0)
-    → (c id : ℕ) → at (get_or (columns ++ column ∷ []) c empty).numbers id ≡ 0
+pub push_none : (columns : List (List ℕ)) (column : List ℕ) → ((c id : ℕ) → at (get_or columns c []) id ≡ 0) → ((id : ℕ) → at column id ≡ 0)
+    → (c id : ℕ) → at (get_or (columns ++ column ∷ []) c []) id ≡ 0
 push_none [] column none here zero id = here id
 push_none [] column none here (suc c) id = none zero id
 push_none (x ∷ xs) column none here zero id = none zero id

@@ -34,13 +34,6 @@ pub key_cases : (one other : Key) → (one ≡ other) ⊎ (one ≢ other)
 key_cases one other =
     elim (decided_by the_field.row.coded the_field.into the_field.into_one one other) as (λ _. (one ≡ other) ⊎ (one ≢ other)) [ yes is ↦ inl is | no apart ↦ inr apart ]
 
--- versions that began as others
-pub raised_from : (before now : Tables) (number : ℕ) (keys : List Key) (old began new : Key → ℕ) → ((key : Key) → began key ≡ old key) → RaisedFor before now number keys began new → RaisedFor before now number keys old new
-raised_from before now number keys old began new same raised = record {
-  each = λ key. ⊎_elim (λ (stays : new key ≡ began key). inl (stays ∙ same key)) (λ differs. inr differs) (raised.each key);
-  all = raised.all;
-}
-
 -- versions that were raised for some keys, and then for others
 pub raised_and : (before now : Tables) (number : ℕ) (keys more : List Key) (first mid end : Key → ℕ) → RaisedFor before now number keys first mid → RaisedFor before now number more mid end → RaisedFor before now number (keys ++ more) first end
 raised_and before now number keys more first mid end one other = record {

@@ -1,9 +1,12 @@
 -- Where the version of a key stands: in which column, and where in it.
-use Rattle.std.specs.Prelude.{ℕ, ◌+◌, not, List, [], ◌∷◌, length, take_while, Option, Some, None, bytes_eq}
+use Rattle.std.specs.Prelude.{ℕ, ◌+◌, Bool, nat_eq, not, List, [], ◌∷◌, length, take_while, count_by, Option, Some, None, bytes_eq}
+use Rattle.std.specs.List.{list_any}
 use Rattle.shop_model.specs.declared.subject.Subject.{Subject}
 use Rattle.shop_model.specs.rows.Subjects.{subjects, subject_name}
 use Rattle.shop_history.specs.declared.keys.Key as key
 use Rattle.shop_history.specs.declared.keys.Key.{Key}
+use Rattle.shop_book.specs.declared.puts.Put.{Put}
+use Rattle.shop_book.specs.declared.puts.Put.TheVariants as put
 use Rattle.shop_book.specs.declared.rows.Rows.{Rows}
 
 -- the place of a subject in the list of subjects, counted from 1
@@ -32,3 +35,19 @@ abbrev pub sizes : Rows → List ℕ
 sizes rows =
     length rows.items.items ∷ 0 ∷ length rows.customers.items ∷ length rows.carts.items ∷ 24 ∷ 24 ∷ length rows.items.items ∷ length rows.customers.items
     ∷ length rows.addresses.rows ∷ 0 ∷ length rows.orders.items ∷ length rows.customers.items ∷ []
+
+-- the columns of the table that a write adds a row to, if it adds one
+abbrev pub grown : Put → List ℕ
+grown (put.Item item) = 0 ∷ 6 ∷ []
+grown (put.Customer customer) = 2 ∷ 7 ∷ 11 ∷ []
+grown (put.Cart cart) = 3 ∷ []
+grown (put.Address address text) = 8 ∷ []
+grown (put.Order order) = 10 ∷ []
+grown _ = []
+
+abbrev pub grows : ℕ → Put → Bool
+grows column put = list_any (nat_eq column) (grown put)
+
+-- how many rows writes may add to the table of a column
+abbrev pub growth : List Put → ℕ → ℕ
+growth puts column = count_by (grows column) puts

@@ -1,22 +1,20 @@
 -- The version that is stored for a key, and which keys have a place for one.
-use Rattle.std.specs.Prelude.{◌≡◌, ℕ, ◌+◌, ◌<◌, ◌≤◌, List, [], length, get_or, Option, Some, None, unwrap_or, bytes_eq}
+use Rattle.std.specs.Prelude.{◌≡◌, ℕ, ◌+◌, ◌≤◌, All, List, [], length, get_or, Option, Some, None, unwrap_or, bytes_eq}
 use Rattle.std.specs.HashMap.{get, spare}
 use Rattle.shop_model.specs.declared.address.AddressText.{AddressText}
 use Rattle.shop_model.specs.rows.Sound.{Has}
 use Rattle.shop_history.specs.declared.keys.Key as key
 use Rattle.shop_history.specs.declared.keys.Key.{Key}
-use Rattle.shop_book.specs.Columns.{ColumnValue, at}
-use Rattle.shop_book.specs.Places.{place_of, sizes}
+use Rattle.shop_book.specs.Columns.{at}
+use Rattle.shop_book.specs.Places.{place_of, sizes, grown, growth}
 use Rattle.shop_book.specs.Said.{alike}
+use Rattle.shop_book.specs.declared.puts.Put.{Put}
 use Rattle.shop_book.specs.declared.rows.Rows.{Rows}
 use Rattle.shop_book.specs.declared.versions.Versions.{Versions}
 
-abbrev pub empty : ColumnValue
-empty = record { numbers = []; room = 0 }
-
 -- the numbers of a column
 abbrev pub numbers : Versions → ℕ → List ℕ
-numbers v column = (get_or v.columns.items column empty).numbers
+numbers v column = get_or v.columns.items column []
 
 -- the version of a key that is a text, or 0
 abbrev pub stored_text : Versions → Key → ℕ
@@ -55,9 +53,14 @@ pub record MorePlaces (old new : Versions) : Type 0 where
   pub long : length new.columns.items ≡ length old.columns.items
   pub each : (column : ℕ) → length (numbers old column) ≤ length (numbers new column)
 
--- there is room for so many more places in each column
-pub record HasRoom (v : Versions) (more : ℕ) : Type 0 where
-  pub each : (column : ℕ) → column < length v.columns.items → more ≤ (get_or v.columns.items column empty).room
+-- so many rows that a write may add have places, beside each row
+abbrev pub HasRoomFor : Versions → Rows → ℕ → Put → Type 0
+HasRoomFor v rows more put = All (λ column. get_or (sizes rows) column 0 + more ≤ length (numbers v column)) (grown put)
+
+-- each row has a place, and each that the writes add
+pub record HasRoom (v : Versions) (rows : Rows) (puts : List Put) : Type 0 where
+  pub long : length v.columns.items ≡ 12
+  pub each : (column : ℕ) → get_or (sizes rows) column 0 + growth puts column ≤ length (numbers v column)
 
 -- so many keys more that are texts can get versions
 pub record HasSpare (v : Versions) (more : ℕ) : Type 0 where
@@ -73,8 +76,3 @@ abbrev pub SpareFor : Key → Versions → Type 0
 SpareFor (key.TheVariants.Name user) v = HasSpare v 1
 SpareFor (key.TheVariants.SameAddress text) v = HasSpare v 1
 SpareFor _ v = Unit {0}
-
--- there is room for a place for each row
-pub record Fits (v : Versions) (rows : Rows) : Type 0 where
-  pub long : length v.columns.items ≡ 12
-  pub each : (column : ℕ) → get_or (sizes rows) column 0 ≤ length (numbers v column) + (get_or v.columns.items column empty).room

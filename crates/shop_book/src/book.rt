@@ -262,14 +262,14 @@ impl Book {
         let Ok(puts) = puts_of(alloc, &self.rows, entry.stamp, writes) else {
             return Settle::Memory;
         };
-        let (more, keys) = (puts.len(), plan.len());
+        let (added, keys) = (puts.as_slice(), plan.len());
         if !make_room(
             &mut self.log,
             &mut self.rows,
             &mut self.versions,
             &mut self.counts,
             &mut self.lists,
-            more,
+            added,
             keys,
         ) {
             return Settle::Memory;

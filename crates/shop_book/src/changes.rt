@@ -26,33 +26,34 @@ use crate::versions::Versions;
 use crate::watching::{Watched, raise_changed, raise_if_changed};
 use shop_history::{Entry, Ids, Key};
 
-/// Makes room for an entry, for as many rows with their versions, and for those of as many keys; answers
-/// whether there is.
+/// Makes room for an entry, for the rows that the writes add with their versions, and for those of as many
+/// keys; answers whether there is.
 pub(crate) fn make_room(
     log: &mut Vec<Entry>,
     rows: &mut Rows,
     versions: &mut Versions,
     counts: &mut Counts,
     lists: &mut Lists,
-    more: usize,
+    puts: &[Put],
     keys: usize,
 ) -> bool
+    requires { HasPlaces versions.old rows.old }
     ensures log { log.new.items ≡ log.old.items }
     ensures rows { (t : Tables) → tables_with t rows.new ≡ tables_with t rows.old }
     ensures versions { (key : Key) → stored versions.new key ≡ stored versions.old key }
     ensures places { versioned.MorePlaces versions.old versions.new }
     ensures counts { (caller : ℕ) → counted.count_in counts.new caller ≡ counted.count_in counts.old caller }
     ensures log_room { OnTrue result (vec_len log.new < vec_capacity log.new) }
-    ensures rows_room { OnTrue result (now.HasRoom rows.new more) }
-    ensures versions_room { OnTrue result (versioned.HasRoom versions.new more) }
+    ensures rows_room { OnTrue result (now.HasRoom rows.new (length puts.now)) }
+    ensures versions_room { OnTrue result (versioned.HasRoom versions.new rows.new puts.now) }
     ensures versions_spare { OnTrue result (versioned.HasSpare versions.new keys) }
     ensures counts_room { OnTrue result (counted.HasRoom counts.new) }
     ensures lists { (t : Tables) → AreLists t lists.old → AreLists t lists.new }
     ensures lists_room { OnTrue result (HasRoom lists.new) }
 {
     let log_room = log.reserve(1).is_ok();
-    let rows_room = rows.make_room(more);
-    let versions_room = versions.make_room(more, keys);
+    let rows_room = rows.make_room(puts.len());
+    let versions_room = versions.make_room(rows, puts, keys);
     let counts_room = counts.make_room();
     let lists_room = lists.make_room();
     log_room && rows_room && versions_room && counts_room && lists_room
@@ -110,8 +111,7 @@ pub(crate) fn change_rows(
 ) -> Ids
     requires change { (t : Tables) × (act : Act) × IsChange t act rows.old lists.old plan stamp puts.items }
     requires ready { AreReady rows.old stamp puts.items }
-    requires places { HasPlaces versions.old rows.old }
-    requires room { versioned.HasRoom versions.old (length puts.items) }
+    requires room { versioned.HasRoom versions.old rows.old puts.items }
     requires spare { versioned.HasSpare versions.old (keys_in plan) }
     requires lists_room { HasRoom lists.old }
     ensures made { (t : Tables) → (act : Act) → IsChange t act rows.old lists.old plan stamp puts.items → tables_with t rows.new ≡ after t stamp act }
@@ -123,7 +123,6 @@ pub(crate) fn change_rows(
 {
     let before = Sizes::of(rows);
     rows.put_all(stamp, puts);
-    versions.grow(rows);
     carry_out(rows, versions, lists, plan, number);
     before.new_ids(rows)
 }

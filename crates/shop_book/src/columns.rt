@@ -16,19 +16,18 @@ pub(crate) struct Column {
 }
 
 impl Model for Column {
-    ghost use Rattle.std.specs.Prelude.{◌-◌, vec_len, vec_capacity};
-    ghost use Rattle.shop_book.specs.Columns.{ColumnValue};
+    ghost use Rattle.std.specs.Prelude.{ℕ, List};
 
-    ghost Value = { ColumnValue };
+    ghost Value = { List ℕ };
 
-    ghost view = { λ c. record { numbers = c.numbers.items; room = vec_capacity c.numbers - vec_len c.numbers } };
+    ghost view = { λ c. c.numbers.items };
 }
 
 impl Column {
     /// As many zeros.
     pub(crate) fn zeros(alloc: Global, count: usize) -> Result<Column, Memory>
-        ensures long { IfOk result (λ column. length column.numbers ≡ count) }
-        ensures none { IfOk result (λ column. (id : ℕ) → spec.at column.numbers id ≡ 0) }
+        ensures long { IfOk result (λ column. length column ≡ count) }
+        ensures none { IfOk result (λ column. (id : ℕ) → spec.at column id ≡ 0) }
     {
         Ok(Column {
             numbers: vec![in alloc; 0u64; count]?,
@@ -37,7 +36,7 @@ impl Column {
 
     /// The number at an id, or 0.
     pub(crate) fn at(&self, id: u32) -> u64
-        ensures { result ≡ spec.at self.now.numbers id }
+        ensures { result ≡ spec.at self.now id }
     {
         match row_numbered(&self.numbers, id) {
             Some(number) => *number,
@@ -47,29 +46,25 @@ impl Column {
 
     /// Sets the number at an id.
     pub(crate) fn set(&mut self, id: u32, number: u64)
-        requires { Has (length self.old.numbers) id }
-        ensures { self.new ≡ record self.old { numbers = slice_set self.old.numbers (id - 1) number } }
+        requires { Has (length self.old) id }
+        ensures { self.new ≡ slice_set self.old (id - 1) number }
     {
         self.numbers[id as usize - 1] = number;
     }
 
-    /// Zeros behind the numbers, until there are as many.
-    pub(crate) fn grow(&mut self, count: usize)
-        requires room { count ≤ length self.old.numbers + self.old.room }
-        ensures long { count ≤ length self.new.numbers }
-        ensures longer { length self.old.numbers ≤ length self.new.numbers }
-        ensures same { (id : ℕ) → spec.at self.new.numbers id ≡ spec.at self.old.numbers id }
+    /// Zeros behind the numbers, until each of so many rows and of so many more has one; answers
+    /// whether it has.
+    pub(crate) fn grow(&mut self, rows: usize, more: usize) -> bool
+        ensures long { OnTrue result (rows + more ≤ length self.new) }
+        ensures longer { length self.old ≤ length self.new }
+        ensures same { (id : ℕ) → spec.at self.new id ≡ spec.at self.old id }
     {
+        let count = rows.saturating_add(more);
         while self.numbers.len() < count {
-            self.numbers.push_reserved(0);
+            if self.numbers.push(0).is_err() {
+                return false;
+            }
         }
-    }
-
-    /// Makes room for so many more; answers whether there is.
-    pub(crate) fn make_room(&mut self, more: usize) -> bool
-        ensures same { self.new.numbers ≡ self.old.numbers }
-        ensures room { OnTrue result (more ≤ self.new.room) }
-    {
-        self.numbers.reserve(more).is_ok()
+        true
     }
 }

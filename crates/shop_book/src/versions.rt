@@ -1,5 +1,5 @@
 //! The versions of all keys.
-ghost use Rattle.std.specs.Prelude.{◌≡◌, ◌≢◌, ℕ, ◌+◌, ◌<◌, ◌≤◌, Some, IfOk, unwrap_or};
+ghost use Rattle.std.specs.Prelude.{◌≡◌, ◌≢◌, ℕ, ◌+◌, ◌<◌, ◌≤◌, length, Some, IfOk, unwrap_or};
 ghost use Rattle.std.specs.HashMap.{get, spare, Updates};
 ghost use Rattle.std.specs.Bool.{OnTrue};
 ghost use Rattle.shop_history.specs.declared.keys.Key.{Key};
@@ -7,6 +7,7 @@ ghost use Rattle.shop_book.specs.Stored as spec;
 
 use crate::columns::Column;
 use crate::places::{COLUMNS, place_of, sizes};
+use crate::puts::Put;
 use crate::rows::Rows;
 use shop_history::Key;
 use shop_model::AddressText;
@@ -112,31 +113,53 @@ impl Versions {
         }
     }
 
-    /// Gives each row a place.
-    pub(crate) fn grow(&mut self, rows: &Rows)
-        requires { spec.Fits self.old rows.now }
-        ensures places { spec.HasPlaces self.new rows.now }
-        ensures longer { spec.MorePlaces self.old self.new }
+    /// Gives each of so many rows of a column, and so many more, a place; answers whether it has one.
+    fn grow(&mut self, column: usize, rows: usize, more: usize) -> bool
+        requires { column < length self.old.columns.items }
+        ensures long { OnTrue result (rows + more ≤ length (spec.numbers self.new column)) }
+        ensures places { spec.MorePlaces self.old self.new }
         ensures same { (key : Key) → spec.stored self.new key ≡ spec.stored self.old key }
-        ensures spare { (more : ℕ) → spec.HasSpare self.old more → spec.HasSpare self.new more }
     {
-        let sizes = sizes(rows);
-        for number in 0..COLUMNS {
-            self.columns[number].grow(sizes[number]);
+        self.columns[column].grow(rows, more)
+    }
+
+    /// Gives so many rows that come into the table of a write a place; answers whether they have one.
+    fn make_room_for(&mut self, rows: &Rows, put: &Put, more: usize) -> bool
+        requires { length self.old.columns.items ≡ 12 }
+        ensures room { OnTrue result (spec.HasRoomFor self.new rows.now more put.now) }
+        ensures places { spec.MorePlaces self.old self.new }
+        ensures same { (key : Key) → spec.stored self.new key ≡ spec.stored self.old key }
+    {
+        match put {
+            Put::Item(_) => {
+                let items = rows.items.len();
+                self.grow(0, items, more) && self.grow(6, items, more)
+            }
+            Put::Customer(_) => {
+                let customers = rows.customers.len();
+                self.grow(2, customers, more)
+                    && self.grow(7, customers, more)
+                    && self.grow(11, customers, more)
+            }
+            Put::Cart(_) => self.grow(3, rows.carts.len(), more),
+            Put::Address(_, _) => self.grow(8, rows.addresses.len(), more),
+            Put::Order(_) => self.grow(10, rows.orders.len(), more),
+            Put::Login(_) | Put::Stock(_) => true,
         }
     }
 
-    /// Makes room for so many more rows in each table, and for so many keys that are texts; answers
-    /// whether there is.
-    pub(crate) fn make_room(&mut self, more: usize, keys: usize) -> bool
+    /// Gives each row that these writes may add a place, and makes room for so many keys that are texts;
+    /// answers whether there is.
+    pub(crate) fn make_room(&mut self, rows: &Rows, puts: &[Put], keys: usize) -> bool
+        requires { spec.HasPlaces self.old rows.now }
         ensures same { (key : Key) → spec.stored self.new key ≡ spec.stored self.old key }
         ensures places { spec.MorePlaces self.old self.new }
-        ensures room { OnTrue result (spec.HasRoom self.new more) }
+        ensures room { OnTrue result (spec.HasRoom self.new rows.now puts.now) }
         ensures spare { OnTrue result (spec.HasSpare self.new keys) }
     {
         let mut rooms = true;
-        for number in 0..self.columns.len() {
-            rooms = self.columns[number].make_room(more) && rooms;
+        for put in puts {
+            rooms = self.make_room_for(rows, put, puts.len()) && rooms;
         }
         let names = self.names.reserve(keys).is_ok();
         let said = self.said.reserve(keys).is_ok();

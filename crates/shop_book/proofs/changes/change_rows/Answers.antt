@@ -1,31 +1,16 @@
-use Rattle.std.proofs.Common.{length, sym, ◌∙◌, ap, subst, arith}
+use Rattle.std.proofs.Common.{sym, ◌∙◌, ap, subst}
 use Rattle.shop_model.specs.declared.tables.Tables.{Tables}
-use Rattle.shop_model.specs.rows.Empty.{no_tables}
 use Rattle.shop_history.specs.declared.acts.Act.{Act}
 use Rattle.shop_history.specs.Drawing.{new_ids}
-use Rattle.shop_history.specs.MayChange.{may_change}
-use Rattle.shop_book.specs.Changing.{after, IsChange, IsDone}
-use Rattle.shop_book.specs.Planning.{keys_in}
+use Rattle.shop_book.specs.Changing.{IsChange, IsDone}
 use Rattle.shop_book.specs.Readiness.{IdsFit}
 use Rattle.shop_book.specs.RowsNow.{tables_with}
 use Rattle.shop_book.specs.declared.ids.Sizes.{Sizes}
 use Rattle.shop_book.specs.Sizes.{ids_behind}
-use Rattle.shop_book.specs.Stored.{stored}
-use Rattle.shop_book.proofs.Sizes.{FewMore, few_more}
-use Rattle.shop_book.proofs.Fitting.{few_sizes, room_for}
+use Rattle.shop_book.proofs.Fitting.{room_places, all_placed}
 use Rattle.shop_book.proofs.Doing.{done_of, watchable_done}
-use Rattle.shop_book.proofs.WatchingLemmas.{raised_from}
 use Rattle.shop_book.proofs.changes.change_rows.Goals as goal
 use Rattle.shop_book.proofs.changes.change_rows.Goals.{After-put_all}
-
-pub grow-requires : goal.grow-requires
-grow-requires c =
-    let few : FewMore (tables_with no_tables c.args.rows.now) (tables_with no_tables c.put_all.new.self) (length c.args.puts.items)
-    = subst (λ u. FewMore (tables_with no_tables c.args.rows.now) u (length c.args.puts.items)) (sym (c.put_all.ensures no_tables)) (few_more (tables_with no_tables c.args.rows.now) c.args.stamp c.args.puts.items) in
-    record {
-      long = c.requires.places.long;
-      each = λ column. room_for c.args.versions.now c.args.rows.now c.put_all.new.self (length c.args.puts.items) c.requires.places c.requires.room (few_sizes c.args.rows.now c.put_all.new.self (length c.args.puts.items) few) column;
-    }
 
 -- the change is done once the writes were made
 done : (c : After-put_all) (t : Tables) (a : Act) → IsChange t a c.args.rows.now c.args.lists.now c.args.plan c.args.stamp c.args.puts.items → IsDone t a c.args.stamp c.put_all.new.self c.args.lists.now c.args.plan
@@ -36,12 +21,13 @@ carry_out-requires-clause-done c =
     let at = goal.at.carry_out-requires-clause-done c in
     (c.requires.change.0, c.requires.change.1, c.args.stamp, done at.After-put_all c.requires.change.0 c.requires.change.1 c.requires.change.2)
 
+pub carry_out-requires-clause-places : goal.carry_out-requires-clause-places
+carry_out-requires-clause-places c =
+    all_placed c.args.versions.now c.args.rows.now c.put_all.new.self c.requires.ready.tables c.args.stamp c.args.puts.items (c.put_all.ensures c.requires.ready.tables) c.requires.room
+
 pub carry_out-requires-clause-watchable : goal.carry_out-requires-clause-watchable
 carry_out-requires-clause-watchable c =
-    watchable_done c.requires.change.0 c.requires.change.1 c.args.rows.now c.args.lists.now c.args.plan c.args.stamp c.args.puts.items c.requires.change.2 c.args.versions.now c.grow.new.self c.requires.places c.grow.ensures.longer
-
-pub carry_out-requires-clause-spare : goal.carry_out-requires-clause-spare
-carry_out-requires-clause-spare c = c.grow.ensures.spare (keys_in c.args.plan) c.requires.spare
+    watchable_done c.requires.change.0 c.requires.change.1 c.args.rows.now c.args.lists.now c.args.plan c.args.stamp c.args.puts.items c.requires.change.2 c.args.versions.now (room_places c.requires.room)
 
 pub new_ids-requires : goal.new_ids-requires
 new_ids-requires c = (c.requires.ready.tables, subst IdsFit (sym (c.put_all.ensures c.requires.ready.tables)) c.requires.ready.fits)
@@ -55,8 +41,7 @@ returns-clause-lists c = λ t a change.
 
 pub returns-clause-raised : goal.returns-clause-raised
 returns-clause-raised c = λ t a change.
-    raised_from t (after t c.args.stamp a) c.args.number (may_change t a) (stored c.args.versions.now) (stored c.grow.new.self) (stored c.carry_out.new.versions) c.grow.ensures.same
-    (c.carry_out.ensures.raised t a c.args.stamp (done_of t a c.args.rows.now c.args.lists.now c.args.plan c.args.stamp c.args.puts.items c.put_all.new.self change (c.put_all.ensures t)))
+    c.carry_out.ensures.raised t a c.args.stamp (done_of t a c.args.rows.now c.args.lists.now c.args.plan c.args.stamp c.args.puts.items c.put_all.new.self change (c.put_all.ensures t))
 
 pub returns-clause-ids : goal.returns-clause-ids
 returns-clause-ids c = λ t a change.

@@ -13,6 +13,8 @@ use Rattle.shop_book.specs.BookView.{book_of}
 use Rattle.shop_book.specs.Changing.{after, IsChange}
 use Rattle.shop_book.specs.Keeping.{IsKept}
 use Rattle.shop_book.specs.RowsNow.{HasRoom}
+use Rattle.shop_book.specs.declared.puts.Put.{Put}
+use Rattle.shop_book.specs.Stored as versioned
 use Rattle.shop_book.specs.Stored.{stored}
 use Rattle.shop_book.specs.Openings.{most_entries}
 use Rattle.shop_book.specs.Summaries.{charge_limit, cents_in}
@@ -109,13 +111,13 @@ change_rows-ids-requires-clause-change c =
 
 pub change_rows-ids-requires-clause-ready : goal.change_rows-ids-requires-clause-ready
 change_rows-ids-requires-clause-ready c =
-    let many : c.len-more.result ≡ length c.in-Ok-puts_of.puts.items = omega (arith, c.len-more.ensures, c.in-Ok-puts_of.puts.ok.0) in
     ready _ _ c.self.invariant.is_book _ _ c.self.view_is c.requires c.in-Ok.ensures.form c.self.inside.rows c.self.inside.versions c.self.inside.counts c.self.inside.lists c.self.inside.cents c.self.invariant
     c.make_room.new.rows c.make_room.ensures.rows c.make_room.new.lists c.make_room.ensures.lists c.in-Ok.plan c.in-Ok.ensures.plan c.in-Ok-puts_of.puts.items c.in-Ok-puts_of.ensures.made
-    (subst (HasRoom c.make_room.new.rows) many c.if-not-make_room.ensures.rows_room) c.in-Ok-puts_of.ensures.whole
+    (subst (λ (puts : List Put). HasRoom c.make_room.new.rows (length puts)) c.as_slice-added.ensures.value c.if-not-make_room.ensures.rows_room) c.in-Ok-puts_of.ensures.whole
 
-pub change_rows-ids-requires-clause-places : goal.change_rows-ids-requires-clause-places
-change_rows-ids-requires-clause-places c = (kept_now (goal.at.change_rows-ids-requires-clause-places c).After-make_room).places
+pub change_rows-ids-requires-clause-room : goal.change_rows-ids-requires-clause-room
+change_rows-ids-requires-clause-room c =
+    subst (versioned.HasRoom c.make_room.new.versions c.make_room.new.rows) c.as_slice-added.ensures.value c.if-not-make_room.ensures.versions_room
 
 pub invariant_of-self-2 : goal.invariant_of-self-2
 invariant_of-self-2 c =

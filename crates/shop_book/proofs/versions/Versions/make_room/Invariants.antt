@@ -1,14 +1,13 @@
-use Rattle.std.proofs.Common.{◌≡◌, ℕ, ◌<◌, ◌≤◌, length, get_or}
+use Rattle.std.proofs.Common.{◌≡◌}
 use Rattle.std.specs.Bool.{OnTrue}
-use Rattle.shop_book.specs.Stored.{empty, numbers}
+use Rattle.shop_history.specs.declared.keys.Key.{Key}
+use Rattle.shop_book.specs.Stored.{stored, MorePlaces}
+use Rattle.shop_book.proofs.Fitting.{HasRoomUntil}
 use Rattle.shop_book.proofs.versions.Versions.make_room.Given as goal
 
-abbrev pub invariant-loop-number : goal.invariant-loop-number
-invariant-loop-number l = record {
-  long : length l.self.columns.items ≡ length l.fn.self.columns.items;
-  until : l.number-end ≡ length l.fn.self.columns.items;
-  same : (column : ℕ) → numbers l.self column ≡ numbers l.fn.self column;
-  names : l.self.names ≡ l.fn.self.names;
-  said : l.self.said ≡ l.fn.self.said;
-  room : OnTrue l.rooms ((column : ℕ) → column < l.number → l.more ≤ (get_or l.self.columns.items column empty).room);
+abbrev pub invariant-loop-put : goal.invariant-loop-put
+invariant-loop-put l = record {
+  same : (key : Key) → stored l.self key ≡ stored l.fn.self key;
+  longer : MorePlaces l.fn.self l.self;
+  room : OnTrue l.rooms (HasRoomUntil l.self l.rows l.puts l.put-index);
 }
