@@ -73,10 +73,8 @@ pub record Mending (t : Tables) (a : Act) (item : ℕ) (row : Row) : Type 0 wher
   pub row_is : row ≡ row_of t (key.Item item)
 
 mending : (t : Tables) (a : Act) (item : ℕ) (row : Row) → IsPlanOf t a (Mend item row) → Mending t a item row
-mending t (act.Cart asked draw) item row planned = absurd planned
-mending t (act.Enter asked draw) item row planned = absurd planned
-mending t (act.Confirm asked draw auth) item row planned = absurd planned
 mending t (act.Admin asked) item row planned = record { asked = asked; does = refl; asks = planned.0; row_is = planned.1 }
+mending t _ item row planned = absurd planned
 
 -- watched keys have places where they showed rows
 pub watchable_done : (t : Tables) (a : Act) (rows : Rows) (lists : Lists) (plan : Plan) (stamp : ℕ) (puts : List Put) → IsChange t a rows lists plan stamp puts
@@ -127,10 +125,8 @@ pub record Selling (t : Tables) (a : Act) (keys : List Key) : Type 0 where
   pub keys_are : keys ≡ certain_changes t asked
 
 selling : (t : Tables) (a : Act) (keys : Vec Key Global) → IsPlanOf t a (Sell keys) → Selling t a keys.items
-selling t (act.Cart asked draw) keys planned = absurd planned
-selling t (act.Enter asked draw) keys planned = absurd planned
 selling t (act.Confirm asked draw auth) keys planned = record { asked = asked; draw = draw; auth = auth; does = refl; keys_are = planned }
-selling t (act.Admin asked) keys planned = absurd planned
+selling t _ keys planned = absurd planned
 
 module _ (t : Tables) (a : Act) (stamp : ℕ) (rows : Rows) (lists : Lists) (plan : Plan) (keys : Vec Key Global) (same : plan ≡ Sell keys) (done : IsDone t a stamp rows lists plan) where
   sells : Selling t a keys.items

@@ -162,5 +162,4 @@ pub lists_kept : (t : Tables) (stamp : ℕ) (a : Act) (lists : Lists) → MovesN
 lists_kept t stamp (act.Cart asked draw) lists nothing are = lists_same t (play t stamp (act.Cart asked draw)).tables refl refl lists are
 lists_kept t stamp (act.Enter asked draw) lists nothing are =
     lists_same t (tables_entered t stamp draw asked.buyer) (enter_items t stamp draw asked.buyer) (enter_orders t stamp draw asked.buyer) lists are
-lists_kept t stamp (act.Confirm asked draw auth) lists nothing are = absurd nothing
-lists_kept t stamp (act.Admin asked) lists nothing are = absurd nothing
+lists_kept t stamp _ lists nothing are = absurd nothing

@@ -109,8 +109,6 @@ keys_more watched kept = map-append (λ (w : Watched). w.key) watched (kept ∷ 
 
 -- the keys that an act may change that moves no list are watched
 pub may_change_watchable : (t : Tables) (a : Act) → MovesNoList a → All IsWatchable (may_change t a)
-may_change_watchable t (act.Confirm asked draw auth) nothing = absurd nothing
-may_change_watchable t (act.Admin asked) nothing = absurd nothing
 may_change_watchable t (act.Cart asked draw) nothing = All-cons IsWatchable _ [] tt (All-nil IsWatchable)
 may_change_watchable t (act.Enter asked draw) nothing = of asked.buyer
   where
@@ -129,3 +127,4 @@ may_change_watchable t (act.Enter asked draw) nothing = of asked.buyer
         let rest : List Key = address_changes t asked.address (address_saying t asked.address) in
         let name : Key = key.Name (digsyl (length t.customers + 1)) in
         All-cons IsWatchable (key.Customer (length t.customers + 1)) (name ∷ rest) tt (All-cons IsWatchable name rest tt (address asked.address (address_saying t asked.address)))
+may_change_watchable t _ nothing = absurd nothing

@@ -31,8 +31,7 @@ certain_changes t asked =
 abbrev pub MovesNoList : Act → Type 0
 MovesNoList (act.TheVariants.Cart asked draw) = Unit {0}
 MovesNoList (act.TheVariants.Enter asked draw) = Unit {0}
-MovesNoList (act.TheVariants.Confirm asked draw auth) = ⊥
-MovesNoList (act.TheVariants.Admin asked) = ⊥
+MovesNoList _ = ⊥
 
 -- all keys that an act may change are watched, with what they show
 pub record IsCompared (t : Tables) (a : Act) (watched : List Watched) : Type 0 where
