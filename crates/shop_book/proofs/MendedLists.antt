@@ -32,7 +32,8 @@ use Rattle.shop_book.specs.declared.rows.Rows.{Rows}
 use Rattle.shop_book.specs.KeptLists.{AreLists}
 use Rattle.shop_book.specs.Mending.{IsMended, IsListedAnew}
 use Rattle.shop_book.specs.Places.{subject_id}
-use Rattle.shop_book.proofs.RankedSales.{value_there}
+use Rattle.shop_book.proofs.KeptLists.{value_at}
+use Rattle.shop_book.proofs.RankedSales.{shown}
 use Rattle.shop_book.proofs.Grid.{set_here}
 use Rattle.shop_book.proofs.SubjectIds.{there, subject_at_place}
 use Rattle.shop_book.proofs.WatchingLemmas.{key_cases}
@@ -48,9 +49,6 @@ value_set f g [] k x at same = absurd cc
 value_set f g (y ∷ ys) zero x at same = ap₂ (λ z zs. z ∷ zs) (ap f (cc)) (values_same f g ys (λ j z there. same (suc j) z there (λ e. cc)))
 value_set f g (y ∷ ys) (suc k) x at same =
     ap₂ (λ z zs. z ∷ zs) (same 0 y refl (λ e. cc)) (value_set f g ys k x at (λ j z there apart. same (suc j) z there (λ e. apart (cc))))
-
-shown : (one other : List ℕ) → row.Items one ≡ row.Items other → one ≡ other
-shown one other same = cc
 
 module _ (t : Tables) (stamp : ℕ) (asked : AdminAsked) (item : ℕ) (rows : Rows) (is : IsMended t stamp asked item rows) where
   abbrev pub mended : ItemRow
@@ -157,7 +155,7 @@ module _ (t : Tables) (stamp : ℕ) (asked : AdminAsked) (item : ℕ) (rows : Ro
 
     module _ (number : ℕ) (old new : Key → ℕ) (anew : IsListedAnew (get_or lists.newest_rows.items place []) (standing_newest days subject) number subject old new) where
       was_is : get_or lists.newest_rows.items place [] ≡ newest t subject
-      was_is = ap (λ (ls : List (List ℕ)). get_or ls place []) are.newest_rows ∙ value_there (newest t) subjects place subject [] (there subject)
+      was_is = ap (λ (ls : List (List ℕ)). get_or ls place []) are.newest_rows ∙ value_at (newest t) subjects place subject [] (there subject)
 
       -- its key gets the number where it shows another list
       newest_raised : RaisedFor t now number (key.NewIn subject ∷ []) old new

@@ -28,7 +28,7 @@ use Rattle.shop_ranking.proofs.cited.Standing.{standing_best_is}
 use Rattle.shop_book.specs.Places.{subject_id}
 use Rattle.shop_book.specs.Sales.{Bumps, Renews, IsRenewed, subject_in, subjects_in, gone_items, gone_subjects}
 use Rattle.shop_book.proofs.Ascending.{by_test}
-use Rattle.shop_book.proofs.KeptLists.{sold_is}
+use Rattle.shop_book.proofs.KeptLists.{sold_is, value_at}
 use Rattle.shop_book.proofs.SubjectIds.{there}
 
 contains_unmap : {A B : Type 0} (f : A → B) (xs : List A) (y : B) → Contains (map f xs) y → (x : A) × Contains xs x × (f x ≡ y)
@@ -46,16 +46,11 @@ some_there [] k within none = absurd (omega (arith, within))
 some_there (x ∷ xs) zero within none = absurd cc
 some_there (x ∷ xs) (suc k) within none = some_there xs k (omega (arith, within)) none
 
-pub value_there : {A B : Type 0} (f : A → B) (xs : List A) (k : ℕ) (x : A) (d : B) → slice_get xs k ≡ Some x → get_or (map f xs) k d ≡ f x
-value_there f [] k x d is = absurd cc
-value_there f (y ∷ ys) zero x d is = ap f cc
-value_there f (y ∷ ys) (suc k) x d is = value_there f ys k x d is
-
 -- where a subject's list stands
 abbrev place : Subject → ℕ
 place s = subject_id s - 1
 
-shown : (one other : List ℕ) → row.Items one ≡ row.Items other → one ≡ other
+pub shown : (one other : List ℕ) → row.Items one ≡ row.Items other → one ≡ other
 shown one other same = cc
 
 a_subject : (one other : Subject) → key.BestIn one ≡ key.BestIn other → one ≡ other
@@ -222,7 +217,7 @@ module _ (t : Tables) (sound : Sound t) (order : OrderRow) where
                 (renews.each k s is)
               where
                 at : (s : Subject) → slice_get subjects k ≡ Some s → get_or (map (best after) subjects) k [] ≡ best after s
-                at s is = value_there (best after) subjects k s [] is
+                at s is = value_at (best after) subjects k s [] is
 
     -- and the keys that show others get the number
     pub ranks_raised : RaisedFor t after number (ranks_change t (items_of order) ++ unranked_changes t gone) old new

@@ -30,7 +30,8 @@ use Rattle.shop_history.proofs.SaleFrame.{new_in_stays}
 use Rattle.shop_book.specs.Auths.{AreAuths, has_in}
 use Rattle.shop_book.specs.KeptLists.{IsAdmitted, AreLists}
 use Rattle.shop_book.specs.Sales.{IsSale, AreThere, AreRanked, IsRemembered, Bumps, Renews, subjects_in, gone_items, gone_subjects}
-use Rattle.shop_book.proofs.RankedSales.{value_there, units_after, lists_after, ranks_raised}
+use Rattle.shop_book.proofs.KeptLists.{value_at}
+use Rattle.shop_book.proofs.RankedSales.{units_after, lists_after, ranks_raised}
 use Rattle.shop_book.proofs.WatchingLemmas.{raised_and}
 use Rattle.shop_book.proofs.WindowMoves.{gone_found, window_after}
 
@@ -47,7 +48,7 @@ nothing_set sold units = record {
 pub nothing_listed : (t : Tables) (lists : Lists) → AreRanked t lists → (is : Subject → List ℕ) (number : ℕ) (versions : Key → ℕ) → Renews (best t) is number [] lists.best_rows.items versions versions
 nothing_listed t lists ranked is number versions = record {
   size = ap length ranked.best_rows ∙ length-map subjects (best t);
-  each = λ place subject at. inl (ap (λ (rows : List (List ℕ)). get_or rows place []) ranked.best_rows ∙ value_there (best t) subjects place subject [] at, refl);
+  each = λ place subject at. inl (ap (λ (rows : List (List ℕ)). get_or rows place []) ranked.best_rows ∙ value_at (best t) subjects place subject [] at, refl);
   all = λ place subject at has. absurd (omega (arith, has.1));
   others = λ k apart. refl;
 }

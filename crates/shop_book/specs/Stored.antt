@@ -1,7 +1,6 @@
 -- The version that is stored for a key, and which keys have a place for one.
 use Rattle.std.specs.Prelude.{◌≡◌, ℕ, ◌+◌, ◌≤◌, All, List, [], length, get_or, Option, Some, None, unwrap_or, bytes_eq}
 use Rattle.std.specs.HashMap.{get, spare}
-use Rattle.shop_model.specs.declared.address.AddressText.{AddressText}
 use Rattle.shop_model.specs.rows.Sound.{Has}
 use Rattle.shop_history.specs.declared.keys.Key as key
 use Rattle.shop_history.specs.declared.keys.Key.{Key}

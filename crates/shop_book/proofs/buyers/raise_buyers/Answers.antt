@@ -1,4 +1,4 @@
-use Rattle.std.proofs.Common.{◌≡◌, ℕ, ◌+◌, Bool, List, [], ◌∷◌, ◌++◌, length, map, take, sym, ◌∙◌, ap, subst, arith}
+use Rattle.std.proofs.Common.{◌≡◌, ℕ, ◌+◌, Bool, List, [], ◌∷◌, ◌++◌, length, map, take, sym, ◌∙◌, ap, subst}
 use Rattle.shop_model.specs.rows.Rows.{LineRow, OrderRow}
 use Rattle.shop_model.specs.rows.Sound.{Has}
 use Rattle.shop_history.specs.declared.keys.Key.TheVariants as key

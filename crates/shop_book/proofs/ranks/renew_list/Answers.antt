@@ -1,7 +1,6 @@
-use Rattle.std.proofs.Common.{◌≡◌, ℕ, [], set, get_or, inl, inr, refl, sym, ◌∙◌, ap, subst, arith}
+use Rattle.std.proofs.Common.{◌≡◌, [], set, get_or, inl, inr, refl, sym, ◌∙◌, ap, arith}
 use Rattle.std.proofs.lemmas.List.{get_or_default}
 use Rattle.std.proofs.lemmas.Option.{slice_get_within}
-use Rattle.shop_model.specs.rows.Sound.{Has}
 use Rattle.shop_model.specs.rows.Subjects.{subjects}
 use Rattle.shop_ranking.specs.StandingBest.{standing_best}
 use Rattle.shop_book.specs.Places.{subject_id}

@@ -1,4 +1,4 @@
-use Rattle.std.proofs.Common.{◌≡◌, ℕ, ◌+◌, ◌<◌, List, [], ◌∷◌, ◌++◌, length, get_or, sym, ◌∙◌, ap, subst, arith, length-append}
+use Rattle.std.proofs.Common.{◌≡◌, ℕ, List, [], ◌∷◌, ◌++◌, length, get_or, sym, ◌∙◌, ap, arith, length-append}
 use Rattle.shop_book.specs.Columns.{at}
 use Rattle.shop_book.proofs.Grid.{push_each, push_none}
 use Rattle.shop_book.proofs.versions.Versions.new.Goals as goal

@@ -1,4 +1,4 @@
-use Rattle.std.proofs.Common.{◌≡◌, ℕ, ◌<◌, ◌≤◌, [], length, get_or}
+use Rattle.std.proofs.Common.{◌≡◌, ℕ, ◌<◌, [], length, get_or}
 use Rattle.shop_book.specs.Columns.{at}
 use Rattle.shop_book.specs.Places.{sizes}
 use Rattle.shop_book.proofs.versions.Versions.new.Given as goal

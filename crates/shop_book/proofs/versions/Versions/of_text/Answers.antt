@@ -1,4 +1,4 @@
-use Rattle.std.proofs.Common.{◌≡◌, unwrap_or, sym, ◌∙◌, ap}
+use Rattle.std.proofs.Common.{unwrap_or, sym, ◌∙◌, ap}
 use Rattle.std.specs.HashMap.{get}
 use Rattle.shop_model.specs.declared.address.AddressText.{AddressText}
 use Rattle.shop_book.specs.Said.{alike}

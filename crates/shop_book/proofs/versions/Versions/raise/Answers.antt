@@ -1,4 +1,4 @@
-use Rattle.std.proofs.Common.{◌≡◌, ℕ, ◌-◌, slice_set, List, [], length, get_or, set, Option, Some, unwrap_or, refl, sym, ◌∙◌, ap, subst, arith}
+use Rattle.std.proofs.Common.{◌≡◌, ℕ, ◌-◌, slice_set, List, [], length, get_or, set, Option, Some, unwrap_or, refl, sym, ◌∙◌, ap, subst}
 use Rattle.std.specs.HashMap.{get}
 use Rattle.std.specs.Vec.{with_item}
 use Rattle.std.proofs.lemmas.List.{get_or_default}
