@@ -6,6 +6,7 @@ ghost use Rattle.shop_turn.specs.Desks.{seat_of, HasLooked, HasSettled, IsOneSho
 
 use crate::rule::{Board, Place};
 use crate::seats::{meet_at, read_at, settle_at};
+use crate::sleepers::Sleepers;
 use shop_attempt::{Attempt, Settle, Store};
 use shop_history::{Key, Row};
 use shop_text::Memory;
@@ -19,6 +20,7 @@ use std::sync::{Arc, Wait};
 pub struct Desk<R: Wait + Drop> {
     pub(crate) rt: R,
     pub(crate) table: Arc<Board, Global>,
+    pub(crate) sleepers: Arc<Sleepers, Global>,
     pub(crate) seat: Place,
     pub(crate) number: u32,
 }
@@ -42,6 +44,7 @@ impl<R: Wait + Drop> Desk<R> {
         read_at(
             &self.rt,
             &self.table.shared,
+            &self.sleepers,
             &mut self.seat,
             u64::from(self.number),
             key,
@@ -56,6 +59,7 @@ impl<R: Wait + Drop> Desk<R> {
         settle_at(
             &self.rt,
             &self.table.shared,
+            &self.sleepers,
             &mut self.seat,
             self.number,
             attempt,
@@ -71,6 +75,7 @@ impl<R: Wait + Drop> Desk<R> {
         meet_at(
             &self.rt,
             &self.table.shared,
+            &self.sleepers,
             &mut self.seat,
             &mut other.seat,
             u64::from(self.number),

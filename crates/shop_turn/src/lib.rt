@@ -6,6 +6,7 @@ mod desk;
 mod rule;
 mod seats;
 mod shop;
+mod sleepers;
 mod turns;
 
 pub use desk::Desk;

@@ -7,6 +7,7 @@ ghost use Rattle.shop_turn.specs.Seats.{IsAt, IsReady, MayBeNamed, SeatIs, Found
 
 use crate::boxed_book::BoxedBook;
 use crate::rule::{Both, COUNT, Common, Copies, Look, LookToSettle, NAMED, Name, Place};
+use crate::sleepers::Sleepers;
 use crate::turns::{accept, give_back, take_turn};
 use shop_attempt::{Attempt, Settle};
 use shop_book::Book;
@@ -51,32 +52,39 @@ pub fn new_seat<R: Wait>(rt: &R, shared: &Common, root: &mut Place, number: u64)
 }
 
 /// Waits for the turn, takes the book, and looks at its log.
-fn find_book<R: Wait>(rt: &R, shared: &Common, seat: &mut Place, number: u64) -> BoxedBook
+fn find_book<R: Wait>(
+    rt: &R,
+    shared: &Common,
+    sleepers: &Sleepers,
+    seat: &mut Place,
+    number: u64,
+) -> BoxedBook
     requires at { IsAt shared.now.table_id seat.old }
     requires ready { IsReady number seat.old.me }
     ensures found { Found result seat.old.me.0 }
     ensures seat { SeatIs seat.old (looking 0 (taking result seat.old.me.0), (0, None) ∷ []) seat.new }
 {
-    let book = take_turn(rt, shared, seat, number);
+    let book = take_turn(rt, shared, sleepers, seat, number);
     let _size = book.get().size();
     shared.load::<Look>(seat, COUNT);
     book
 }
 
 /// Looks at the log.
-fn look_at<R: Wait>(rt: &R, shared: &Common, seat: &mut Place, number: u64)
+fn look_at<R: Wait>(rt: &R, shared: &Common, sleepers: &Sleepers, seat: &mut Place, number: u64)
     requires at { IsAt shared.now.table_id seat.old }
     requires ready { IsReady number seat.old.me }
     ensures { Finds seat.old.me.0 seat.old seat.new }
 {
-    let book = find_book(rt, shared, seat, number);
-    give_back(shared, seat, book);
+    let book = find_book(rt, shared, sleepers, seat, number);
+    give_back(shared, sleepers, seat, book);
 }
 
 /// What a key shows, and its version, in the log found.
 pub fn read_at<R: Wait>(
     rt: &R,
     shared: &Common,
+    sleepers: &Sleepers,
     seat: &mut Place,
     number: u64,
     key: &Key,
@@ -85,9 +93,9 @@ pub fn read_at<R: Wait>(
     requires ready { IsReady number seat.old.me }
     ensures { Reads seat.old seat.new key.now result }
 {
-    let mut book = find_book(rt, shared, seat, number);
+    let mut book = find_book(rt, shared, sleepers, seat, number);
     let read = book.get_mut().read(key);
-    give_back(shared, seat, book);
+    give_back(shared, sleepers, seat, book);
     read
 }
 
@@ -95,6 +103,7 @@ pub fn read_at<R: Wait>(
 pub fn settle_at<R: Wait>(
     rt: &R,
     shared: &Common,
+    sleepers: &Sleepers,
     seat: &mut Place,
     number: u32,
     attempt: Attempt,
@@ -105,7 +114,7 @@ pub fn settle_at<R: Wait>(
     requires moment { attempt.moment ≤ stamp_limit }
     ensures { Settled number attempt seat.old seat.new result }
 {
-    let mut book = take_turn(rt, shared, seat, u64::from(number));
+    let mut book = take_turn(rt, shared, sleepers, seat, u64::from(number));
     shared.load::<LookToSettle>(seat, COUNT);
     let next = book.get().count_of(number) + 1;
     let moment = attempt.moment;
@@ -113,26 +122,33 @@ pub fn settle_at<R: Wait>(
     let answer = book.get_mut().settle(number, next, attempt);
     match answer {
         Settle::Done(drawn) => {
-            accept(shared, seat, book, moment, changes);
+            accept(shared, sleepers, seat, book, moment, changes);
             Settle::Done(drawn)
         }
         Settle::Stale(conflict) => {
-            give_back(shared, seat, book);
+            give_back(shared, sleepers, seat, book);
             Settle::Stale(conflict)
         }
         Settle::Full(size) => {
-            give_back(shared, seat, book);
+            give_back(shared, sleepers, seat, book);
             Settle::Full(size)
         }
         Settle::Memory => {
-            give_back(shared, seat, book);
+            give_back(shared, sleepers, seat, book);
             Settle::Memory
         }
     }
 }
 
 /// Takes in what the other seat has seen, and looks.
-pub fn meet_at<R: Wait>(rt: &R, shared: &Common, seat: &mut Place, other: &mut Place, number: u64)
+pub fn meet_at<R: Wait>(
+    rt: &R,
+    shared: &Common,
+    sleepers: &Sleepers,
+    seat: &mut Place,
+    other: &mut Place,
+    number: u64,
+)
     requires at { IsAt shared.now.table_id seat.old }
     requires ready { IsReady number seat.old.me }
     requires other { IsAt shared.now.table_id other.old }
@@ -141,7 +157,7 @@ pub fn meet_at<R: Wait>(rt: &R, shared: &Common, seat: &mut Place, other: &mut P
 {
     let shadow = shared.split_seat::<Copies>(other);
     shared.join_seat::<Both>(seat, shadow);
-    look_at(rt, shared, seat, number);
+    look_at(rt, shared, sleepers, seat, number);
 }
 
 /// Takes in all that the other seat has.
@@ -155,10 +171,16 @@ pub fn join_at(shared: &Common, seat: &mut Place, other: Place)
 }
 
 /// Takes the book for good.
-pub fn close_at<R: Wait>(rt: &R, shared: &Common, seat: &mut Place, number: u64) -> Book
+pub fn close_at<R: Wait>(
+    rt: &R,
+    shared: &Common,
+    sleepers: &Sleepers,
+    seat: &mut Place,
+    number: u64,
+) -> Book
     requires at { IsAt shared.now.table_id seat.old }
     requires ready { IsReady number seat.old.me }
     ensures { Found result seat.old.me.0 }
 {
-    find_book(rt, shared, seat, number).into_inner()
+    find_book(rt, shared, sleepers, seat, number).into_inner()
 }

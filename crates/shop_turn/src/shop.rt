@@ -7,6 +7,7 @@ use crate::Desk;
 use crate::boxed_book::BoxedBook;
 use crate::rule::{Board, Place, Start};
 use crate::seats::{close_at, join_at, new_seat};
+use crate::sleepers::Sleepers;
 use atomic_table::{Refused, Table};
 use shop_book::Book;
 use shop_text::Memory;
@@ -48,12 +49,14 @@ impl Shop {
         ensures { IfOk result (λ desks. Opens book callers desks.items) }
     {
         let (table, mut root) = lay(alloc, book, callers)?;
+        let sleepers = Arc::new(alloc, Sleepers::none())?;
         let mut desks = Vec::new(alloc);
         for i in 0..callers {
             let seat = new_seat(rt, &table.shared, &mut root, u64::from(i + 1));
             desks.push(Desk {
                 rt: rt.clone()?,
                 table: Arc::try_clone(&table)?,
+                sleepers: Arc::try_clone(&sleepers)?,
                 seat,
                 number: i + 1,
             })?;
@@ -69,6 +72,7 @@ impl Shop {
         let Desk {
             rt,
             table,
+            sleepers,
             mut seat,
             number,
         } = first;
@@ -76,11 +80,12 @@ impl Shop {
             let Desk {
                 rt: _,
                 table: _,
+                sleepers: _,
                 seat: other,
                 number: _,
             } = desk;
             join_at(&table.shared, &mut seat, other);
         }
-        close_at(&rt, &table.shared, &mut seat, u64::from(number))
+        close_at(&rt, &table.shared, &sleepers, &mut seat, u64::from(number))
     }
 }

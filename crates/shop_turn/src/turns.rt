@@ -5,7 +5,7 @@ ghost use Rattle.shop_turn.specs.Seats.{IsAt, IsReady, HasTurn, SeatIs, TakesBoo
 
 use crate::boxed_book::BoxedBook;
 use crate::rule::{Append, COUNT, Common, GiveBack, LATEST, Place, Raise, TURN, Take};
-use std::hint::spin_loop;
+use crate::sleepers::Sleepers;
 use std::sync::Wait;
 
 /// Takes the book, where nobody has the turn.
@@ -22,7 +22,13 @@ fn try_turn(shared: &Common, seat: &mut Place, number: u64) -> Option<BoxedBook>
 }
 
 /// Waits for the turn, and takes the book.
-pub fn take_turn<R: Wait>(rt: &R, shared: &Common, seat: &mut Place, number: u64) -> BoxedBook
+pub fn take_turn<R: Wait>(
+    rt: &R,
+    shared: &Common,
+    sleepers: &Sleepers,
+    seat: &mut Place,
+    number: u64,
+) -> BoxedBook
     requires at { IsAt shared.now.table_id seat.old }
     requires ready { IsReady number seat.old.me }
     ensures { TakesBook seat.old result seat.new }
@@ -31,33 +37,13 @@ pub fn take_turn<R: Wait>(rt: &R, shared: &Common, seat: &mut Place, number: u64
         if let Some(book) = try_turn(shared, seat, number) {
             return book;
         }
-        wait_for_turn(rt, shared);
+        sleepers.wait(rt, shared);
     }
     unreachable!()
 }
 
-/// How often a caller looks whether the turn is free before it sleeps. These looks take some microseconds:
-/// longer than most turns, and no longer than a sleep with its wake-up.
-const LOOKS: u32 = 500;
-
-/// Waits while the turn is another's, at first awake, then asleep; it may end for no reason.
-fn wait_for_turn<R: Wait>(rt: &R, shared: &Common)
-    requires { TURN < shared.now.table_id.words }
-{
-    for _ in 0..LOOKS {
-        if shared.peek(TURN) == 0 {
-            return;
-        }
-        spin_loop();
-    }
-    let turn = shared.peek(TURN);
-    if 0 < turn && turn <= u64::from(u32::MAX) {
-        shared.park(rt, TURN, turn as u32);
-    }
-}
-
 /// Gives the book back, and the turn.
-pub fn give_back(shared: &Common, seat: &mut Place, book: BoxedBook)
+pub fn give_back(shared: &Common, sleepers: &Sleepers, seat: &mut Place, book: BoxedBook)
     requires at { IsAt shared.now.table_id seat.old }
     requires turn { HasTurn seat.old.me }
     requires book { book ≡ held_book seat.old.me.0 }
@@ -65,11 +51,11 @@ pub fn give_back(shared: &Common, seat: &mut Place, book: BoxedBook)
 {
     drop(shared.exchange(seat, 0, Some(book)));
     shared.store::<GiveBack>(seat, TURN, 0);
-    shared.wake_one(TURN);
+    sleepers.wake_one(shared);
 }
 
 /// Gives back a book that has one entry more. It lies in the slot before the entry counts.
-fn give_back_longer(shared: &Common, seat: &mut Place, book: BoxedBook)
+fn give_back_longer(shared: &Common, sleepers: &Sleepers, seat: &mut Place, book: BoxedBook)
     requires at { IsAt shared.now.table_id seat.old }
     requires turn { HasTurn seat.old.me }
     requires single { seat.old.me.0.others ≡ [] }
@@ -80,11 +66,18 @@ fn give_back_longer(shared: &Common, seat: &mut Place, book: BoxedBook)
     drop(shared.exchange(seat, 0, Some(book)));
     shared.fetch_add::<Append>(seat, COUNT, 1);
     shared.store::<GiveBack>(seat, TURN, 0);
-    shared.wake_one(TURN);
+    sleepers.wake_one(shared);
 }
 
 /// Leaves a mark, and gives back the book of a settle that was accepted.
-pub fn accept(shared: &Common, seat: &mut Place, book: BoxedBook, moment: u64, changes: bool)
+pub fn accept(
+    shared: &Common,
+    sleepers: &Sleepers,
+    seat: &mut Place,
+    book: BoxedBook,
+    moment: u64,
+    changes: bool,
+)
     requires at { IsAt shared.now.table_id seat.old }
     requires turn { HasTurn seat.old.me }
     requires book { IsAccepted moment changes seat.old.me.0 book }
@@ -92,8 +85,8 @@ pub fn accept(shared: &Common, seat: &mut Place, book: BoxedBook, moment: u64, c
 {
     shared.fetch_max::<Raise>(seat, LATEST, moment);
     if changes {
-        give_back_longer(shared, seat, book);
+        give_back_longer(shared, sleepers, seat, book);
     } else {
-        give_back(shared, seat, book);
+        give_back(shared, sleepers, seat, book);
     }
 }
