@@ -1,5 +1,5 @@
 -- The ranks of best sold items once an order came: those of the tables after it, and which keys show others.
-use Rattle.std.proofs.Common.{◌≡◌, ◌≢◌, ℕ, zero, suc, ◌+◌, ◌-◌, ◌<◌, true, false, List, [], ◌∷◌, ◌++◌, length, map, get_or, Contains, Option, Some, None, option_map, unwrap_or, slice_get, ◌⊎◌, inl, inr, ⊎_elim, refl, sym, ◌∙◌, ap, subst, arith}
+use Rattle.std.proofs.Common.{◌≡◌, ◌≢◌, ℕ, zero, suc, ◌+◌, ◌-◌, ◌<◌, List, [], ◌∷◌, ◌++◌, length, map, sum_by, get_or, Contains, Option, Some, None, option_map, unwrap_or, slice_get, ◌⊎◌, inl, inr, ⊎_elim, refl, sym, ◌∙◌, ap, subst, arith}
 use Rattle.std.specs.Prelude.{slice_index}
 use Rattle.std.proofs.lemmas.List.{length-map, get_or-map, ext_get_or}
 use Rattle.std.proofs.lemmas.List.Elements.{Contains-append_left, Contains-append_right, Contains-append_cases}
@@ -22,7 +22,7 @@ use Rattle.shop_history.specs.Keys.{row_of}
 use Rattle.shop_history.specs.MayChange.{leaving, items_of, subject_at, ranks_change, unranked_changes}
 use Rattle.shop_history.proofs.cited.Versions.{RaisedFor}
 use Rattle.shop_history.proofs.SaleFrame.{contains_map, any_contains, none_units, numbered_map, ranks_frame}
-use Rattle.shop_history.proofs.WindowFrame.{window_sum}
+use Rattle.shop_history.proofs.WindowFrame.{window_frame, sums}
 use Rattle.shop_ranking.specs.StandingBest.{Units, AreSoldLately, standing_best}
 use Rattle.shop_ranking.proofs.cited.Standing.{standing_best_is}
 use Rattle.shop_book.specs.Places.{subject_id}
@@ -75,22 +75,13 @@ module _ (t : Tables) (sound : Sound t) (order : OrderRow) where
   sold_stays : (item : ℕ) → Contains done item ⊎ (sold_lately after item ≡ sold_lately t item)
   unfolding sold_lately
   sold_stays item =
-      by_test (has_item item (sold_of order))
-      (λ (has : has_item item (sold_of order) ≡ true). inl (Contains-append_left (items_of order) (gone_items gone) item (any_contains item order.lines has)))
-      (λ (without : has_item item (sold_of order) ≡ false). by gone refl (none_units item order.lines without))
+      ⊎_elim (λ has. inl has) (λ same. inr (same tt))
+      (window_frame 0 (λ a b. a + b) (λ (_ : Unit {0}). sum_by units_of) (λ _. sums units_of) items_of item
+      (λ o. by_test (has_item item (sold_of o)) (λ has. inl (any_contains item o.lines has)) (λ without. inr (λ _. omega (arith, none_units item o.lines without))))
+      counted_orders t.orders order (omega arith))
     where
-      one_of : {a b : OrderRow} → Some a ≡ Some b → a ≡ b
-      one_of same = cc
-
-      by : (left : Option OrderRow) → gone ≡ left → units_in item order.lines ≡ 0 → Contains done item ⊎ (sold_lately after item ≡ sold_lately t item)
-      by None is none = inr (window_sum counted_orders t.orders order (λ o. units_in item o.lines) (omega arith) none (λ other other_is. absurd (let not : None ≡ Some other = sym is ∙ other_is in cc)))
-      by (Some left) is none =
-          by_test (has_item item (sold_of left))
-          (λ (has : has_item item (sold_of left) ≡ true).
-          inl (subst (λ o. Contains (items_of order ++ gone_items o) item) (sym is) (Contains-append_right (items_of order) (items_of left) item (any_contains item left.lines has))))
-          (λ (without : has_item item (sold_of left) ≡ false).
-          inr (window_sum counted_orders t.orders order (λ o. units_in item o.lines) (omega arith) none
-          (λ other other_is. ap (λ (o : OrderRow). units_in item o.lines) (one_of (sym other_is ∙ is)) ∙ none_units item left.lines without)))
+      units_of : OrderRow → ℕ
+      units_of o = units_in item o.lines
 
   -- the units are those that were sold lately
   pub units_after : (was now : Units) (kept : List Sold) → AreSoldLately t was → kept ≡ map sold_of (last counted_orders (t.orders ++ order ∷ []))

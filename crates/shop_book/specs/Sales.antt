@@ -14,7 +14,7 @@ use Rattle.shop_model.specs.rows.Subjects.{subjects}
 use Rattle.shop_model.specs.trade.Sales.{sold_item}
 use Rattle.shop_history.specs.declared.keys.Key as key
 use Rattle.shop_history.specs.declared.keys.Key.{Key}
-use Rattle.shop_history.specs.MayChange.{items_of}
+use Rattle.shop_history.specs.MayChange.{items_of, of_left}
 use Rattle.shop_ranking.specs.StandingBest.{Units, AreSoldLately}
 use Rattle.shop_book.specs.declared.lists.Lists.{Lists}
 use Rattle.shop_book.specs.declared.rows.Rows.{Rows}
@@ -102,12 +102,10 @@ pub record IsRemembered (t : Tables) (lists : Lists) : Type 0 where
 
 -- the items of an order that leaves a window, where one does, and their subjects
 abbrev pub gone_items : Option OrderRow → List ℕ
-gone_items None = []
-gone_items (Some order) = items_of order
+gone_items gone = of_left items_of gone
 
 abbrev pub gone_subjects : List ItemRow → Option OrderRow → List Subject
-gone_subjects items None = []
-gone_subjects items (Some order) = subjects_in items order
+gone_subjects items gone = of_left (subjects_in items) gone
 
 -- the buyers of its items are raised who are no longer among those of this window
 abbrev pub RaisesGone : List Sold → Option OrderRow → ℕ → (Key → ℕ) → (Key → ℕ) → Type 0

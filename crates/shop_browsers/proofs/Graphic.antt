@@ -10,7 +10,7 @@ use Rattle.shop_text.proofs.cited.Plain.{syllable_cases}
 use Rattle.shop_model.specs.declared.card_type.CardType.TheVariants.{Visa}
 use Rattle.shop_model.specs.declared.page.Field.{Field}
 use Rattle.shop_model.specs.declared.requests.Interaction.{Interaction}
-use Rattle.shop_model.specs.declared.requests.Interaction.TheVariants.{Home, NewProducts, BestSellers, ProductDetail, SearchRequest, SearchResults, ShoppingCart, CustomerRegistration, BuyRequest, BuyConfirm, OrderInquiry, OrderDisplay, AdminRequest, AdminConfirm}
+use Rattle.shop_model.specs.declared.requests.Interaction.TheVariants.{NewProducts, BestSellers, ProductDetail, SearchResults, ShoppingCart, BuyRequest, BuyConfirm, OrderDisplay, AdminRequest, AdminConfirm}
 use Rattle.shop_model.specs.declared.requests.SearchKind.{SearchKind}
 use Rattle.shop_model.specs.declared.requests.SearchKind.TheVariants as kind
 use Rattle.shop_model.specs.declared.subject.Subject.TheVariants.{Arts}
@@ -113,20 +113,8 @@ text_piece b kind.Author = last_name_drawn (word_at b 2)
 text_piece b kind.Subject = subject_piece b
 
 path_is : (interaction : Interaction) → (is_piece 32 (path_of interaction) && nat_lt 0 (length (path_of interaction))) ≡ true
-path_is Home = refl
 path_is NewProducts = refl
-path_is BestSellers = refl
-path_is ProductDetail = refl
-path_is SearchRequest = refl
-path_is SearchResults = refl
-path_is ShoppingCart = refl
-path_is CustomerRegistration = refl
-path_is BuyRequest = refl
-path_is BuyConfirm = refl
-path_is OrderInquiry = refl
-path_is OrderDisplay = refl
-path_is AdminRequest = refl
-path_is AdminConfirm = refl
+path_is _ = refl
 
 path_piece : (interaction : Interaction) → IsPiece 32 (path_of interaction)
 path_piece interaction = piece (and_parts (is_piece 32 (path_of interaction)) (nat_lt 0 (length (path_of interaction))) (path_is interaction)).0
@@ -233,20 +221,17 @@ change b =
     (one_more (fixed (codes "thumb") (codes "/img/newthumb.gif") refl refl) no_parameters)))
 
 all_parameters : (b : BrowserState) (interaction : Interaction) → AreParameters 9 (parameters_of b interaction)
-all_parameters b Home = fewer (omega arith) (ids b)
 all_parameters b NewProducts = fewer (omega arith) (subject b)
 all_parameters b BestSellers = fewer (omega arith) (subject b)
 all_parameters b ProductDetail = fewer (omega arith) (one_more (item b) (ids b))
-all_parameters b SearchRequest = fewer (omega arith) (ids b)
 all_parameters b SearchResults = fewer (omega arith) (groups (search_made b) (ids b))
 all_parameters b ShoppingCart = fewer (omega arith) (one_more (item b) (ids b))
-all_parameters b CustomerRegistration = fewer (omega arith) (ids b)
 all_parameters b BuyRequest = groups (id_known (codes "cart") b.cart refl) (buyer b)
 all_parameters b BuyConfirm = fewer (omega arith) (groups (ids b) (card b))
-all_parameters b OrderInquiry = fewer (omega arith) (ids b)
 all_parameters b OrderDisplay = fewer (omega arith) (groups (login b) (ids b))
 all_parameters b AdminRequest = fewer (omega arith) (one_more (item b) (ids b))
 all_parameters b AdminConfirm = fewer (omega arith) (groups (change b) (ids b))
+all_parameters b _ = fewer (omega arith) (ids b)
 
 -- some graphic bytes, and not many
 pub record IsTarget (bytes : List ℕ) : Type 0 where

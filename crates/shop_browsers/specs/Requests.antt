@@ -4,7 +4,7 @@ use Rattle.shop_text.specs.Texts.{digsyl, digsyl_lower}
 use Rattle.shop_model.specs.declared.card_type.CardType.TheVariants.{Visa}
 use Rattle.shop_model.specs.declared.page.Field.{Field}
 use Rattle.shop_model.specs.declared.requests.Interaction.{Interaction}
-use Rattle.shop_model.specs.declared.requests.Interaction.TheVariants.{Home, NewProducts, BestSellers, ProductDetail, SearchRequest, SearchResults, ShoppingCart, CustomerRegistration, BuyRequest, BuyConfirm, OrderInquiry, OrderDisplay, AdminRequest, AdminConfirm}
+use Rattle.shop_model.specs.declared.requests.Interaction.TheVariants.{NewProducts, BestSellers, ProductDetail, SearchResults, ShoppingCart, BuyRequest, BuyConfirm, OrderDisplay, AdminRequest, AdminConfirm}
 use Rattle.shop_model.specs.declared.requests.SearchKind.{SearchKind}
 use Rattle.shop_model.specs.declared.requests.SearchKind.TheVariants as kind
 use Rattle.shop_model.specs.declared.subject.Subject.TheVariants.{Arts}
@@ -97,20 +97,17 @@ carried b = id_fields (record { c = b.customer; cart = b.cart })
 
 -- all parameters of an interaction
 abbrev pub parameters_of : BrowserState → Interaction → List Field
-parameters_of b Home = carried b
 parameters_of b NewProducts = text_field (codes "subject") (subject_drawn b) ∷ carried b
 parameters_of b BestSellers = text_field (codes "subject") (subject_drawn b) ∷ carried b
 parameters_of b ProductDetail = item_field b ∷ carried b
-parameters_of b SearchRequest = carried b
 parameters_of b SearchResults = search_fields b ++ carried b
 parameters_of b ShoppingCart = item_field b ∷ carried b
-parameters_of b CustomerRegistration = carried b
 parameters_of b BuyRequest = id_field (codes "cart") b.cart ++ buyer_fields b
 parameters_of b BuyConfirm = carried b ++ card_fields b
-parameters_of b OrderInquiry = carried b
 parameters_of b OrderDisplay = login_fields b ++ carried b
 parameters_of b AdminRequest = item_field b ∷ carried b
 parameters_of b AdminConfirm = change_fields b ++ carried b
+parameters_of b _ = carried b
 
 -- the target of its next request; the values stand as they are, not encoded
 abbrev pub target_of : BrowserState → List ℕ

@@ -64,20 +64,17 @@ impl Browser {
         ensures { OnOk result (AddsLast text.old (codes "?") (spec.parameters_of self.now interaction) text.new) }
     {
         match interaction {
-            Interaction::Home => self.push_ids(text),
             Interaction::NewProducts => self.push_subject(text),
             Interaction::BestSellers => self.push_subject(text),
             Interaction::ProductDetail => self.push_item_and_ids(text),
-            Interaction::SearchRequest => self.push_ids(text),
             Interaction::SearchResults => self.push_search(text),
             Interaction::ShoppingCart => self.push_item_and_ids(text),
-            Interaction::CustomerRegistration => self.push_ids(text),
             Interaction::BuyRequest => self.push_buyer(text),
             Interaction::BuyConfirm => self.push_card(text),
-            Interaction::OrderInquiry => self.push_ids(text),
             Interaction::OrderDisplay => self.push_login_and_ids(text),
             Interaction::AdminRequest => self.push_item_and_ids(text),
             Interaction::AdminConfirm => self.push_change(text),
+            _ => self.push_ids(text),
         }
     }
 

@@ -7,7 +7,7 @@ use Rattle.shop_model.specs.declared.address.AddressText.{AddressText}
 use Rattle.shop_model.specs.declared.buying.Buyer.{Buyer}
 use Rattle.shop_model.specs.declared.buying.Buyer.TheVariants.{Returning, Newcomer}
 use Rattle.shop_model.specs.declared.requests.Request.{Request}
-use Rattle.shop_model.specs.declared.requests.Request.TheVariants.{Home, NewProducts, BestSellers, ProductDetail, SearchRequest, SearchResults, CartRequest, CustomerRegistration, BuyRequest, BuyConfirm, OrderInquiry, OrderDisplay, AdminRequest, AdminConfirm}
+use Rattle.shop_model.specs.declared.requests.Request.TheVariants.{Home, SearchRequest, CartRequest, BuyRequest, BuyConfirm, OrderDisplay, AdminConfirm}
 use Rattle.shop_model.specs.declared.tables.Tables.{Tables}
 use Rattle.shop_model.specs.asked.CartAsked.{CartAsked}
 use Rattle.shop_model.specs.trade.Carts.{lines_named}
@@ -109,16 +109,11 @@ bought_later t log longer cart key extends item = (item.0, on_cart_later t log l
 about_later : (t : Tables) (log longer : List Entry) (request : Request) (draw : ℕ) (key : Key) → Extends log longer → IsAbout t log request draw key → IsAbout t longer request draw key
 about_later t log longer (Home asked) draw key extends may =
     subst (λ n. ((c : ℕ) × (asked.ids.c ≡ Some c) × (key ≡ keys.Customer c)) ⊎ (key ≡ keys.Item n)) (drawn_later t log longer draw) may
-about_later t log longer (NewProducts asked) draw key extends may = may
-about_later t log longer (BestSellers asked) draw key extends may = may
-about_later t log longer (ProductDetail asked) draw key extends may = may
 about_later t log longer (SearchRequest asked) draw key extends may = subst (λ n. key ≡ keys.Item n) (drawn_later t log longer draw) may
-about_later t log longer (SearchResults asked) draw key extends may = may
 about_later t log longer (CartRequest asked) draw key extends may = ⊎_elim
     (λ (cart : (id : ℕ) × (asked.ids.cart ≡ Some id) × (key ≡ keys.Cart id)). inl cart)
     (λ (item : (id : ℕ) × IsCartItem t log asked draw id × (key ≡ keys.Item id)). inr (item.0, cart_item_later t log longer asked draw item.0 extends item.1, item.2))
     may
-about_later t log longer (CustomerRegistration asked) draw key extends may = may
 about_later t log longer (BuyRequest asked) draw key extends may = ⊎_elim
     (λ (bought : (key ≡ keys.Cart asked.cart) ⊎ ((item : ℕ) × WasOnCart t log asked.cart item × (key ≡ keys.Item item))). inl (⊎_elim
     (λ (cart : key ≡ keys.Cart asked.cart). inl cart)
@@ -133,16 +128,15 @@ about_later t log longer (BuyConfirm asked) draw key extends may = ⊎_elim
     (λ (item : (id : ℕ) × WasOnCart t log asked.cart id × (key ≡ keys.Item id)). inr (bought_later t log longer asked.cart key extends item))
     other))
     may
-about_later t log longer (OrderInquiry asked) draw key extends may = may
 about_later t log longer (OrderDisplay asked) draw key extends may = ⊎_elim
     (λ (user : IsUser t log asked.login.user key). inl (user_later t log longer extends asked.login.user key user))
     (λ (order : IsOfOrder t log asked.login.user key). inr (of_order_later t log longer extends asked.login.user key order))
     may
-about_later t log longer (AdminRequest asked) draw key extends may = may
 about_later t log longer (AdminConfirm asked) draw key extends may = ⊎_elim
     (λ (named : (key ≡ keys.Item asked.item) ⊎ (key ≡ keys.Buyers asked.item)). inl named)
     (λ (bought : IsBoughtBeside t log asked.item key). inr (beside_later t log longer extends asked.item key bought))
     may
+about_later t log longer _ draw key extends may = may
 
 footprint_longer : (t : Tables) (log longer : List Entry) (request : Request) (draw : ℕ) (key : Key) → Extends log longer → InFootprint t log request draw key → InFootprint t longer request draw key
 footprint_longer t log longer request draw key extends may = ⊎_elim

@@ -4,7 +4,7 @@ use Rattle.std.proofs.lemmas.List.{take_all, take-append-le}
 use Rattle.std.proofs.lemmas.List.Elements.{All-contains, All-push, All-weaker}
 use Rattle.shop_model.specs.declared.page.Page.{Page}
 use Rattle.shop_model.specs.declared.requests.Request.{Request}
-use Rattle.shop_model.specs.declared.requests.Request.TheVariants.{Home, NewProducts, BestSellers, ProductDetail, SearchRequest, SearchResults, CartRequest, CustomerRegistration, BuyRequest, BuyConfirm, OrderInquiry, OrderDisplay, AdminRequest, AdminConfirm}
+use Rattle.shop_model.specs.declared.requests.Request.TheVariants.{NewProducts, BestSellers, SearchResults}
 use Rattle.shop_model.specs.declared.requests.BestSellers.{BestSellers as BestAsked}
 use Rattle.shop_model.specs.declared.requests.NewProducts.{NewProducts as NewAsked}
 use Rattle.shop_model.specs.asked.SearchAsked.{SearchAsked}
@@ -73,13 +73,7 @@ all_still old new marked marked' last entries follows keeps =
 -- a point of a list that was kept stays fresh
 fresh_as : (old new : Seat) (marked marked' : ℕ → ℕ → Type 0) (point : Point) (of : PointKind) → KeepsMarks marked marked' old new → IsFreshAs marked old.seen point of → IsFreshAs marked' new.seen point of
 fresh_as old new marked marked' point kind.List keeps is = record { at = is.at; holds = keeps.still.kept point.front is.at is.holds; young = is.young; marks = keeps.are is.marks }
-fresh_as old new marked marked' point kind.Plain keeps is = tt
-fresh_as old new marked marked' point kind.At keeps is = tt
-fresh_as old new marked marked' point kind.Change keeps is = tt
-fresh_as old new marked marked' point (kind.Busy conflicts) keeps is = tt
-fresh_as old new marked marked' point kind.Full keeps is = tt
-fresh_as old new marked marked' point (kind.Denied charge reason) keeps is = tt
-fresh_as old new marked marked' point kind.GatewayFailed keeps is = tt
+fresh_as old new marked marked' point _ keeps is = tt
 
 pub points_fresh : (old new : Seat) (marked marked' : ℕ → ℕ → Type 0) (points : List Point) → KeepsMarks marked marked' old new
     → All (IsFreshPoint marked old.seen) points → All (IsFreshPoint marked' new.seen) points
@@ -100,17 +94,7 @@ by_list : (P : Request → Type 0) → ((asked : NewAsked) → P (NewProducts as
 by_list P new best found (NewProducts asked) key is = new asked
 by_list P new best found (BestSellers asked) key is = best asked
 by_list P new best found (SearchResults asked) key is = found asked
-by_list P new best found (Home asked) key is = absurd cc
-by_list P new best found (ProductDetail asked) key is = absurd cc
-by_list P new best found (SearchRequest asked) key is = absurd cc
-by_list P new best found (CartRequest asked) key is = absurd cc
-by_list P new best found (CustomerRegistration asked) key is = absurd cc
-by_list P new best found (BuyRequest asked) key is = absurd cc
-by_list P new best found (BuyConfirm asked) key is = absurd cc
-by_list P new best found (OrderInquiry asked) key is = absurd cc
-by_list P new best found (OrderDisplay asked) key is = absurd cc
-by_list P new best found (AdminRequest asked) key is = absurd cc
-by_list P new best found (AdminConfirm asked) key is = absurd cc
+by_list P new best found _ key is = absurd cc
 
 page_there : (lines : List ListLine) (request : Request) (key : ListKey) → key_asked request ≡ Some key → (page : Page) × (page_by request lines ≡ Some page)
 page_there lines = by_list (λ r. (page : Page) × (page_by r lines ≡ Some page)) (λ asked. (_, refl)) (λ asked. (_, refl)) (λ asked. (_, refl))
@@ -176,19 +160,9 @@ keeps_as from to request point page kind.At (Some lines) (Some key) asked has no
     let same : has.key ≡ key = let is = has.asked in cc in
     record { none = none; lines = lines; are = subst (λ k. AreLines t (items_on t k) lines) same has.are; kept = kept }
 keeps_as from to request point page kind.At None (Some key) asked has none kept = absurd cc
-keeps_as from to request point page kind.List lines (Some key) asked has none kept = absurd has
-keeps_as from to request point page kind.Plain (Some lines) (Some key) asked has none kept = absurd has
-keeps_as from to request point page kind.Plain None (Some key) asked has none kept = (none, kept)
-keeps_as from to request point page kind.Change (Some lines) (Some key) asked has none kept = absurd has
-keeps_as from to request point page kind.Change None (Some key) asked has none kept = (none, kept)
-keeps_as from to request point page (kind.Busy conflicts) (Some lines) (Some key) asked has none kept = absurd has
-keeps_as from to request point page (kind.Busy conflicts) None (Some key) asked has none kept = (none, kept)
-keeps_as from to request point page kind.Full (Some lines) (Some key) asked has none kept = absurd has
-keeps_as from to request point page kind.Full None (Some key) asked has none kept = (none, kept)
-keeps_as from to request point page (kind.Denied charge reason) (Some lines) (Some key) asked has none kept = absurd has
-keeps_as from to request point page (kind.Denied charge reason) None (Some key) asked has none kept = (none, kept)
-keeps_as from to request point page kind.GatewayFailed (Some lines) (Some key) asked has none kept = absurd has
-keeps_as from to request point page kind.GatewayFailed None (Some key) asked has none kept = (none, kept)
+keeps_as from to request point page kind.List None (Some key) asked has none kept = absurd has
+keeps_as from to request point page _ (Some lines) (Some key) asked has none kept = absurd has
+keeps_as from to request point page _ None (Some key) asked has none kept = (none, kept)
 
 -- and may be
 pub keeps_lines : (old seat : Seat) (marked : ℕ → ℕ → Type 0) (request : Request) (decision : Decision) (last : ℕ) (of : PointKind) (lines : Option (List ListLine)) (key : Option ListKey) → key ≡ key_asked request
@@ -208,13 +182,7 @@ keeps_lines old seat marked request decision last kind.At (Some lines) (Some key
       mark = (leaves refl).mark;
       marks = (leaves refl).marks;
     }
-keeps_lines old seat marked request decision last kind.List (Some lines) (Some key) asked has cause leaves = absurd has
-keeps_lines old seat marked request decision last kind.Plain (Some lines) (Some key) asked has cause leaves = absurd has
-keeps_lines old seat marked request decision last kind.Change (Some lines) (Some key) asked has cause leaves = absurd has
-keeps_lines old seat marked request decision last (kind.Busy conflicts) (Some lines) (Some key) asked has cause leaves = absurd has
-keeps_lines old seat marked request decision last kind.Full (Some lines) (Some key) asked has cause leaves = absurd has
-keeps_lines old seat marked request decision last (kind.Denied charge reason) (Some lines) (Some key) asked has cause leaves = absurd has
-keeps_lines old seat marked request decision last kind.GatewayFailed (Some lines) (Some key) asked has cause leaves = absurd has
+keeps_lines old seat marked request decision last _ (Some lines) (Some key) asked has cause leaves = absurd has
 
 -- what was decided with lines is a list that was read, for which nothing was made, and nobody asked
 pub record IsReadAlone (request : Request) (decision : Decision) (of : PointKind) : Type 0 where
@@ -230,21 +198,9 @@ read_alone old seat request decision call kind.At (Some lines) has cause asks so
   none_made = cause.0;
   none_asked_for = by_list (λ r. AreFor r call decision.answers → decision.answers ≡ []) (λ asked is. is) (λ asked is. is) (λ asked is. is) request has.key has.asked asks;
 }
-read_alone old seat request decision call kind.List (Some lines) has cause asks some = absurd has
-read_alone old seat request decision call kind.Plain (Some lines) has cause asks some = absurd has
-read_alone old seat request decision call kind.Change (Some lines) has cause asks some = absurd has
-read_alone old seat request decision call (kind.Busy conflicts) (Some lines) has cause asks some = absurd has
-read_alone old seat request decision call kind.Full (Some lines) has cause asks some = absurd has
-read_alone old seat request decision call (kind.Denied charge reason) (Some lines) has cause asks some = absurd has
-read_alone old seat request decision call kind.GatewayFailed (Some lines) has cause asks some = absurd has
+read_alone old seat request decision call _ (Some lines) has cause asks some = absurd has
 
 -- what was decided by tries is no list that was kept
 pub fresh_else : (marked : ℕ → ℕ → Type 0) (seat : Seat) (request : Request) (point : Point) (of : PointKind) (lines : Option (List ListLine)) → HasLines seat request of lines → IsFreshAs marked seat.seen point of
 fresh_else marked seat request point kind.List lines has = absurd has
-fresh_else marked seat request point kind.Plain lines has = tt
-fresh_else marked seat request point kind.At lines has = tt
-fresh_else marked seat request point kind.Change lines has = tt
-fresh_else marked seat request point (kind.Busy conflicts) lines has = tt
-fresh_else marked seat request point kind.Full lines has = tt
-fresh_else marked seat request point (kind.Denied charge reason) lines has = tt
-fresh_else marked seat request point kind.GatewayFailed lines has = tt
+fresh_else marked seat request point _ lines has = tt

@@ -16,7 +16,7 @@ use Rattle.shop_model.specs.trade.Buyers.{check_bought}
 use Rattle.shop_model.specs.trade.Carts.{first_of}
 use Rattle.shop_model.specs.trade.Sales.{check_known, tables_bought}
 use Rattle.shop_history.specs.declared.acts.Act.{Act}
-use Rattle.shop_history.specs.declared.acts.Act.TheVariants.{Cart, Enter, Confirm, Admin}
+use Rattle.shop_history.specs.declared.acts.Act.TheVariants.{Confirm}
 use Rattle.shop_history.specs.declared.acts.Entry.{Entry}
 use Rattle.shop_history.specs.Acts.{request_of}
 use Rattle.shop_history.specs.Logs.{tables, after, Legal, MayFollow}
@@ -94,14 +94,12 @@ module _ (last : Bool) (from to : Standing) (step : Step) (one : PurchaseAsked) 
 
   buys_empties : (entry : Entry) (act : Act) → entry.act ≡ act → request_of act ≡ BuyConfirm one → check (tables from.seat.opening from.seat.seen) (request_of act) ≡ None
       → IsEmptied (after (tables from.seat.opening from.seat.seen) entry) one.cart
-  buys_empties entry (Cart asked draw) act_is does passes = absurd cc
-  buys_empties entry (Enter asked draw) act_is does passes = absurd cc
-  buys_empties entry (Admin asked) act_is does passes = absurd cc
   buys_empties entry (Confirm asked draw auth) act_is does passes =
       let same : asked ≡ one = cc in
       rw act_is
       (subst (λ (a : PurchaseAsked). IsEmptied (tables_bought (tables from.seat.opening from.seat.seen) entry.stamp draw auth asked (row_numbered (tables from.seat.opening from.seat.seen).customers asked.c)) a.cart) same
       (bought_empties (tables from.seat.opening from.seat.seen) entry.stamp draw auth asked (who_buys (tables from.seat.opening from.seat.seen) asked passes)))
+  buys_empties entry _ act_is does passes = absurd cc
 
   -- what was bought is empty
   bought_is : step.point.kind ≡ Change → IsEmptied (tables to.seat.opening to.seat.seen) one.cart

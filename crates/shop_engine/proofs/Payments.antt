@@ -12,7 +12,7 @@ use Rattle.shop_edges.specs.Gateways.{Answered}
 use Rattle.shop_edges.specs.Payments.{Keeps, IsFor, AsksOnce}
 use Rattle.shop_edges.proofs.cited.Answering.{answered_nothing, answered_more}
 use Rattle.shop_history.specs.declared.acts.Act.{Act}
-use Rattle.shop_history.specs.declared.acts.Act.TheVariants.{Cart, Enter, Confirm, Admin}
+use Rattle.shop_history.specs.declared.acts.Act.TheVariants.{Confirm}
 use Rattle.shop_attempt.specs.Seats.{Seat}
 use Rattle.shop_browse.specs.Attempts.{IsFree}
 use Rattle.shop_engine.specs.declared.tries.Job.{Job}
@@ -101,7 +101,5 @@ has_asked job before answers old new asked asks = record {
 -- what needs no payment is paid
 pub free_paid : (act : Option Act) → IsFree act → (t : Tables) (call : Call) (answers : List Answer) → IsPaidFor act t call answers
 free_paid None free t call answers = tt
-free_paid (Some (Cart asked draw)) free t call answers = tt
-free_paid (Some (Enter asked draw)) free t call answers = tt
-free_paid (Some (Admin asked)) free t call answers = tt
 free_paid (Some (Confirm asked draw auth)) free t call answers = absurd free
+free_paid (Some _) free t call answers = tt

@@ -13,7 +13,7 @@ use Rattle.shop_model.specs.pages.Show.{is_changing, check}
 use Rattle.shop_model.specs.asked.Refusals.{page_of}
 use Rattle.shop_edges.specs.declared.gateway.Answer.{Answer}
 use Rattle.shop_history.specs.declared.acts.Act.{Act}
-use Rattle.shop_history.specs.declared.acts.Act.TheVariants.{Cart, Enter, Confirm, Admin}
+use Rattle.shop_history.specs.declared.acts.Act.TheVariants.{Cart}
 use Rattle.shop_history.specs.declared.acts.Drawn.{Drawn}
 use Rattle.shop_history.specs.declared.acts.Entry.{Entry}
 use Rattle.shop_history.specs.declared.acts.Ids.{Ids}
@@ -206,9 +206,7 @@ changed_is start old new job answers draft attempt drawn bytes looked follows se
 
 act_changes : (act : Act) → is_changing (request_of act) ≡ true
 act_changes (Cart asked draw) = refl
-act_changes (Enter asked draw) = refl
-act_changes (Confirm asked draw auth) = refl
-act_changes (Admin asked) = refl
+act_changes _ = refl
 
 passes_there : (opening : Tables) (reads : List ReadOf) (act : Act) (writes : Option (List Write)) (t : Tables) (stamp : ℕ) → MakesAct opening reads (Some act) writes → Agrees opening t reads → stamp ≤ stamp_limit
     → check t (request_of act) ≡ None

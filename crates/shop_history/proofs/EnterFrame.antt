@@ -69,18 +69,7 @@ login_frame t stamp (Some c) (key.TheVariants.Customer id) = ⊎_elim
     (λ apart. inr (ap (shown row.TheVariants.Customer) (changed_other t.customers c.id (logged_in stamp) id apart)))
     (cases_eq id c.id)
 login_frame t stamp (Some c) (key.TheVariants.Name user) = inr (ap (shown row.TheVariants.Id) (named_same t.customers c.id stamp user))
-login_frame t stamp (Some c) (key.TheVariants.Item id) = inr refl
-login_frame t stamp (Some c) (key.TheVariants.Label id) = inr refl
-login_frame t stamp (Some c) (key.TheVariants.Cart id) = inr refl
-login_frame t stamp (Some c) (key.TheVariants.NewIn subject) = inr refl
-login_frame t stamp (Some c) (key.TheVariants.BestIn subject) = inr refl
-login_frame t stamp (Some c) (key.TheVariants.Buyers item) = inr refl
-login_frame t stamp (Some c) (key.TheVariants.Bought customer) = inr refl
-login_frame t stamp (Some c) (key.TheVariants.Address id) = inr refl
-login_frame t stamp (Some c) (key.TheVariants.SameAddress text) = inr refl
-login_frame t stamp (Some c) (key.TheVariants.Country id) = inr refl
-login_frame t stamp (Some c) (key.TheVariants.Order id) = inr refl
-login_frame t stamp (Some c) (key.TheVariants.LastOrder id) = inr refl
+login_frame t stamp (Some c) _ = inr refl
 
 -- who is new has no order before and none after
 
@@ -138,15 +127,7 @@ entered_frame t stamp draw asked None (key.TheVariants.SameAddress text) =
     (key.TheVariants.SameAddress text)
     (λ is. (3, omega arith, ap key.TheVariants.SameAddress (says_same_is asked.address text is)))
 entered_frame t stamp draw asked same (key.TheVariants.LastOrder id) = inr (ap (shown row.TheVariants.Id) (none_pushed t.last id))
-entered_frame t stamp draw asked same (key.TheVariants.Item id) = inr refl
-entered_frame t stamp draw asked same (key.TheVariants.Label id) = inr refl
-entered_frame t stamp draw asked same (key.TheVariants.Cart id) = inr refl
-entered_frame t stamp draw asked same (key.TheVariants.NewIn subject) = inr refl
-entered_frame t stamp draw asked same (key.TheVariants.BestIn subject) = inr refl
-entered_frame t stamp draw asked same (key.TheVariants.Buyers item) = inr refl
-entered_frame t stamp draw asked same (key.TheVariants.Bought customer) = inr refl
-entered_frame t stamp draw asked same (key.TheVariants.Country id) = inr refl
-entered_frame t stamp draw asked same (key.TheVariants.Order id) = inr refl
+entered_frame t stamp draw asked same _ = inr refl
 
 pub enter_frame : (t : Tables) (stamp draw : ℕ) (buyer : Buyer) (key : Key) → Framed (buyer_changes t buyer) t (tables_entered t stamp draw buyer) key
 enter_frame t stamp draw (Returning asked) key = login_frame t stamp (customer_named t asked.user) key

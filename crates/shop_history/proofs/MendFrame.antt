@@ -88,13 +88,4 @@ module _ (t : Tables) (stamp : ℕ) (asked : AdminAsked) (item : ItemRow) (there
       inl (1, omega arith, ap key.TheVariants.NewIn (its_subject ∙ names_one item.subject subject same)))
       (λ (other : bytes_eq (subject_name item.subject) (subject_name subject) ≡ false). inr (ap row.TheVariants.Items (newest_stays subject other)))
   mended_frame (key.TheVariants.BestIn subject) = inr (ap row.TheVariants.Items (best_stays subject))
-  mended_frame (key.TheVariants.Customer id) = inr refl
-  mended_frame (key.TheVariants.Cart id) = inr refl
-  mended_frame (key.TheVariants.Buyers id) = inr refl
-  mended_frame (key.TheVariants.Bought id) = inr refl
-  mended_frame (key.TheVariants.Name user) = inr refl
-  mended_frame (key.TheVariants.Address id) = inr refl
-  mended_frame (key.TheVariants.SameAddress text) = inr refl
-  mended_frame (key.TheVariants.Country id) = inr refl
-  mended_frame (key.TheVariants.Order id) = inr refl
-  mended_frame (key.TheVariants.LastOrder customer) = inr refl
+  mended_frame _ = inr refl

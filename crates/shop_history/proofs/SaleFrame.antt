@@ -1,10 +1,10 @@
 -- What a customer who buys a cart leaves as it was.
-use Rattle.std.proofs.Common.{◌≡◌, ℕ, zero, suc, ◌+◌, ◌-◌, ◌<◌, ◌≤◌, ◌==◌, ◌||◌, Bool, true, false, cond, eqb, List, [], ◌∷◌, ◌++◌, length, map, filter, take, get_or, All, ltb, Option, Some, None, option_map, unwrap_or, slice_get, Contains, ◌⊎◌, inl, inr, ⊎_elim, refl, sym, ◌∙◌, ap, subst, arith}
+use Rattle.std.proofs.Common.{◌≡◌, ℕ, zero, suc, ◌+◌, ◌-◌, ◌<◌, ◌≤◌, ◌==◌, ◌||◌, Bool, true, false, eqb, List, [], ◌∷◌, ◌++◌, length, map, filter, sum_by, take, get_or, All, ltb, Option, Some, None, option_map, unwrap_or, slice_get, Contains, ◌⊎◌, inl, inr, ⊎_elim, refl, sym, ◌∙◌, ap, subst, arith}
 use Rattle.std.specs.List.{list_any, flat_map, find}
 use Rattle.std.specs.Str.{bytes_eq}
 use Rattle.std.specs.declared.cmp.Ordering.{Ordering}
 use Rattle.std.proofs.lemmas.Bool.{cases_eq, eqb-true, cond-true, cond-false}
-use Rattle.std.proofs.lemmas.List.Elements.{All-nil, All-cons, All-head, All-tail, All-weaker, Contains-append_left, Contains-append_right}
+use Rattle.std.proofs.lemmas.List.Elements.{All-nil, All-cons, All-head, All-tail, All-weaker, Contains-append_left, Contains-append_right, Contains-append_cases}
 use Rattle.shop_model.proofs.cited.Lists.{id_of_place}
 use Rattle.std.proofs.lemmas.Option.{slice_get-get_or}
 use Rattle.std.proofs.lemmas.Slice.Eq.{bytes_eq-Decides}
@@ -35,7 +35,7 @@ use Rattle.shop_history.specs.Keys.{row_of, shown, label_of}
 use Rattle.shop_history.proofs.cited.KeptTables.{map_seen}
 use Rattle.shop_history.proofs.EnterFrame.{says_same_is}
 use Rattle.shop_history.proofs.cited.Found.{found_pushed}
-use Rattle.shop_history.proofs.WindowFrame.{window_sum, window_filter}
+use Rattle.shop_history.proofs.WindowFrame.{window_frame, sums, passed}
 use Rattle.shop_history.proofs.cited.Places.{is_there, row_there, all_numbered, id_numbered, row_set_apart, row_set_other, row_push_other}
 pub use Rattle.shop_model.proofs.cited.Lookups.{numbered_map}
 pub use Rattle.shop_text.proofs.cited.Lists.{contains_map}
@@ -223,42 +223,29 @@ module _ (t : Tables) where
       (λ (without : has_item i.id (sold_of o) ≡ false). none_units i.id o.lines without)))
 
 module _ (t : Tables) (sound : Sound t) (order : OrderRow) where
-  -- the best sold items of a subject of which nothing comes and nothing leaves
-  best_same : (subject : Subject) → ((i : ItemRow) → row_numbered t.items i.id ≡ Some i → i.subject ≡ subject → units_in i.id order.lines ≡ 0)
-      → ((gone : OrderRow) → leaving counted_orders t.orders ≡ Some gone → (i : ItemRow) → row_numbered t.items i.id ≡ Some i → i.subject ≡ subject → units_in i.id gone.lines ≡ 0)
-      → best (with_order t order) subject ≡ best t subject
-  unfolding sold_lately
-  best_same subject comes leaves =
-      best_stays t order subject
-      (filter_all (λ (i : ItemRow). sold_lately (with_order t order) i.id ≡ sold_lately t i.id) (λ i. bytes_eq (subject_name i.subject) (subject_name subject)) t.items
-      (λ k d within passes.
-      let i : ItemRow = get_or t.items k d in
-      let there : row_numbered t.items i.id ≡ Some i = item_there t sound k d within in
-      let is : i.subject ≡ subject = names_one i.subject subject passes in
-      window_sum counted_orders t.orders order (λ o. units_in i.id o.lines) (omega arith) (comes i there is) (λ gone gone_is. leaves gone gone_is i there is)))
+  -- an item of a subject, and how many units of it an order has
+  abbrev Of : Subject → Type 0
+  Of subject = (i : ItemRow) × (row_numbered t.items i.id ≡ Some i) × (i.subject ≡ subject)
+
+  abbrev units_of : {subject : Subject} → Of subject → OrderRow → ℕ
+  units_of i o = units_in i.0.id o.lines
 
   -- those of a subject change only where something of it comes or leaves
   pub ranks_frame : (subject : Subject)
       → (Contains (ranks_change t (items_of order)) (key.TheVariants.BestIn subject) ⊎ Contains (unranked_changes t (leaving counted_orders t.orders)) (key.TheVariants.BestIn subject))
       ⊎ (best (with_order t order) subject ≡ best t subject)
+  unfolding sold_lately
   ranks_frame subject =
       ⊎_elim
-      (λ here. inl (inl here))
-      (λ none. by (leaving counted_orders t.orders) refl none)
-      (order_ranks t order subject)
-    where
-      by : (gone : Option OrderRow) → leaving counted_orders t.orders ≡ gone → ((i : ItemRow) → row_numbered t.items i.id ≡ Some i → i.subject ≡ subject → units_in i.id order.lines ≡ 0)
-          → (Contains (ranks_change t (items_of order)) (key.TheVariants.BestIn subject) ⊎ Contains (unranked_changes t (leaving counted_orders t.orders)) (key.TheVariants.BestIn subject))
-          ⊎ (best (with_order t order) subject ≡ best t subject)
-      by None is none = inr (best_same subject none (λ gone gone_is. absurd (let not : None ≡ Some gone = sym is ∙ gone_is in cc)))
-      by (Some gone) is none =
-          ⊎_elim
-          (λ there. inl (inr (subst (λ o. Contains (unranked_changes t o) (key.TheVariants.BestIn subject)) (sym is) there)))
-          (λ without. inr (best_same subject none (λ other other_is. subst (λ (o : OrderRow). (i : ItemRow) → row_numbered t.items i.id ≡ Some i → i.subject ≡ subject → units_in i.id o.lines ≡ 0) (let same : Some gone ≡ Some other = sym is ∙ other_is in one_of same) without)))
-          (order_ranks t gone subject)
-        where
-          one_of : {a b : OrderRow} → Some a ≡ Some b → a ≡ b
-          one_of same = cc
+      (λ has. inl (Contains-append_cases (ranks_change t (items_of order)) (unranked_changes t (leaving counted_orders t.orders)) (key.TheVariants.BestIn subject) has))
+      (λ same.
+      inr (best_stays t order subject
+      (filter_all (λ (i : ItemRow). sold_lately (with_order t order) i.id ≡ sold_lately t i.id) (λ i. bytes_eq (subject_name i.subject) (subject_name subject)) t.items
+      (λ k d within passes.
+      let i : ItemRow = get_or t.items k d in
+      same (i, item_there t sound k d within, names_one i.subject subject passes)))))
+      (window_frame 0 (λ a b. a + b) (λ (i : Of subject). sum_by (units_of i)) (λ i. sums (units_of i)) (λ o. ranks_change t (items_of o)) (key.TheVariants.BestIn subject)
+      (λ o. ⊎_elim (λ has. inl has) (λ none. inr (λ i. omega (arith, none i.0 i.1 i.2))) (order_ranks t o subject)) counted_orders t.orders order (omega arith))
 
 -- where an order ships to
 
@@ -387,58 +374,29 @@ module _ (t : Tables) (sound : Sound t) (asked : PurchaseAsked) (stamp draw : �
 
   -- who bought an item lately, and what a customer did
 
-  none_is : (gone : OrderRow) → leaving recent_orders t.orders ≡ None → leaving recent_orders t.orders ≡ Some gone → ⊥
-  none_is gone none some = let not : None ≡ Some gone = sym none ∙ some in cc
-
-  -- orders that pass a test, which the order that comes fails: they change, or the one that leaves fails it too
-  module _ (p : Sold → Bool) (k : Key) (comes : p (sold_of order) ≡ false)
-      (changes : (gone : OrderRow) → leaving recent_orders t.orders ≡ Some gone → p (sold_of gone) ≡ true → Contains (purchase_changes t asked) k) where
-    recent_frame : Contains (purchase_changes t asked) k ⊎ (filter p (recent (with_order t order)) ≡ filter p (recent t))
-    recent_frame = by (leaving recent_orders t.orders) refl
-      where
-        by : (gone : Option OrderRow) → leaving recent_orders t.orders ≡ gone → Contains (purchase_changes t asked) k ⊎ (filter p (recent (with_order t order)) ≡ filter p (recent t))
-        by None is = inr (window_filter sold_of p recent_orders t.orders order (omega arith) comes (λ gone gone_is. absurd (none_is gone is gone_is)))
-        by (Some gone) is =
-            by_test (p (sold_of gone))
-            (λ (passes : p (sold_of gone) ≡ true). inl (changes gone is passes))
-            (λ (fails : p (sold_of gone) ≡ false).
-            inr (window_filter sold_of p recent_orders t.orders order (omega arith) comes
-            (λ other other_is. let same : Some gone ≡ Some other = sym is ∙ other_is in let one : gone ≡ other = cc in ap (λ (o : OrderRow). p (sold_of o)) (sym one) ∙ fails)))
+  -- orders that pass a test stay, unless the key is one of who buys or of who is forgotten
+  recent_frame : (p : Sold → Bool) (k : Key) → ((o : OrderRow) → p (sold_of o) ≡ true → Contains (buyers_change o.customer (items_of o)) k)
+      → Contains (purchase_changes t asked) k ⊎ (filter p (recent (with_order t order)) ≡ filter p (recent t))
+  recent_frame p k changes =
+      ⊎_elim
+      (λ has. inl (⊎_elim
+      (λ here. in_buyers k (subst (λ xs. Contains xs k) (ap (λ c. buyers_change c (items_of order)) buyer_is ∙ ap (buyers_change asked.c) items_are) here))
+      (λ there. in_forgotten k there)
+      (Contains-append_cases (buyers_change customer.id (items_of order)) forgotten k has)))
+      (λ same. inr (same tt))
+      (window_frame [] (λ xs ys. xs ++ ys) (λ (_ : Unit {0}) os. filter p (map sold_of os)) (λ _. passed sold_of p) (λ o. buyers_change o.customer (items_of o)) k
+      (λ o. by_test (p (sold_of o)) (λ passes. inl (changes o passes)) (λ fails. inr (λ _. cond-false (p (sold_of o)) (sold_of o ∷ []) [] fails))) recent_orders t.orders order (omega arith))
 
   buyers_frame : (item : ℕ) → Contains (purchase_changes t asked) (key.TheVariants.Buyers item) ⊎ (buyers (with_order t order) item ≡ buyers t item)
   buyers_frame item =
-      by_test (has_item item (sold_of order))
-      (λ (has : has_item item (sold_of order) ≡ true).
-      inl (in_buyers (key.TheVariants.Buyers item)
-      (Contains-append_right (key.TheVariants.Bought asked.c ∷ []) (map key.TheVariants.Buyers items) (key.TheVariants.Buyers item)
-      (contains_map key.TheVariants.Buyers items item (subst (λ xs. Contains xs item) items_are (any_contains item order.lines has))))))
-      (λ (without : has_item item (sold_of order) ≡ false).
-      ⊎_elim
-      (λ here. inl here)
-      (λ same. inr (ap (λ (xs : List Sold). ascending (map (λ o. o.customer) xs)) same))
-      (recent_frame (has_item item) (key.TheVariants.Buyers item) without
-      (λ gone is has.
-      in_forgotten (key.TheVariants.Buyers item)
-      (subst (λ o. Contains (forgotten_changes o) (key.TheVariants.Buyers item)) (sym is)
-      (Contains-append_right (key.TheVariants.Bought gone.customer ∷ []) (map key.TheVariants.Buyers (items_of gone)) (key.TheVariants.Buyers item)
-      (contains_map key.TheVariants.Buyers (items_of gone) item (any_contains item gone.lines has)))))))
+      ⊎_elim (λ here. inl here) (λ same. inr (ap (λ (xs : List Sold). ascending (map (λ o. o.customer) xs)) same))
+      (recent_frame (has_item item) (key.TheVariants.Buyers item)
+      (λ o has. Contains-append_right (key.TheVariants.Bought o.customer ∷ []) (map key.TheVariants.Buyers (items_of o)) (key.TheVariants.Buyers item) (contains_map key.TheVariants.Buyers (items_of o) item (any_contains item o.lines has))))
 
   bought_frame : (c : ℕ) → Contains (purchase_changes t asked) (key.TheVariants.Bought c) ⊎ (bought (with_order t order) c ≡ bought t c)
   bought_frame c =
-      by_test (eqb customer.id c)
-      (λ (here : eqb customer.id c ≡ true).
-      let mine : asked.c ≡ c = sym buyer_is ∙ eqb-true customer.id c here in
-      let there : Contains (buyers_change asked.c items) (key.TheVariants.Bought c) = (0, omega arith, ap key.TheVariants.Bought mine) in
-      inl (in_buyers (key.TheVariants.Bought c) there))
-      (λ (apart : eqb customer.id c ≡ false).
-      ⊎_elim
-      (λ here. inl here)
-      (λ same. inr (ap (λ (xs : List Sold). totals_of (flat_map (λ o. o.lines) xs)) same))
-      (recent_frame (is_of c) (key.TheVariants.Bought c) apart
-      (λ gone is has.
-      in_forgotten (key.TheVariants.Bought c)
-      (let there : Contains (forgotten_changes (Some gone)) (key.TheVariants.Bought c) = (0, omega arith, ap key.TheVariants.Bought (eqb-true gone.customer c has)) in
-      subst (λ o. Contains (forgotten_changes o) (key.TheVariants.Bought c)) (sym is) there))))
+      ⊎_elim (λ here. inl here) (λ same. inr (ap (λ (xs : List Sold). totals_of (flat_map (λ o. o.lines) xs)) same))
+      (recent_frame (is_of c) (key.TheVariants.Bought c) (λ o has. (0, omega arith, ap key.TheVariants.Bought (eqb-true o.customer c has))))
 
   above : 0 < customer.id
   above = omega (arith, buyer_is, (is_there t.customers asked.c customer buys).above)
@@ -453,7 +411,6 @@ module _ (t : Tables) (sound : Sound t) (asked : PurchaseAsked) (stamp draw : �
       inr (ap (shown row.TheVariants.Item) (numbered_map (sold_item order) t.items id ∙ item_same id (row_numbered t.items id) refl (none_units id order.lines without))))
   purchase_frame (key.TheVariants.Label id) =
       inr (ap (shown (λ i. row.TheVariants.Label (label_of t i))) (numbered_map (sold_item order) t.items id) ∙ label_same (row_numbered t.items id))
-  purchase_frame (key.TheVariants.Customer id) = inr refl
   purchase_frame (key.TheVariants.Cart id) =
       ⊎_elim
       (λ (same : id ≡ asked.cart). inl (0, omega arith, ap key.TheVariants.Cart (sym same)))
@@ -463,7 +420,6 @@ module _ (t : Tables) (sound : Sound t) (asked : PurchaseAsked) (stamp draw : �
   purchase_frame (key.TheVariants.BestIn subject) = ⊎_elim (λ here. inl here) (λ same. inr (ap row.TheVariants.Items same)) (best_frame subject)
   purchase_frame (key.TheVariants.Buyers item) = ⊎_elim (λ here. inl here) (λ same. inr (ap row.TheVariants.Customers same)) (buyers_frame item)
   purchase_frame (key.TheVariants.Bought c) = ⊎_elim (λ here. inl here) (λ same. inr (ap row.TheVariants.Totals same)) (bought_frame c)
-  purchase_frame (key.TheVariants.Name user) = inr refl
   purchase_frame (key.TheVariants.Address id) =
       ⊎_elim
       (λ here. inl (in_ship (key.TheVariants.Address id) here))
@@ -474,7 +430,6 @@ module _ (t : Tables) (sound : Sound t) (asked : PurchaseAsked) (stamp draw : �
       (λ here. inl (in_ship (key.TheVariants.SameAddress said) here))
       (λ same. inr (ap (λ (o : Option Address). shown row.TheVariants.Id (option_map (λ a. a.id) o)) same))
       (same_frame t asked.address said)
-  purchase_frame (key.TheVariants.Country id) = inr refl
   purchase_frame (key.TheVariants.Order id) =
       ⊎_elim
       (λ (same : id ≡ length t.orders + 1). inl (1, omega arith, ap key.TheVariants.Order (sym same)))
@@ -486,3 +441,4 @@ module _ (t : Tables) (sound : Sound t) (asked : PurchaseAsked) (stamp draw : �
       (λ (apart : id ≡ asked.c → ⊥).
       inr (ap (λ (o : Option (Option ℕ)). shown row.TheVariants.Id (joined o)) (row_set_apart t.last customer.id id (Some order.id) above (λ same. apart (same ∙ buyer_is)))))
       (cases_eq id asked.c)
+  purchase_frame _ = inr refl

@@ -1,12 +1,14 @@
 -- The latest orders, where one more comes: none leaves, or the first one does.
-use Rattle.std.proofs.Common.{◌≡◌, ℕ, zero, suc, ◌+◌, ◌-◌, ◌<◌, ◌≤◌, Bool, true, false, cond, ltb, List, [], ◌∷◌, ◌++◌, length, map, filter, drop, sum_by, slice_get, get_or, Some, None, refl, sym, ◌∙◌, ap, arith, length-append, ◌⊎◌, inl, inr, ⊎_elim}
+use Rattle.std.proofs.Common.{◌≡◌, ℕ, zero, suc, ◌+◌, ◌-◌, ◌<◌, ◌≤◌, Bool, true, false, ltb, List, [], ◌∷◌, ◌++◌, length, map, filter, drop, sum_by, slice_get, get_or, Option, Some, None, Contains, refl, sym, ◌∙◌, ap, arith, append-nil, length-append, ◌⊎◌, inl, inr, ⊎_elim}
+use Rattle.std.specs.Prelude.{option_to_list}
 use Rattle.std.proofs.lemmas.Bool.{cases_lt, cond-true, cond-false}
-use Rattle.std.proofs.lemmas.List.Sums.{sum_by_push, sum_by-cons}
+use Rattle.std.proofs.lemmas.List.Elements.{filter-append, Contains-append_left, Contains-append_right}
+use Rattle.std.proofs.lemmas.List.Sums.{sum_by-append}
 use Rattle.std.proofs.lemmas.Option.{slice_get-get_or}
-use Rattle.std.proofs.lemmas.List.{drop-append-le}
+use Rattle.std.proofs.lemmas.List.{drop-append-le, map-append}
 use Rattle.shop_model.specs.lists.Related.{last}
 use Rattle.shop_model.specs.rows.Rows.{OrderRow}
-use Rattle.shop_history.specs.MayChange.{leaving}
+use Rattle.shop_history.specs.MayChange.{leaving, of_left}
 
 pub drop_more : {A : Type 0} (n : ℕ) (xs : List A) (x : A) → slice_get xs n ≡ Some x → drop n xs ≡ x ∷ drop (suc n) xs
 drop_more zero [] x is = absurd cc
@@ -57,38 +59,52 @@ window_moves most orders order some =
     }))
     (cases_lt (length orders) most)
 
--- a sum to which neither adds
-pub window_sum : (most : ℕ) (orders : List OrderRow) (order : OrderRow) (units : OrderRow → ℕ) → 1 ≤ most → units order ≡ 0
-    → ((gone : OrderRow) → leaving most orders ≡ Some gone → units gone ≡ 0) → sum_by units (last most (orders ++ order ∷ [])) ≡ sum_by units (last most orders)
-window_sum most orders order units some comes leaves =
+-- the law: what leaves and then the window after is the window before and then what comes
+pub window_law : (most : ℕ) (orders : List OrderRow) (order : OrderRow) → 1 ≤ most → option_to_list (leaving most orders) ++ last most (orders ++ order ∷ []) ≡ last most orders ++ order ∷ []
+window_law most orders order some =
     ⊎_elim
-    (λ (is : Stays most orders order). ap (sum_by units) is.now ∙ sum_by_push units (last most orders) order ∙ omega (arith, comes))
+    (λ (is : Stays most orders order). ap (λ o. option_to_list o ++ last most (orders ++ order ∷ [])) is.none ∙ is.now)
     (λ (is : Leaves most orders order).
-    let now : sum_by units (last most (orders ++ order ∷ [])) ≡ sum_by units is.rest + units order = ap (sum_by units) is.now ∙ sum_by_push units is.rest order in
-    let before : sum_by units (last most orders) ≡ units is.gone + sum_by units is.rest = ap (sum_by units) is.before ∙ sum_by-cons units is.gone is.rest in
-    let none : units is.gone ≡ 0 = leaves is.gone is.leaves in
-    omega (arith, now, before, none, comes))
+    ap (λ o. option_to_list o ++ last most (orders ++ order ∷ [])) is.leaves
+    ∙ ap (λ os. is.gone ∷ os) is.now
+    ∙ ap (λ os. os ++ order ∷ []) (sym is.before))
     (window_moves most orders order some)
 
--- those that pass a test, where neither does
-module _ {B : Type 0} (f : OrderRow → B) (p : B → Bool) where
-  filter_end : (xs : List OrderRow) (x : OrderRow) → p (f x) ≡ false → filter p (map f (xs ++ x ∷ [])) ≡ filter p (map f xs)
-  filter_end [] x fails = rw fails refl
-  filter_end (y ∷ ys) x fails = by (p (f y)) (filter_end ys x fails)
-    where
-      by : (b : Bool) → filter p (map f (ys ++ x ∷ [])) ≡ filter p (map f ys)
-          → cond b (f y ∷ filter p (map f (ys ++ x ∷ []))) (filter p (map f (ys ++ x ∷ []))) ≡ cond b (f y ∷ filter p (map f ys)) (filter p (map f ys))
-      by true same = ap (λ zs. f y ∷ zs) same
-      by false same = same
+-- what is made of orders part by part: sums of units, and those that pass a test
 
-  pub window_filter : (most : ℕ) (orders : List OrderRow) (order : OrderRow) → 1 ≤ most → p (f order) ≡ false
-      → ((gone : OrderRow) → leaving most orders ≡ Some gone → p (f gone) ≡ false) → filter p (map f (last most (orders ++ order ∷ []))) ≡ filter p (map f (last most orders))
-  window_filter most orders order some comes leaves =
+pub record IsMade {M : Type 0} (none : M) (both : M → M → M) (made : List OrderRow → M) : Type 0 where
+  pub of_none : made [] ≡ none
+  pub of_both : (xs ys : List OrderRow) → made (xs ++ ys) ≡ both (made xs) (made ys)
+  pub before : (x : M) → both none x ≡ x
+  pub behind : (x : M) → both x none ≡ x
+
+pub sums : (units : OrderRow → ℕ) → IsMade 0 (λ a b. a + b) (sum_by units)
+sums units = record { of_none = refl; of_both = λ xs ys. sum_by-append units xs ys; before = λ x. omega arith; behind = λ x. omega arith }
+
+pub passed : {B : Type 0} (f : OrderRow → B) (p : B → Bool) → IsMade [] (λ (xs ys : List B). xs ++ ys) (λ os. filter p (map f os))
+passed f p = record { of_none = refl; of_both = λ xs ys. ap (filter p) (map-append f xs ys) ∙ filter-append p (map f xs) (map f ys); before = λ xs. refl; behind = λ xs. append-nil xs }
+
+-- values that are made of the window, and names for what an order may change: an order has this name, or no share in any
+module _ {I M A : Type 0} (none : M) (both : M → M → M) (made : I → List OrderRow → M) (is_made : (i : I) → IsMade none both (made i))
+    (names : OrderRow → List A) (name : A) (silent : (o : OrderRow) → Contains (names o) name ⊎ ((i : I) → made i (o ∷ []) ≡ none)) where
+  -- they stay, unless the order that comes or the one that leaves has the name
+  pub window_frame : (most : ℕ) (orders : List OrderRow) (order : OrderRow) → 1 ≤ most
+      → Contains (names order ++ of_left names (leaving most orders)) name ⊎ ((i : I) → made i (last most (orders ++ order ∷ [])) ≡ made i (last most orders))
+  window_frame most orders order some =
       ⊎_elim
-      (λ (is : Stays most orders order). ap (λ xs. filter p (map f xs)) is.now ∙ filter_end (last most orders) order comes)
-      (λ (is : Leaves most orders order).
-      ap (λ xs. filter p (map f xs)) is.now
-      ∙ filter_end is.rest order comes
-      ∙ sym (cond-false (p (f is.gone)) (f is.gone ∷ filter p (map f is.rest)) (filter p (map f is.rest)) (leaves is.gone is.leaves))
-      ∙ ap (λ xs. filter p (map f xs)) (sym is.before))
-      (window_moves most orders order some)
+      (λ comes. inl (Contains-append_left (names order) (of_left names (leaving most orders)) name comes))
+      (λ none_comes. ⊎_elim
+      (λ leaves. inl (Contains-append_right (names order) (of_left names (leaving most orders)) name leaves))
+      (λ none_leaves. inr (λ i.
+      let gone : List OrderRow = option_to_list (leaving most orders) in
+      let before : List OrderRow = last most orders in
+      let after : List OrderRow = last most (orders ++ order ∷ []) in
+      let m : IsMade none both (made i) = is_made i in
+      sym (m.before (made i after)) ∙ ap (λ x. both x (made i after)) (sym (none_leaves i)) ∙ sym (m.of_both gone after) ∙ ap (made i) (window_law most orders order some)
+      ∙ m.of_both before (order ∷ []) ∙ ap (both (made i before)) (none_comes i) ∙ m.behind (made i before)))
+      (left_silent (leaving most orders)))
+      (silent order)
+    where
+      left_silent : (o : Option OrderRow) → Contains (of_left names o) name ⊎ ((i : I) → made i (option_to_list o) ≡ none)
+      left_silent None = inr (λ i. (is_made i).of_none)
+      left_silent (Some o) = silent o

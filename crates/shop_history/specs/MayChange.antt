@@ -57,14 +57,17 @@ ranks_change t items = map (λ item. key.TheVariants.BestIn (subject_at t item))
 abbrev pub buyers_change : ℕ → List ℕ → List Key
 buyers_change customer items = key.TheVariants.Bought customer ∷ map key.TheVariants.Buyers items
 
+-- what an order that leaves the latest ones has, if one does
+abbrev pub of_left : {A : Type 0} → (OrderRow → List A) → Option OrderRow → List A
+of_left names None = []
+of_left names (Some order) = names order
+
 -- what an order that leaves the latest ones changes
 abbrev pub unranked_changes : Tables → Option OrderRow → List Key
-unranked_changes t None = []
-unranked_changes t (Some order) = ranks_change t (items_of order)
+unranked_changes t gone = of_left (λ o. ranks_change t (items_of o)) gone
 
 abbrev pub forgotten_changes : Option OrderRow → List Key
-forgotten_changes None = []
-forgotten_changes (Some order) = buyers_change order.customer (items_of order)
+forgotten_changes gone = of_left (λ o. buyers_change o.customer (items_of o)) gone
 
 -- what a purchase changes of the lists that are kept, for a customer who buys these items
 abbrev pub lists_change : Tables → ℕ → List ℕ → List Key

@@ -5,7 +5,7 @@ use Rattle.shop_model.specs.declared.page.Block.{Block}
 use Rattle.shop_model.specs.declared.page.Block.TheVariants.{Heading}
 use Rattle.shop_model.specs.declared.requests.IdsAsked.{IdsAsked}
 use Rattle.shop_model.specs.declared.requests.Request.{Request}
-use Rattle.shop_model.specs.declared.requests.Request.TheVariants.{Home, NewProducts, BestSellers, ProductDetail, SearchRequest, SearchResults, CartRequest, CustomerRegistration, BuyRequest, BuyConfirm, OrderInquiry, OrderDisplay, AdminRequest, AdminConfirm}
+use Rattle.shop_model.specs.declared.requests.Request.TheVariants.{NewProducts, BestSellers, SearchResults}
 use Rattle.shop_model.specs.declared.tables.Tables.{Tables}
 use Rattle.shop_model.specs.lists.Catalogues.{catalogue, found}
 use Rattle.shop_model.specs.lists.Rankings.{newest, best}
@@ -65,14 +65,4 @@ listed_shown t (BestSellers asked) draw lines listed =
 listed_shown t (SearchResults asked) draw lines listed =
     let same : listed.key ≡ Found asked.kind asked.text = let is = listed.asked in cc in
     ap Some (page_shown t asked.ids (codes "Search Results") (head_of asked) (found (catalogue t) asked.kind asked.text) lines (subst (λ k. AreLines t (items_on t k) lines) same listed.are))
-listed_shown t (Home asked) draw lines listed = absurd (let is = listed.asked in cc)
-listed_shown t (ProductDetail asked) draw lines listed = absurd (let is = listed.asked in cc)
-listed_shown t (SearchRequest asked) draw lines listed = absurd (let is = listed.asked in cc)
-listed_shown t (CartRequest asked) draw lines listed = absurd (let is = listed.asked in cc)
-listed_shown t (CustomerRegistration asked) draw lines listed = absurd (let is = listed.asked in cc)
-listed_shown t (BuyRequest asked) draw lines listed = absurd (let is = listed.asked in cc)
-listed_shown t (BuyConfirm asked) draw lines listed = absurd (let is = listed.asked in cc)
-listed_shown t (OrderInquiry asked) draw lines listed = absurd (let is = listed.asked in cc)
-listed_shown t (OrderDisplay asked) draw lines listed = absurd (let is = listed.asked in cc)
-listed_shown t (AdminRequest asked) draw lines listed = absurd (let is = listed.asked in cc)
-listed_shown t (AdminConfirm asked) draw lines listed = absurd (let is = listed.asked in cc)
+listed_shown t _ draw lines listed = absurd (let is = listed.asked in cc)

@@ -76,23 +76,11 @@ admin_frame t stamp asked (Some item) there passes any = mended_frame t stamp as
 -- what a key shows after an act, unless the act may change it
 pub frame : (t : Tables) (stamp : ℕ) (act : Act) → Sound t → check t (request_of act) ≡ None → (key : Key) → Contains (may_change t act) key ⊎ (row_of (play t stamp act).tables key ≡ row_of t key)
 unfolding newest best sold_lately
-frame t stamp (Cart asked draw) sound passes (key.TheVariants.Item id) = inr refl
-frame t stamp (Cart asked draw) sound passes (key.TheVariants.Label id) = inr refl
-frame t stamp (Cart asked draw) sound passes (key.TheVariants.Customer id) = inr refl
 frame t stamp (Cart asked draw) sound passes (key.TheVariants.Cart id) = ⊎_elim
     (λ same. inl (0, omega arith, ap key.TheVariants.Cart (sym same)))
     (λ apart. inr (ap (shown row.TheVariants.Cart) (carts_other t.carts (length t.items) asked asked.ids.cart (lines_after t asked draw) id passes apart)))
     (cases_eq id (cart_meant t.carts asked.ids.cart))
-frame t stamp (Cart asked draw) sound passes (key.TheVariants.NewIn subject) = inr refl
-frame t stamp (Cart asked draw) sound passes (key.TheVariants.BestIn subject) = inr refl
-frame t stamp (Cart asked draw) sound passes (key.TheVariants.Buyers item) = inr refl
-frame t stamp (Cart asked draw) sound passes (key.TheVariants.Bought customer) = inr refl
-frame t stamp (Cart asked draw) sound passes (key.TheVariants.Name user) = inr refl
-frame t stamp (Cart asked draw) sound passes (key.TheVariants.Address id) = inr refl
-frame t stamp (Cart asked draw) sound passes (key.TheVariants.SameAddress text) = inr refl
-frame t stamp (Cart asked draw) sound passes (key.TheVariants.Country id) = inr refl
-frame t stamp (Cart asked draw) sound passes (key.TheVariants.Order id) = inr refl
-frame t stamp (Cart asked draw) sound passes (key.TheVariants.LastOrder customer) = inr refl
+frame t stamp (Cart asked draw) sound passes _ = inr refl
 frame t stamp (Enter asked draw) sound passes key = enter_frame t stamp draw asked.buyer key
 frame t stamp (Confirm asked draw auth) sound passes key = confirm_frame t stamp draw auth asked sound passes key
 frame t stamp (Admin asked) sound passes key = admin_frame t stamp asked (row_numbered t.items asked.item) refl passes key
