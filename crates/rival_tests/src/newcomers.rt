@@ -22,7 +22,7 @@ use shop_history::{Ids, Key, Row};
 use shop_model::{AddressText, BuyRequest, Buyer, Newcomer, Scale};
 use shop_order::buy_request::buy_request;
 use shop_search::Index;
-use shop_text::{Boxed, Memory, Text};
+use shop_text::{Memory, Shared, Text};
 use std::alloc::Global;
 use std::test::Fail;
 
@@ -58,7 +58,7 @@ fn newcomer_in(alloc: Global, country: u32) -> Result<Newcomer, Memory>
 fn asked(alloc: Global, country: u32) -> Result<BuyRequest, Memory>
     requires { Has 92 country }
 {
-    let newcomer = Boxed::new(alloc, newcomer_in(alloc, country)?)?;
+    let newcomer = Shared::new(alloc, newcomer_in(alloc, country)?)?;
     Ok(BuyRequest {
         cart: 1,
         buyer: Buyer::Newcomer(newcomer),

@@ -1,7 +1,7 @@
 use crate::Stock;
 use shop_history::{Act, Drawn, Key, Row};
 use shop_model::{AddressText, Cart, Customer, Item, Order};
-use shop_text::Listed;
+use shop_text::{Boxed, Listed};
 
 /// What a key showed, and the version that it had.
 #[derive(Drop)]
@@ -21,12 +21,12 @@ pub enum Write {
     /// The customer with this id logs in.
     Login(u32),
     /// A new address.
-    AddAddress(AddressText),
+    AddAddress(Boxed<AddressText>),
     /// A new customer, who is logged in. Where its address is 0, it is the last one.
     AddCustomer(Customer),
     /// A new order, which is its customer's last, and how many days later it is shipped. Where its
     /// address is 0, it is the last one.
-    AddOrder(Order, u32),
+    AddOrder(Boxed<Order>, u32),
     /// What an item has in stock.
     SetStock(Stock),
     /// An item in its place, or a new one, published on the day of the stamp.

@@ -23,7 +23,7 @@ use Rattle.shop_history.proofs.cited.MayChange.{Buys, who_buys}
 use Rattle.shop_history.proofs.cited.Versions.{RaisedFor}
 use Rattle.shop_book.specs.declared.lists.Lists.{Lists}
 use Rattle.shop_book.specs.declared.plan.Plan.{Plan}
-use Rattle.shop_book.specs.declared.plan.Plan.TheVariants.{Compare, Sell, Mend}
+use Rattle.shop_book.specs.declared.plan.Plan.TheVariants.{One, Compare, Sell, Mend}
 use Rattle.shop_book.specs.declared.rows.Rows.{Rows}
 use Rattle.shop_book.specs.declared.versions.Versions.{Versions}
 use Rattle.shop_book.specs.declared.watching.Watched.{Watched}
@@ -37,7 +37,7 @@ use Rattle.shop_book.specs.Puts.{all_put}
 use Rattle.shop_book.specs.RowsNow.{tables_with}
 use Rattle.shop_book.specs.Sales.{IsSale}
 use Rattle.shop_book.specs.Stored.{stored, HasPlace, HasPlaces}
-use Rattle.shop_book.specs.Watching.{keys_of, AreOf, RaisesOne}
+use Rattle.shop_book.specs.Watching.{keys_of, AreOf, CanWatch, IsWatchable, RaisesOne}
 use Rattle.shop_book.proofs.ChangesLemmas.{sound_named, rows_again}
 use Rattle.shop_book.proofs.KeptLists.{lists_kept}
 use Rattle.shop_history.specs.Keys.{row_of}
@@ -81,39 +81,35 @@ pub watchable_done : (t : Tables) (a : Act) (rows : Rows) (lists : Lists) (plan 
     → (v : Versions) → HasPlaces v rows → AreWatchable v plan
 watchable_done t a rows lists plan stamp puts change v places = by plan refl
   where
+    watchable : (kept : Watched) → IsWatchable kept.key → kept.row ≡ row_of t kept.key → CanWatch v kept
+    watchable kept kind was = record {
+      kind = kind;
+      place = λ some. place_shown v rows t kept.key kind places (λ absent. some (was ∙ sym (ap (λ (u : Tables). row_of u kept.key) change.rows_are) ∙ absent));
+    }
+
     by : (p : Plan) → plan ≡ p → AreWatchable v p
     by (Sell keys) is = tt
     by (Mend item row) is =
         let mends : Mending t a item row = mending t a item row (subst (IsPlanOf t a) is change.plan_is) in
-        record {
-          kind = tt;
-          place = λ some. place_shown v rows t (key.Item item) tt places (λ absent. some (mends.row_is ∙ sym (ap (λ (u : Tables). row_of u (key.Item item)) change.rows_are) ∙ absent));
-        }
+        watchable (record { key = key.Item item; row = row }) tt mends.row_is
+    by (One watched) is =
+        let compared : IsCompared t a (watched ∷ []) = subst (IsPlanOf t a) is change.plan_is in
+        watchable watched (compared.kinds 0 watched (omega arith)) (compared.rows 0 watched (omega arith))
     by (Compare watched) is =
         let compared : IsCompared t a watched.items = subst (IsPlanOf t a) is change.plan_is in
-        λ k d within.
-        let kept : Watched = get_or watched.items k d in
-        record {
-          kind = compared.kinds k d within;
-          place = λ some.
-              place_shown v rows t kept.key (compared.kinds k d within) places
-              (λ absent. some (compared.rows k d within ∙ sym (ap (λ (u : Tables). row_of u kept.key) change.rows_are) ∙ absent));
-        }
+        λ k d within. watchable (get_or watched.items k d) (compared.kinds k d within) (compared.rows k d within)
 
 -- an act whose keys were compared
 
-module _ (t : Tables) (a : Act) (stamp : ℕ) (rows : Rows) (lists : Lists) (plan : Plan) (watched : Vec Watched Global) (same : plan ≡ Compare watched) (done : IsDone t a stamp rows lists plan) where
-  compared : IsCompared t a watched.items
-  compared = subst (IsPlanOf t a) same done.plan_is
-
+module _ (t : Tables) (a : Act) (stamp : ℕ) (rows : Rows) (lists : Lists) (plan : Plan) (done : IsDone t a stamp rows lists plan) (watched : List Watched) (compared : IsCompared t a watched) where
   pub compared_lists : AreLists (after t stamp a) lists
   compared_lists = lists_kept t stamp a lists compared.still done.lists_are
 
-  pub compared_raised : (number : ℕ) (old new : Key → ℕ) → ((before u : Tables) → AreOf before watched.items → RaisedFor before (tables_with u rows) number (keys_of watched.items) old new)
+  pub compared_raised : (number : ℕ) (old new : Key → ℕ) → ((before u : Tables) → AreOf before watched → RaisedFor before (tables_with u rows) number (keys_of watched) old new)
       → RaisedFor t (after t stamp a) number (may_change t a) old new
   compared_raised number old new raised =
       subst (λ (ks : List Key). RaisedFor t (after t stamp a) number ks old new) compared.keys
-      (subst (λ (u : Tables). RaisedFor t u number (keys_of watched.items) old new) (rows_again t (after t stamp a) rows done.rows_are) (raised t (after t stamp a) compared.rows))
+      (subst (λ (u : Tables). RaisedFor t u number (keys_of watched) old new) (rows_again t (after t stamp a) rows done.rows_are) (raised t (after t stamp a) compared.rows))
 
 -- a purchase
 

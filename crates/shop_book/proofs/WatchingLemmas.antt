@@ -1,11 +1,12 @@
 -- What raising the version of a watched key does to the versions of all keys.
-use Rattle.std.proofs.Common.{◌≡◌, ◌≢◌, ℕ, ◌+◌, List, [], ◌∷◌, ◌++◌, length, Contains, ◌⊎◌, inl, inr, ⊎_elim, sym, ◌∙◌, ap, subst}
+use Rattle.std.proofs.Common.{◌≡◌, ◌≢◌, ℕ, ◌+◌, List, [], ◌∷◌, ◌++◌, length, Contains, ◌⊎◌, inl, inr, ⊎_elim, refl, sym, ◌∙◌, ap, subst, arith}
 use Rattle.std.proofs.lemmas.List.{map-append}
 use Rattle.std.specs.Prelude.{All, Option, Some, None}
-use Rattle.std.proofs.lemmas.List.Elements.{All-nil, All-cons, Contains-push, Contains-append_left, Contains-append_cases, Contains-push_cases}
+use Rattle.std.proofs.lemmas.List.Elements.{All-nil, All-cons, All-head, All-tail, Contains-push, Contains-append_left, Contains-append_cases, Contains-push_cases}
 use Rattle.shop_model.specs.declared.address.Address.{Address}
 use Rattle.shop_model.specs.declared.address.AddressText.{AddressText}
 use Rattle.shop_model.specs.declared.buying.Buyer.{Buyer}
+use Rattle.shop_model.specs.declared.buying.BuyRequest.{BuyRequest}
 use Rattle.shop_model.specs.declared.buying.Buyer.TheVariants.{Returning, Newcomer}
 use Rattle.shop_model.specs.declared.tables.Tables.{Tables}
 use Rattle.shop_model.specs.rows.Rows.{CustomerRow}
@@ -23,11 +24,11 @@ use Rattle.shop_history.proofs.cited.Versions.{RaisedFor}
 use Rattle.shop_history.specs.Same.{same}
 use Rattle.shop_book.specs.declared.rows.Rows.{Rows}
 use Rattle.shop_book.specs.declared.versions.Versions.{Versions}
-use Rattle.shop_book.specs.Planning.{MovesNoList}
+use Rattle.shop_book.specs.Planning.{IsCompared, MovesNoList}
 use Rattle.shop_book.specs.RowsNow.{tables_with}
 use Rattle.shop_book.specs.Changing.{RaisesAll}
 use Rattle.shop_book.specs.Stored.{stored, HasSpare, SpareFor}
-use Rattle.shop_book.specs.Watching.{IsWatchable, keys_of, RaisesOne}
+use Rattle.shop_book.specs.Watching.{AreOf, IsWatchable, keys_of, RaisesOne}
 use Rattle.shop_log.proofs.cited.Codes.{decided_by}
 
 pub key_cases : (one other : Key) → (one ≡ other) ⊎ (one ≢ other)
@@ -77,6 +78,12 @@ module _ (before t : Tables) (rows : Rows) (number : ℕ) (keys : List Key) (old
         ⊎_elim (λ (seen : Contains keys key). one.others key apart ∙ raised.all key seen differs) (λ (is : kept.key ≡ key). absurd (apart (sym is))) (Contains-push_cases keys kept.key key has))
         (key_cases key kept.key);
   }
+
+-- one watched key alone
+pub raised_one : (before t : Tables) (rows : Rows) (number : ℕ) (old new : Versions) (kept : Watched) → kept.row ≡ row_of before kept.key → RaisesOne rows number kept old new
+    → RaisedFor before (tables_with t rows) number (kept.key ∷ []) (stored old) (stored new)
+raised_one before t rows number old new kept was one =
+    raised_more before t rows number [] (stored old) old new kept was one (record { each = λ key. inl refl; all = λ key has differs. omega (arith, has.1) })
 
 -- one key more that is raised whatever it shows
 pub all_more : (number : ℕ) (keys : List Key) (key : Key) (old mid next : Key → ℕ) → RaisesAll keys number old mid → next key ≡ number → ((other : Key) → other ≢ key → next other ≡ mid other)
@@ -128,3 +135,15 @@ may_change_watchable t (act.Enter asked draw) nothing = of asked.buyer
         let name : Key = key.Name (digsyl (length t.customers + 1)) in
         All-cons IsWatchable (key.Customer (length t.customers + 1)) (name ∷ rest) tt (All-cons IsWatchable name rest tt (address asked.address (address_saying t asked.address)))
 may_change_watchable t _ nothing = absurd nothing
+
+kinds_of : (watched : List Watched) → All IsWatchable (keys_of watched) → All (λ w. IsWatchable w.key) watched
+kinds_of [] all = All-nil (λ (w : Watched). IsWatchable w.key)
+kinds_of (w ∷ ws) all =
+    All-cons (λ (w : Watched). IsWatchable w.key) w ws (All-head IsWatchable w.key (keys_of ws) all) (kinds_of ws (All-tail IsWatchable w.key (keys_of ws) all))
+
+-- what a buyer may change is watched
+pub buyer_compared : (t : Tables) (a : Act) (asked : BuyRequest) (draw : ℕ) → a ≡ act.Enter asked draw → (watched : List Watched) → keys_of watched ≡ buyer_changes t asked.buyer → AreOf t watched
+    → IsCompared t a watched
+buyer_compared t a asked draw is watched keys rows =
+    subst (λ (b : Act). IsCompared t b watched) (sym is)
+    (record { still = tt; keys = keys; rows = rows; kinds = kinds_of watched (subst (All IsWatchable) (sym keys) (may_change_watchable t (act.Enter asked draw) tt)) })

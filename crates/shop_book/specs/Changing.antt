@@ -9,7 +9,7 @@ use Rattle.shop_history.specs.declared.keys.Key.{Key}
 use Rattle.shop_history.specs.Acts.{play, request_of}
 use Rattle.shop_book.specs.declared.lists.Lists.{Lists}
 use Rattle.shop_book.specs.declared.plan.Plan.{Plan}
-use Rattle.shop_book.specs.declared.plan.Plan.TheVariants.{Compare, Sell, Mend}
+use Rattle.shop_book.specs.declared.plan.Plan.TheVariants.{One, Compare, Sell, Mend}
 use Rattle.shop_book.specs.declared.puts.Put.{Put}
 use Rattle.shop_book.specs.declared.rows.Rows.{Rows}
 use Rattle.shop_book.specs.declared.versions.Versions.{Versions}
@@ -44,6 +44,7 @@ pub record IsDone (t : Tables) (act : Act) (stamp : ℕ) (rows : Rows) (lists : 
 
 -- watched keys have places where they showed rows
 abbrev pub AreWatchable : Versions → Plan → Type 0
+AreWatchable versions (One watched) = CanWatch versions watched
 AreWatchable versions (Compare watched) = All (CanWatch versions) watched.items
 AreWatchable versions (Sell keys) = Unit {0}
 AreWatchable versions (Mend item row) = CanWatch versions (record { key = key.TheVariants.Item item; row = row })

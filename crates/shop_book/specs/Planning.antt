@@ -10,7 +10,7 @@ use Rattle.shop_history.specs.declared.keys.Key.{Key}
 use Rattle.shop_history.specs.Keys.{row_of}
 use Rattle.shop_history.specs.MayChange.{may_change, ship_changes}
 use Rattle.shop_book.specs.declared.plan.Plan.{Plan}
-use Rattle.shop_book.specs.declared.plan.Plan.TheVariants.{Compare, Sell, Mend}
+use Rattle.shop_book.specs.declared.plan.Plan.TheVariants.{One, Compare, Sell, Mend}
 use Rattle.shop_book.specs.declared.watching.Watched.{Watched}
 use Rattle.shop_book.specs.Watching.{AreOf, IsWatchable, keys_of}
 
@@ -41,6 +41,7 @@ pub record IsCompared (t : Tables) (a : Act) (watched : List Watched) : Type 0 w
   pub kinds : All (λ w. IsWatchable w.key) watched
 
 abbrev pub IsPlanOf : Tables → Act → Plan → Type 0
+IsPlanOf t a (One watched) = IsCompared t a (watched ∷ [])
 IsPlanOf t a (Compare watched) = IsCompared t a watched.items
 IsPlanOf t (act.TheVariants.Confirm asked draw auth) (Sell keys) = keys.items ≡ certain_changes t asked
 IsPlanOf t (act.TheVariants.Admin asked) (Mend item row) = (item ≡ asked.item) × (row ≡ row_of t (key.TheVariants.Item item))
@@ -49,6 +50,7 @@ IsPlanOf t _ (Mend item row) = ⊥
 
 -- as many keys may get a version
 abbrev pub keys_in : Plan → ℕ
+keys_in (One watched) = 1
 keys_in (Compare watched) = length watched.items
 keys_in (Sell keys) = length keys.items
 keys_in (Mend item row) = 1

@@ -85,6 +85,7 @@ fn carry_out(rows: &Rows, versions: &mut Versions, lists: &mut Lists, plan: Plan
     ensures places { HasPlaces versions.new rows.now }
 {
     match plan {
+        Plan::One(kept) => raise_if_changed(versions, rows, kept, number),
         Plan::Compare(watched) => raise_changed(versions, rows, watched, number),
         Plan::Sell(keys) => {
             raise_all(versions, keys, number);

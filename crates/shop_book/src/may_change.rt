@@ -1,25 +1,23 @@
 //! The keys that an act may change.
-ghost use Rattle.std.specs.Prelude.{◌≡◌, ◌+◌, ◌^◌, ◌<◌, ◌∷◌, [], Some, length, unwrap_or, IfOk};
+ghost use Rattle.std.specs.Prelude.{◌≡◌, ◌+◌, ◌^◌, ◌<◌, [], Some, length, unwrap_or, option_to_list, IfOk, IfSome};
 ghost use Rattle.shop_text.specs.Texts.{digsyl};
 ghost use Rattle.shop_model.specs.asked.CustomersAsked.{IsLoginAsked, IsNewcomerAsked};
+ghost use Rattle.shop_model.specs.declared.buying.Buyer.TheVariants as buyer_kinds;
 ghost use Rattle.shop_model.specs.declared.tables.Tables.{Tables};
 ghost use Rattle.shop_model.specs.trade.Buyers.{customer_named, address_saying};
 ghost use Rattle.shop_model.specs.trade.Carts as shopping;
 ghost use Rattle.shop_model.specs.asked.CartAsked.{IsCartAsked};
 ghost use Rattle.shop_model.specs.asked.PurchaseAsked.{IsPurchaseAsked};
 ghost use Rattle.shop_history.specs.declared.keys.Key.TheVariants as key;
-ghost use Rattle.shop_history.specs.Acts.{IsBuyer};
 ghost use Rattle.shop_history.specs.MayChange as spec;
 ghost use Rattle.shop_book.specs.Named.{AreNamed};
 ghost use Rattle.shop_book.specs.Planning.{certain_changes};
 ghost use Rattle.shop_book.specs.RowsNow.{tables_with};
-ghost use Rattle.shop_book.specs.Watching.{MayCome};
+ghost use Rattle.shop_book.specs.Watching.{IsWatchable, MayCome};
 
 use crate::rows::Rows;
 use shop_history::Key;
-use shop_model::{
-    AddressText, BuyConfirm, Buyer, Cart, CartRequest, Login, Newcomer, row_numbered,
-};
+use shop_model::{AddressText, BuyConfirm, Cart, CartRequest, Login, Newcomer, row_numbered};
 use shop_text::{Boxed, Memory, digsyl};
 use std::alloc::Global;
 
@@ -35,14 +33,15 @@ fn cart_meant(carts: &[Cart], named: Option<u32>) -> u32
 }
 
 /// That of the customer who logs in, where there is one.
-fn login_changes(alloc: Global, rows: &Rows, login: &Login) -> Result<Vec<Key>, Memory>
+pub(crate) fn login_change(rows: &Rows, login: &Login) -> Option<Key>
     requires { AreNamed rows.now.customers.items }
-    ensures form { IfOk result (λ keys. IsLoginAsked login.now) }
-    ensures keys { IfOk result (λ keys. (t : Tables) → keys.items ≡ spec.login_changes (customer_named (tables_with t rows.now) login.now.user)) }
+    ensures form { IsLoginAsked login.now }
+    ensures kind { IfSome result IsWatchable }
+    ensures key { (t : Tables) → option_to_list result ≡ spec.login_changes (customer_named (tables_with t rows.now) login.now.user) }
 {
     match rows.customer_named(&login.user) {
-        None => Ok(Vec::new(alloc)),
-        Some(id) => Ok(vec![in alloc; Key::Customer(id)]?),
+        None => None,
+        Some(id) => Some(Key::Customer(id)),
     }
 }
 
@@ -62,10 +61,14 @@ fn address_changes(alloc: Global, rows: &Rows, text: &AddressText) -> Result<Vec
 }
 
 /// Those of a new customer.
-fn newcomer_changes(alloc: Global, rows: &Rows, newcomer: &Newcomer) -> Result<Vec<Key>, Memory>
+pub(crate) fn newcomer_changes(
+    alloc: Global,
+    rows: &Rows,
+    newcomer: &Newcomer,
+) -> Result<Vec<Key>, Memory>
     requires { MayCome rows.now }
     ensures form { IfOk result (λ keys. IsNewcomerAsked newcomer.now) }
-    ensures keys { IfOk result (λ keys. (t : Tables) → keys.items ≡ spec.buyer_changes (tables_with t rows.now) (Buyer.Newcomer newcomer.now)) }
+    ensures keys { IfOk result (λ keys. (t : Tables) → keys.items ≡ spec.buyer_changes (tables_with t rows.now) (buyer_kinds.Newcomer newcomer.now)) }
 {
     let id = rows.customers.len() as u32 + 1;
     let name = digsyl(alloc, id)?;
@@ -75,30 +78,13 @@ fn newcomer_changes(alloc: Global, rows: &Rows, newcomer: &Newcomer) -> Result<V
     Ok(keys)
 }
 
-/// Those of a buyer.
-pub(crate) fn buyer_changes(alloc: Global, rows: &Rows, buyer: &Buyer) -> Result<Vec<Key>, Memory>
-    requires { MayCome rows.now }
-    ensures form { IfOk result (λ keys. IsBuyer buyer.now) }
-    ensures keys { IfOk result (λ keys. (t : Tables) → keys.items ≡ spec.buyer_changes (tables_with t rows.now) buyer.now) }
-{
-    match buyer {
-        Buyer::Returning(login) => login_changes(alloc, rows, login),
-        Buyer::Newcomer(newcomer) => newcomer_changes(alloc, rows, newcomer.get()),
-    }
-}
-
 /// That of the cart that a request is about.
-pub(crate) fn cart_changes(
-    alloc: Global,
-    rows: &Rows,
-    asked: &CartRequest,
-) -> Result<Vec<Key>, Memory>
+pub(crate) fn cart_change(rows: &Rows, asked: &CartRequest) -> Key
     requires { MayCome rows.now }
-    ensures form { IfOk result (λ keys. IsCartAsked asked.now) }
-    ensures keys { IfOk result (λ keys. keys.items ≡ key.Cart (shopping.cart_meant rows.now.carts.items asked.now.ids.cart) ∷ []) }
+    ensures form { IsCartAsked asked.now }
+    ensures key { result ≡ key.Cart (shopping.cart_meant rows.now.carts.items asked.now.ids.cart) }
 {
-    let id = cart_meant(&rows.carts, asked.ids.cart);
-    Ok(vec![in alloc; Key::Cart(id)]?)
+    Key::Cart(cart_meant(&rows.carts, asked.ids.cart))
 }
 
 /// The lines of the cart with an id; none where there is no such cart.

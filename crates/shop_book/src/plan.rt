@@ -6,15 +6,18 @@ ghost use Rattle.shop_book.specs.Planning as spec;
 ghost use Rattle.shop_book.specs.RowsNow.{tables_with};
 ghost use Rattle.shop_book.specs.Watching.{MayCome};
 
-use crate::may_change::{buyer_changes, cart_changes, certain_changes};
+use crate::may_change::{cart_change, certain_changes, login_change, newcomer_changes};
 use crate::rows::Rows;
-use crate::watching::{Watched, watch};
+use crate::watching::{Watched, watch, watch_one};
 use shop_history::{Act, Key, Row};
+use shop_model::Buyer;
 use shop_text::Memory;
 use std::alloc::Global;
 
 #[derive(Drop)]
 pub(crate) enum Plan {
+    /// The one key that the act may change, with what it shows.
+    One(Watched),
     /// Keys that the act may change, with what they show.
     Compare(Vec<Watched>),
     /// Keys that a purchase changes for certain; the lists tell of the rest.
@@ -31,15 +34,20 @@ impl Plan {
         ensures plan { IfOk result (λ plan. (t : Tables) → spec.IsPlanOf (tables_with t rows.now) act.now plan) }
     {
         match act {
-            Act::Cart(asked, _) => {
-                let keys = cart_changes(alloc, rows, asked)?;
-                Ok(Plan::Compare(watch(alloc, rows, keys)?))
-            }
+            Act::Cart(asked, _) => Ok(Plan::One(watch_one(rows, cart_change(rows, asked))?)),
             Act::Enter(asked, _) => {
                 // A number behind a reference is known to fit its type once it is read.
                 let _cart = asked.cart;
-                let keys = buyer_changes(alloc, rows, &asked.buyer)?;
-                Ok(Plan::Compare(watch(alloc, rows, keys)?))
+                match &asked.buyer {
+                    Buyer::Returning(login) => match login_change(rows, login.get()) {
+                        Some(key) => Ok(Plan::One(watch_one(rows, key)?)),
+                        None => Ok(Plan::Compare(Vec::new(alloc))),
+                    },
+                    Buyer::Newcomer(newcomer) => {
+                        let keys = newcomer_changes(alloc, rows, newcomer.get())?;
+                        Ok(Plan::Compare(watch(alloc, rows, keys)?))
+                    }
+                }
             }
             Act::Confirm(asked, _, _) => {
                 Ok(Plan::Sell(certain_changes(alloc, rows, asked.get())?))
@@ -56,6 +64,7 @@ impl Plan {
         ensures { result ≡ spec.keys_in self.now }
     {
         match self {
+            Plan::One(_) => 1,
             Plan::Compare(watched) => watched.len(),
             Plan::Sell(keys) => keys.len(),
             Plan::Mend(_, _) => 1,

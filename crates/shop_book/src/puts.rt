@@ -13,7 +13,7 @@ use shop_attempt::{Stock, Write};
 use shop_model::{
     Address, AddressText, CardUse, Cart, Customer, DAY_LENGTH, DAY_LIMIT, Item, Order,
 };
-use shop_text::{Memory, Shared};
+use shop_text::{Boxed, Memory, Shared};
 use std::alloc::Global;
 
 /// A write whose new row is made, with its id, where it is one that is shared.
@@ -22,7 +22,7 @@ pub(crate) enum Put {
     Cart(Cart),
     Login(u32),
     /// A new address, and the text that it says.
-    Address(Shared<Address>, AddressText),
+    Address(Shared<Address>, Boxed<AddressText>),
     Customer(Customer),
     Order(Shared<Order>),
     Stock(Stock),
@@ -77,7 +77,7 @@ impl Next {
     }
 
     /// An address that comes next.
-    fn address(&mut self, alloc: Global, text: AddressText) -> Result<Put, Memory>
+    fn address(&mut self, alloc: Global, text: Boxed<AddressText>) -> Result<Put, Memory>
         requires { self.old.addresses + 1 < 2 ^ 32 }
         ensures put { IfOk result (λ put. put ≡ Put.Address (record { id = self.old.addresses + 1; text = text }) text) }
         ensures next { self.new ≡ record self.old { addresses = self.old.addresses + 1 } }
@@ -86,7 +86,7 @@ impl Next {
         let id = self.addresses as u32;
         let row = Address {
             id,
-            text: text.copy(alloc)?,
+            text: text.get().copy(alloc)?,
         };
         Ok(Put::Address(Shared::new(alloc, row)?, text))
     }
@@ -104,7 +104,7 @@ impl Next {
             Write::AddAddress(text) => self.address(alloc, text),
             Write::AddCustomer(customer) => Ok(Put::Customer(customer)),
             Write::AddOrder(order, days) => {
-                let order = placed_order(*self, stamp, order, days);
+                let order = placed_order(*self, stamp, order.into_inner(), days);
                 self.orders += 1;
                 Ok(Put::Order(Shared::new(alloc, order)?))
             }

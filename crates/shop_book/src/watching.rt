@@ -38,6 +38,17 @@ fn row_now(rows: &Rows, key: &Key) -> Result<Row, Memory>
     }
 }
 
+/// A key, with what it shows.
+pub(crate) fn watch_one(rows: &Rows, key: Key) -> Result<Watched, Memory>
+    requires kind { spec.IsWatchable key }
+    requires named { AreNamed rows.now.customers.items }
+    ensures key { IfOk result (λ watched. watched.key ≡ key) }
+    ensures row { IfOk result (λ watched. (t : Tables) → watched.row ≡ row_of (tables_with t rows.now) key) }
+{
+    let row = row_now(rows, &key)?;
+    Ok(Watched { key, row })
+}
+
 /// These keys, with what they show.
 pub(crate) fn watch(alloc: Global, rows: &Rows, keys: Vec<Key>) -> Result<Vec<Watched>, Memory>
     requires kinds { All spec.IsWatchable keys.items }

@@ -116,7 +116,7 @@ impl Rows {
         match put {
             Put::Cart(cart) => put_cart(&mut self.carts, cart),
             Put::Login(id) => login(&mut self.customers, id, stamp),
-            Put::Address(address, text) => self.addresses.push(address, text),
+            Put::Address(address, text) => self.addresses.push(address, text.into_inner()),
             Put::Customer(customer) => self.add_customer(stamp, customer),
             Put::Order(order) => self.add_order(order),
             Put::Stock(stock) => set_stock(&mut self.items, &stock),

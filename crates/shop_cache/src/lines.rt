@@ -8,7 +8,7 @@ ghost use Rattle.shop_cache.specs.Lines as spec;
 
 use shop_draft::ItemLinks;
 use shop_history::Label;
-use shop_text::{Listed, Memory};
+use shop_text::{Boxed, Listed, Memory};
 use std::alloc::Global;
 use std::marker::Model;
 
@@ -23,7 +23,7 @@ pub struct ListLine {
 #[derive(Drop)]
 pub struct ListLines {
     lines: Listed<ListLine>,
-    links: ItemLinks,
+    links: Boxed<ItemLinks>,
 }
 
 impl Model for ListLines {
@@ -55,7 +55,7 @@ impl ListLines {
     pub fn of(alloc: Global, lines: Listed<ListLine>) -> Result<ListLines, Memory>
         ensures { IfOk result (λ all. all ≡ lines) }
     {
-        let links = links_of(alloc, lines.as_slice())?;
+        let links = Boxed::new(alloc, links_of(alloc, lines.as_slice())?)?;
         Ok(ListLines { lines, links })
     }
 
@@ -70,6 +70,6 @@ impl ListLines {
     pub fn links(&self) -> &ItemLinks
         ensures { (ids : IdsAsked) → links_with ids result.now ≡ flat_map block_line (map (spec.line_in ids) self.now) }
     {
-        &self.links
+        self.links.get()
     }
 }

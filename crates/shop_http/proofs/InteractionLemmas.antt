@@ -1,5 +1,5 @@
 -- The table of paths: that they are text and have no parameters, and what a router of it finds.
-use Rattle.std.proofs.Common.{◌≡◌, ℕ, ◌<◌, Bool, true, false, cond, List, [], ◌∷◌, Some, None, refl, sym, ap, ◌∙◌, subst, true≢false, arith}
+use Rattle.std.proofs.Common.{◌≡◌, ℕ, zero, suc, ◌<◌, Bool, true, false, ◌&&◌, cond, List, [], ◌∷◌, length, drop, get_or, codes, is_none, Option, Some, None, refl, sym, ap, ◌∙◌, subst, true≢false, arith}
 use Rattle.std.specs.Prelude.{option_map, Ok}
 use Rattle.std.specs.Bool.{one_answer}
 use Rattle.std.specs.Char.{is_ascii}
@@ -10,11 +10,14 @@ use Rattle.std.proofs.lemmas.Slice.Eq.{bytes_eq-Decides}
 use Rattle.std.proofs.lemmas.Str.{IsUtf8-from_ascii}
 use Rattle.std.proofs.lemmas.Str.Ascii.{IsAscii-from_all}
 use Rattle.std.proofs.lemmas.Bool.{and_parts}
-use Rattle.matchit.specs.Order.{lookup}
+use Rattle.matchit.specs.Order.{lookup, placed}
 use Rattle.matchit.specs.Route.{parse_route}
+use Rattle.matchit.specs.Router.{RouteOf, nearest}
+use Rattle.matchit.specs.Rows.{RowsOf}
 use Rattle.matchit.proofs.OnLiterals.{matchit_on_literals}
 use Rattle.shop_model.specs.declared.requests.Interaction.{Interaction}
-use Rattle.shop_model.specs.declared.requests.Interaction.TheVariants.{Home, NewProducts, BestSellers, ProductDetail, SearchRequest, SearchResults, ShoppingCart, CustomerRegistration, BuyRequest, BuyConfirm, OrderInquiry, OrderDisplay, AdminRequest, AdminConfirm}
+use Rattle.shop_model.specs.declared.requests.Interaction.TheVariants.{Home}
+use Rattle.shop_model.specs.declared.requests.TheConstants.{INTERACTIONS}
 use Rattle.shop_model.specs.asked.Interactions.{paths, path_of, interaction_of}
 use Rattle.shop_http.specs.Routes.{plain_scan, row_of, rows_of, FindsAll}
 use Rattle.shop_http.proofs.RouteLemmas.{first_literal}
@@ -73,16 +76,64 @@ none_unless_text path text = ap (option_map (λ row. row.1)) (none_found paths p
 pub plain_paths : (interaction : Interaction) → parse_route (path_of interaction) ≡ Ok (plain_scan (path_of interaction))
 unfolding matchit_on_literals
 plain_paths Home = refl
-plain_paths NewProducts = refl
-plain_paths BestSellers = refl
-plain_paths ProductDetail = refl
-plain_paths SearchRequest = refl
-plain_paths SearchResults = refl
-plain_paths ShoppingCart = refl
-plain_paths CustomerRegistration = refl
-plain_paths BuyRequest = refl
-plain_paths BuyConfirm = refl
-plain_paths OrderInquiry = refl
-plain_paths OrderDisplay = refl
-plain_paths AdminRequest = refl
-plain_paths AdminConfirm = refl
+plain_paths _ = refl
+
+-- each is found by its path
+pub found_by_path : (interaction : Interaction) → Some interaction ≡ interaction_of (path_of interaction)
+unfolding interaction_of
+found_by_path Home = refl
+found_by_path _ = refl
+
+-- the rows of a router to which these were added
+abbrev pub added : RowsOf (RouteOf Interaction) → List Interaction → RowsOf (RouteOf Interaction)
+added rows [] = rows
+added rows (interaction ∷ rest) = added (placed (row_of (path_of interaction, interaction)) rows) rest
+
+-- none of these is there before it is added
+abbrev pub are_free : RowsOf (RouteOf Interaction) → List Interaction → Bool
+are_free rows [] = true
+are_free rows (interaction ∷ rest) = is_none (nearest (path_of interaction) rows) && are_free (placed (row_of (path_of interaction, interaction)) rows) rest
+
+split_at : (all : List Interaction) (k : ℕ) (none : Interaction) → k < length all → drop k all ≡ get_or all k none ∷ drop (suc k) all
+split_at [] k none within = absurd (omega (arith, within))
+split_at (x ∷ rest) zero none within = refl
+split_at (x ∷ rest) (suc k) none within = split_at rest k none (omega (arith, within))
+
+none_there : {A : Type 0} (found : Option A) → is_none found ≡ true → found ≡ None
+none_there None none = refl
+none_there (Some x) none = absurd (true≢false (sym none))
+
+-- one of those that are left is added
+module _ (rows : RowsOf (RouteOf Interaction)) (k : ℕ) (none : Interaction) (within : k < length INTERACTIONS) where
+  abbrev next : Interaction
+  next = get_or INTERACTIONS k none
+
+  abbrev more : RowsOf (RouteOf Interaction)
+  more = placed (row_of (path_of next, next)) rows
+
+  here : drop k INTERACTIONS ≡ next ∷ drop (suc k) INTERACTIONS
+  here = split_at INTERACTIONS k none within
+
+  free_parts : are_free rows (drop k INTERACTIONS) ≡ true → (is_none (nearest (path_of next) rows) ≡ true) × (are_free more (drop (suc k) INTERACTIONS) ≡ true)
+  free_parts free = and_parts (is_none (nearest (path_of next) rows)) (are_free more (drop (suc k) INTERACTIONS)) (subst (λ (rest : List Interaction). are_free rows rest ≡ true) here free)
+
+  pub next_free : are_free rows (drop k INTERACTIONS) ≡ true → nearest (path_of next) rows ≡ None
+  next_free free = none_there (nearest (path_of next) rows) (free_parts free).0
+
+  pub others_free : are_free rows (drop k INTERACTIONS) ≡ true → are_free more (drop (suc k) INTERACTIONS) ≡ true
+  others_free free = (free_parts free).1
+
+  pub others_added : added more (drop (suc k) INTERACTIONS) ≡ added rows (drop k INTERACTIONS)
+  others_added = sym (ap (added rows) here)
+
+pub all_free : are_free [] INTERACTIONS ≡ true
+unfolding matchit_on_literals
+all_free = refl
+
+pub all_added : placed (row_of (codes "/", Home)) (added [] INTERACTIONS) ≡ rows_of paths
+unfolding matchit_on_literals
+all_added = refl
+
+pub slash_free : nearest (codes "/") (added [] INTERACTIONS) ≡ None
+unfolding matchit_on_literals
+slash_free = refl

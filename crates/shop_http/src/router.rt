@@ -1,4 +1,4 @@
-ghost use Rattle.std.specs.Prelude.{◌≡◌, None, Some, Ok, [], IfSome, OnOk, take};
+ghost use Rattle.std.specs.Prelude.{◌≡◌, None, Some, Ok, [], IfSome, OnOk};
 ghost use Rattle.matchit.specs.Order.{placed};
 ghost use Rattle.matchit.specs.Route.{parse_route};
 ghost use Rattle.matchit.specs.Router.{nearest};
@@ -7,7 +7,7 @@ ghost use Rattle.shop_http.specs.Routes.{FindsAll, row_of, rows_of, plain_scan};
 
 use crate::constants::is_same;
 use matchit::{InsertError, Router};
-use shop_model::Interaction;
+use shop_model::{INTERACTIONS, Interaction};
 use shop_text::Memory;
 use std::alloc::Global;
 use std::str::from_utf8;
@@ -23,9 +23,7 @@ impl Routes {
     /// The router of all paths that are served.
     pub fn new(alloc: Global) -> Result<Routes, Memory> {
         let mut router = Router::new(alloc);
-        add_first(&mut router)?;
-        add_middle(&mut router)?;
-        add_last(&mut router)?;
+        add_all(&mut router)?;
         Ok(Routes { router })
     }
 
@@ -47,76 +45,25 @@ impl Routes {
 }
 
 /// The interaction that pages link to by this path. Most messages ask for one, and need no router.
-#[tactic(auto, unfolding(shop_model::specs::asked::Interactions::interaction_of))]
 fn linked(path: &[u8]) -> Option<Interaction>
     ensures { IfSome result (λ interaction. Some interaction ≡ interaction_of path.now) }
 {
-    if is_same(path, b"/home") {
-        Some(Interaction::Home)
-    } else if is_same(path, b"/new_products") {
-        Some(Interaction::NewProducts)
-    } else if is_same(path, b"/best_sellers") {
-        Some(Interaction::BestSellers)
-    } else if is_same(path, b"/product_detail") {
-        Some(Interaction::ProductDetail)
-    } else if is_same(path, b"/search_request") {
-        Some(Interaction::SearchRequest)
-    } else if is_same(path, b"/search_results") {
-        Some(Interaction::SearchResults)
-    } else if is_same(path, b"/shopping_cart") {
-        Some(Interaction::ShoppingCart)
-    } else if is_same(path, b"/customer_registration") {
-        Some(Interaction::CustomerRegistration)
-    } else if is_same(path, b"/buy_request") {
-        Some(Interaction::BuyRequest)
-    } else if is_same(path, b"/buy_confirm") {
-        Some(Interaction::BuyConfirm)
-    } else if is_same(path, b"/order_inquiry") {
-        Some(Interaction::OrderInquiry)
-    } else if is_same(path, b"/order_display") {
-        Some(Interaction::OrderDisplay)
-    } else if is_same(path, b"/admin_request") {
-        Some(Interaction::AdminRequest)
-    } else if is_same(path, b"/admin_confirm") {
-        Some(Interaction::AdminConfirm)
-    } else {
-        None
+    for interaction in INTERACTIONS {
+        if is_same(path, interaction.path().as_bytes()) {
+            return Some(interaction);
+        }
     }
+    None
 }
 
-/// Adds the first five paths of the table.
-fn add_first(router: &mut Router<Interaction>) -> Result<(), Memory>
+/// Adds the paths that pages link to, and another one of Home.
+fn add_all(router: &mut Router<Interaction>) -> Result<(), Memory>
     requires { router.old ≡ [] }
-    ensures { OnOk result (router.new ≡ rows_of (take 5 paths)) }
-{
-    add_linked(router, Interaction::AdminConfirm)?;
-    add_linked(router, Interaction::AdminRequest)?;
-    add_linked(router, Interaction::BestSellers)?;
-    add_linked(router, Interaction::BuyConfirm)?;
-    add_linked(router, Interaction::BuyRequest)
-}
-
-/// Adds the next five paths of the table.
-fn add_middle(router: &mut Router<Interaction>) -> Result<(), Memory>
-    requires { router.old ≡ rows_of (take 5 paths) }
-    ensures { OnOk result (router.new ≡ rows_of (take 10 paths)) }
-{
-    add_linked(router, Interaction::CustomerRegistration)?;
-    add_linked(router, Interaction::Home)?;
-    add_linked(router, Interaction::NewProducts)?;
-    add_linked(router, Interaction::OrderDisplay)?;
-    add_linked(router, Interaction::OrderInquiry)
-}
-
-/// Adds the other paths of the table.
-fn add_last(router: &mut Router<Interaction>) -> Result<(), Memory>
-    requires { router.old ≡ rows_of (take 10 paths) }
     ensures { OnOk result (router.new ≡ rows_of paths) }
 {
-    add_linked(router, Interaction::ProductDetail)?;
-    add_linked(router, Interaction::SearchRequest)?;
-    add_linked(router, Interaction::SearchResults)?;
-    add_linked(router, Interaction::ShoppingCart)?;
+    for interaction in INTERACTIONS {
+        add_linked(router, interaction)?;
+    }
     add(router, "/", Interaction::Home)
 }
 

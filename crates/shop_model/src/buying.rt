@@ -1,6 +1,6 @@
 //! What is asked for by customers, and by those who become one.
 use crate::{AddressText, CardNumber, CardType, IdsAsked, Month, ShipType};
-use shop_text::{Boxed, Text};
+use shop_text::{Shared, Text};
 use std::marker::Model;
 
 #[derive(Clone, Copy, Debug, PartialEq, Eq)]
@@ -63,11 +63,11 @@ impl Model for Newcomer {
     ghost invariant = { λ i. IsNewcomerAsked (asked_of i) };
 }
 
-/// Who buys.
+/// Who buys. The act that comes of a request shares what it says.
 #[derive(Debug, Drop)]
 pub enum Buyer {
-    Returning(Login),
-    Newcomer(Boxed<Newcomer>),
+    Returning(Shared<Login>),
+    Newcomer(Shared<Newcomer>),
 }
 
 #[derive(Debug, Drop)]

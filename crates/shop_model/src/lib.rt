@@ -59,8 +59,8 @@ pub use page::{Block, Field, Page};
 pub use parameter::Parameter;
 pub use refusal::{Refusal, refusal_page};
 pub use requests::{
-    BestSellers, CartRequest, Home, IdsAsked, Interaction, NewProducts, ProductDetail, Request,
-    SearchKind, SearchRequest, SearchResults,
+    BestSellers, CartRequest, Home, INTERACTIONS, IdsAsked, Interaction, NewProducts,
+    ProductDetail, Request, SearchKind, SearchRequest, SearchResults,
 };
 pub use scale::Scale;
 pub use ship_type::ShipType;

@@ -28,6 +28,24 @@ pub enum Interaction {
     AdminConfirm,
 }
 
+/// All interactions, each once.
+pub const INTERACTIONS: [Interaction; 14] = [
+    Interaction::Home,
+    Interaction::NewProducts,
+    Interaction::BestSellers,
+    Interaction::ProductDetail,
+    Interaction::SearchRequest,
+    Interaction::SearchResults,
+    Interaction::ShoppingCart,
+    Interaction::CustomerRegistration,
+    Interaction::BuyRequest,
+    Interaction::BuyConfirm,
+    Interaction::OrderInquiry,
+    Interaction::OrderDisplay,
+    Interaction::AdminRequest,
+    Interaction::AdminConfirm,
+];
+
 impl Interaction {
     /// The path that pages link to.
     pub fn path(&self) -> &'static str

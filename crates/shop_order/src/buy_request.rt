@@ -86,7 +86,7 @@ fn buyer_key(alloc: Global, buyer: &Buyer) -> Result<Key, Memory>
     ensures { IfOk result (λ key. key ≡ spec.buyer_key buyer.now) }
 {
     match buyer {
-        Buyer::Returning(login) => Ok(Key::Name(Text::copy(alloc, login.user.bytes())?)),
+        Buyer::Returning(login) => Ok(Key::Name(Text::copy(alloc, login.get().user.bytes())?)),
         Buyer::Newcomer(newcomer) => {
             let text = newcomer.get().address.copy(alloc)?;
             Ok(Key::SameAddress(Boxed::new(alloc, text)?))
@@ -136,7 +136,7 @@ fn by_login(
     let shopper = Shopper::known(customer);
     write_page(alloc, draft, &shopper, asked.cart, begun.lines, &reads[3..])?;
     let writes = login_writes(alloc, customer.id)?;
-    Ok(Next::Change(act(alloc, asked, ask.draw)?, writes))
+    Ok(Next::Change(act(asked, ask.draw)?, writes))
 }
 
 /// What is done for who is new, where all is read.
@@ -156,7 +156,7 @@ fn by_newcomer(
     let shopper = Shopper::newcomer(newcomer, ask.draw);
     write_page(alloc, draft, &shopper, asked.cart, begun.lines, &reads[2..])?;
     let writes = newcomer_writes(alloc, newcomer, begun.found, ask.draw)?;
-    Ok(Next::Change(act(alloc, asked, ask.draw)?, writes))
+    Ok(Next::Change(act(asked, ask.draw)?, writes))
 }
 
 /// What is done where all is read.
@@ -171,7 +171,7 @@ fn by_all(
     ensures { IfOk result (spec.IsEnd asked.now ask.now gathered.now.reads.now draft.new) }
 {
     match &asked.buyer {
-        Buyer::Returning(login) => by_login(alloc, ask, asked, login, gathered, draft),
+        Buyer::Returning(login) => by_login(alloc, ask, asked, login.get(), gathered, draft),
         Buyer::Newcomer(newcomer) => {
             by_newcomer(alloc, ask, asked, newcomer.get(), gathered, draft)
         }

@@ -5,51 +5,27 @@ ghost use Rattle.shop_order.specs.Entries as spec;
 
 use shop_attempt::Write;
 use shop_history::Act;
-use shop_model::{BuyRequest, Buyer, Customer, CustomerDetails, Login, Newcomer};
-use shop_text::{Boxed, Caption, Listed, Memory, Shared, Text};
+use shop_model::{BuyRequest, Buyer, Customer, CustomerDetails, Newcomer};
+use shop_text::{Boxed, Caption, Listed, Memory, Shared};
 use std::alloc::Global;
 
-fn copy_login(alloc: Global, login: &Login) -> Result<Login, Memory>
-    ensures { IfOk result (λ copy. copy ≡ login.now) }
-{
-    Ok(Login {
-        user: Text::copy(alloc, login.user.bytes())?,
-        pass: Text::copy(alloc, login.pass.bytes())?,
-    })
-}
-
-fn copy_newcomer(alloc: Global, newcomer: &Newcomer) -> Result<Newcomer, Memory>
-    ensures { IfOk result (λ copy. copy ≡ newcomer.now) }
-{
-    Ok(Newcomer {
-        first: Text::copy(alloc, newcomer.first.bytes())?,
-        last: Text::copy(alloc, newcomer.last.bytes())?,
-        address: newcomer.address.copy(alloc)?,
-        phone: Text::copy(alloc, newcomer.phone.bytes())?,
-        email: Text::copy(alloc, newcomer.email.bytes())?,
-    })
-}
-
-fn copy_buyer(alloc: Global, buyer: &Buyer) -> Result<Buyer, Memory>
-    ensures { IfOk result (λ copy. copy ≡ buyer.now) }
+fn share_buyer(buyer: &Buyer) -> Result<Buyer, Memory>
+    ensures { IfOk result (λ shared. shared ≡ buyer.now) }
 {
     match buyer {
-        Buyer::Returning(login) => Ok(Buyer::Returning(copy_login(alloc, login)?)),
-        Buyer::Newcomer(newcomer) => {
-            let copy = copy_newcomer(alloc, newcomer.get())?;
-            Ok(Buyer::Newcomer(Boxed::new(alloc, copy)?))
-        }
+        Buyer::Returning(login) => Ok(Buyer::Returning(login.share()?)),
+        Buyer::Newcomer(newcomer) => Ok(Buyer::Newcomer(newcomer.share()?)),
     }
 }
 
-/// The act of a request, with the word that was drawn for it.
-pub(crate) fn act(alloc: Global, asked: &BuyRequest, draw: u32) -> Result<Act, Memory>
+/// The act of a request, with the word that was drawn for it; it shares what the buyer says.
+pub(crate) fn act(asked: &BuyRequest, draw: u32) -> Result<Act, Memory>
     ensures { IfOk result (λ act. act ≡ Act.Enter asked.now draw) }
 {
     Ok(Act::Enter(
         BuyRequest {
             cart: asked.cart,
-            buyer: copy_buyer(alloc, &asked.buyer)?,
+            buyer: share_buyer(&asked.buyer)?,
         },
         draw,
     ))
@@ -114,7 +90,8 @@ pub(crate) fn newcomer_writes(
 {
     let mut writes = Listed::with_capacity(alloc, 2)?;
     if address.is_none() {
-        writes.push(Write::AddAddress(newcomer.address.copy(alloc)?))?;
+        let text = Boxed::new(alloc, newcomer.address.copy(alloc)?)?;
+        writes.push(Write::AddAddress(text))?;
     }
     writes.push(Write::AddCustomer(customer(alloc, newcomer, address, draw)?))?;
     Ok(writes)

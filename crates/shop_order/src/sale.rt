@@ -12,7 +12,7 @@ use shop_attempt::{ReadOf, Stock, Write};
 use shop_history::{Act, Row};
 use shop_model::{AuthId, BuyConfirm, Cart, Item, Order};
 use shop_pricing::restock;
-use shop_text::{Listed, Memory, Shared};
+use shop_text::{Boxed, Listed, Memory, Shared};
 use std::alloc::Global;
 
 /// How often an item may be restocked.
@@ -75,7 +75,10 @@ fn push_address(
     match (&asked.address, purchase.ship) {
         (None, _) => {}
         (Some(_), Row::Id(_)) => {}
-        (Some(text), _) => writes.push(Write::AddAddress(text.copy(alloc)?))?,
+        (Some(text), _) => {
+            let text = Boxed::new(alloc, text.copy(alloc)?)?;
+            writes.push(Write::AddAddress(text))?;
+        }
     }
     Ok(())
 }
@@ -111,7 +114,7 @@ pub(crate) fn purchase_writes(
     let mut writes = Listed::with_capacity(alloc, purchase.lines.len().saturating_add(3))?;
     writes.push(Write::PutCart(emptied(alloc, asked.cart)?))?;
     push_address(alloc, &mut writes, purchase)?;
-    writes.push(Write::AddOrder(order, days_later(draw)))?;
+    writes.push(Write::AddOrder(Boxed::new(alloc, order)?, days_later(draw)))?;
     push_stocks(&mut writes, purchase.lines, purchase.items)?;
     Ok(writes)
 }

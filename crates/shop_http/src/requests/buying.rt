@@ -14,7 +14,7 @@ use shop_model::{
     AddressText, BuyConfirm, BuyRequest, Buyer, CustomerRegistration, Login, Newcomer,
     OrderDisplay, OrderInquiry, Parameter, Request,
 };
-use shop_text::{Boxed, Shared};
+use shop_text::Shared;
 use std::alloc::Global;
 
 pub(crate) fn customer_registration(alloc: Global, pairs: &Pairs) -> Result<Request, Fault>
@@ -60,10 +60,11 @@ fn buyer_asked(alloc: Global, pairs: &Pairs) -> Result<Buyer, Fault>
     ensures { Reads (spec.buyer_asked pairs.now) result }
 {
     if pairs.value_of(Parameter::User).is_some() {
-        Ok(Buyer::Returning(login_asked(alloc, pairs)?))
+        let login = login_asked(alloc, pairs)?;
+        Ok(Buyer::Returning(Shared::new(alloc, login)?))
     } else {
         let newcomer = newcomer_asked(alloc, pairs)?;
-        Ok(Buyer::Newcomer(Boxed::new(alloc, newcomer)?))
+        Ok(Buyer::Newcomer(Shared::new(alloc, newcomer)?))
     }
 }
 

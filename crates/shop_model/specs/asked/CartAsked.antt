@@ -10,7 +10,7 @@ pub record CartAsked : Type 0 where
   pub sets : List (ℕ × ℕ)
   pub ids : IdsAsked
 
--- few pairs, and no quantity that a line can't have
+-- ids, few pairs, and no quantity that a line can't have
 pub record IsCartAsked (asked : CartAsked) : Type 0 where
   pub item : IfSome asked.item IsId
   pub few : length asked.sets ≤ sets_limit

@@ -9,17 +9,17 @@ use Rattle.shop_model.specs.rows.Sound.{Has}
 abbrev pub IsId : ℕ → Type 0
 IsId id = id ≤ 4_294_967_295
 
--- those that a request carries along
+-- the ids that a request carries along
 abbrev pub IsIdsAsked : IdsAsked → Type 0
 IsIdsAsked ids = IfSome ids.c IsId × IfSome ids.cart IsId
 
--- a text of a form: not empty, and short
+-- a text of a form: UTF-8, not empty, and short
 pub record IsFilled (text : List ℕ) : Type 0 where
   pub some : 0 < length text
   pub short : length text ≤ text_limit
   pub utf8 : IsUtf8 text
 
--- a text that may be empty
+-- the same, which may be empty
 pub record IsShort (text : List ℕ) : Type 0 where
   pub short : length text ≤ text_limit
   pub utf8 : IsUtf8 text

@@ -1,16 +1,29 @@
+use Rattle.std.proofs.Common.{[], ◌∷◌, subst, arith}
+use Rattle.shop_book.specs.Planning.{IsPlanOf}
 use Rattle.shop_book.specs.Stored.{stored}
 use Rattle.shop_book.proofs.Doing.{named_done, compared_lists, compared_raised, sale_done, places_done, lists_done, raised_done, mend_done, mended_lists, mended_raised}
+use Rattle.shop_book.proofs.WatchingLemmas.{raised_one}
 use Rattle.shop_book.proofs.changes.carry_out.Goals as goal
 
 pub raise_changed-requires-clause-named : goal.raise_changed-requires-clause-named
 raise_changed-requires-clause-named c = named_done c.args.rows.now c.args.lists.now c.args.plan c.requires.done
 
 pub returns-in-Compare-clause-lists : goal.returns-in-Compare-clause-lists
-returns-in-Compare-clause-lists c = λ t a stamp done. compared_lists t a stamp c.args.rows.now c.args.lists.now c.args.plan c.in-Compare.watched c.in-Compare.is done
+returns-in-Compare-clause-lists c = λ t a stamp done.
+    compared_lists t a stamp c.args.rows.now c.args.lists.now c.args.plan done c.in-Compare.watched.items (subst (IsPlanOf t a) c.in-Compare.is done.plan_is)
 
 pub returns-in-Compare-clause-raised : goal.returns-in-Compare-clause-raised
 returns-in-Compare-clause-raised c = λ t a stamp done.
-    compared_raised t a stamp c.args.rows.now c.args.lists.now c.args.plan c.in-Compare.watched c.in-Compare.is done c.args.number (stored c.args.versions.now) (stored c.raise_changed.new.versions) c.raise_changed.ensures.raised
+    compared_raised t a stamp c.args.rows.now c.args.lists.now c.args.plan done c.in-Compare.watched.items (subst (IsPlanOf t a) c.in-Compare.is done.plan_is) c.args.number (stored c.args.versions.now) (stored c.raise_changed.new.versions) c.raise_changed.ensures.raised
+
+pub returns-in-One-clause-lists : goal.returns-in-One-clause-lists
+returns-in-One-clause-lists c = λ t a stamp done.
+    compared_lists t a stamp c.args.rows.now c.args.lists.now c.args.plan done (c.in-One.kept ∷ []) (subst (IsPlanOf t a) c.in-One.is done.plan_is)
+
+pub returns-in-One-clause-raised : goal.returns-in-One-clause-raised
+returns-in-One-clause-raised c = λ t a stamp done.
+    compared_raised t a stamp c.args.rows.now c.args.lists.now c.args.plan done (c.in-One.kept ∷ []) (subst (IsPlanOf t a) c.in-One.is done.plan_is) c.args.number (stored c.args.versions.now) (stored c.raise_if_changed.new.versions)
+    (λ before u are. raised_one before u c.args.rows.now c.args.number c.args.versions.now c.raise_if_changed.new.versions c.in-One.kept (are 0 c.in-One.kept (omega arith)) c.raise_if_changed.ensures.raised)
 
 pub raise_all-requires-clause-places : goal.raise_all-requires-clause-places
 raise_all-requires-clause-places c =
@@ -46,5 +59,5 @@ returns-in-Mend-clause-lists c = λ t a stamp done.
 
 pub returns-in-Mend-clause-raised : goal.returns-in-Mend-clause-raised
 returns-in-Mend-clause-raised c = λ t a stamp done.
-    mended_raised t a stamp c.args.rows.now c.args.lists.now c.args.plan c.in-Mend.item c.in-Mend.row c.in-Mend.is done c.args.number c.args.versions.now c.raise_if_changed.new.versions (stored c.mend.new.versions)
-    c.raise_if_changed.ensures.raised c.mend.ensures.raised
+    mended_raised t a stamp c.args.rows.now c.args.lists.now c.args.plan c.in-Mend.item c.in-Mend.row c.in-Mend.is done c.args.number c.args.versions.now c.raise_if_changed-in-Mend.new.versions (stored c.mend.new.versions)
+    c.raise_if_changed-in-Mend.ensures.raised c.mend.ensures.raised

@@ -4,4 +4,4 @@ use Rattle.shop_http.proofs.InteractionLemmas.{finds_all}
 use Rattle.shop_http.proofs.router.Routes.new.Goals as goal
 
 pub invariant_of-result : goal.invariant_of-result
-invariant_of-result c = record { finds_all = subst FindsAll (sym c.in_ok-add_last.ensures) finds_all }
+invariant_of-result c = record { finds_all = subst FindsAll (sym c.in_ok-add_all.ensures) finds_all }
