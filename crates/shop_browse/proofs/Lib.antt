@@ -5,13 +5,13 @@ pub mod ListedItems
 pub mod LinesLemmas
 pub mod ListsLemmas
 pub mod HomeLemmas
-pub mod ProductDetailLemmas
+pub mod ItemPagesLemmas
 pub mod SearchResultsLemmas
+pub mod SubjectListsLemmas
 pub mod SearchRequestLemmas
 pub mod OrderPageLemmas
 pub mod Rows
 pub mod Logins
 pub mod OrderReads
 pub mod OrderDisplayLemmas
-pub mod KnownLemmas
-pub mod AdminRequestLemmas
+pub mod LoginPagesLemmas

@@ -8,6 +8,9 @@ pub mod Driver
 pub mod Related
 pub mod Lines
 pub mod Home
+pub mod ItemPages
 pub mod SearchRequest
+pub mod SubjectLists
 pub mod Known
+pub mod LoginPages
 pub mod OrderDisplay

@@ -4,21 +4,20 @@
 
 pub mod admin_request;
 mod attempted;
-pub mod best_sellers;
-pub mod customer_registration;
 mod driver;
 pub mod home;
+mod item_pages;
 mod known;
 mod lines;
 mod lists;
-pub mod new_products;
+pub mod login_pages;
 pub mod order_display;
-pub mod order_inquiry;
 mod order_page;
 pub mod product_detail;
 mod related;
 pub mod search_request;
 pub mod search_results;
+pub mod subject_lists;
 
 pub use attempted::{Ask, Attempted};
 pub use driver::{Interaction, Next, attempt_by};

@@ -12,7 +12,8 @@ ghost use Rattle.shop_draft.specs.Templates.{Says};
 ghost use Rattle.shop_browse.specs.Lists as spec;
 ghost use Rattle.shop_browse.specs.ListEnds.{list_end};
 
-use crate::{best_sellers, new_products, search_results};
+use crate::search_results;
+use crate::subject_lists::SubjectList;
 use shop_cache::ListLines;
 use shop_draft::{Draft, PageIds, Template};
 use shop_model::{IdsAsked, Request, Subject};
@@ -82,11 +83,11 @@ pub fn write_list(draft: &mut Draft, request: &Request, lines: &ListLines) -> Re
 {
     match request {
         Request::NewProducts(asked) => {
-            new_products::write_page(draft, asked, lines)?;
+            SubjectList::New(asked).write_page(draft, lines)?;
             Ok(())
         }
         Request::BestSellers(asked) => {
-            best_sellers::write_page(draft, asked, lines)?;
+            SubjectList::Best(asked).write_page(draft, lines)?;
             Ok(())
         }
         Request::SearchResults(asked) => {

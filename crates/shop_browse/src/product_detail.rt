@@ -1,24 +1,20 @@
-ghost use Rattle.std.specs.Prelude.{◌≡◌, ◌++◌, ◌∷◌, [], ℕ, IfOk, OnOk};
+ghost use Rattle.std.specs.Prelude.{OnOk};
 ghost use Rattle.std.specs.List.{flat_map};
 ghost use Rattle.shop_model.specs.pages.PageText.{block_line};
 ghost use Rattle.shop_model.specs.pages.ProductDetail as spec;
 ghost use Rattle.shop_model.specs.declared.page.Block.TheVariants as block;
-ghost use Rattle.shop_history.specs.declared.keys.Key.TheVariants as key_kinds;
 ghost use Rattle.shop_draft.specs.Drawing.{ids_at};
 ghost use Rattle.shop_draft.specs.Pages.{Shows};
 ghost use Rattle.shop_draft.specs.Templates.{Adds, Says};
 ghost use Rattle.shop_attempt.specs.Marks.{Looks};
-ghost use Rattle.shop_browse.specs.declared.attempted.Ask.{Ask};
 ghost use Rattle.shop_browse.specs.Attempts.{AttemptedAs, Suits, asking_of};
-ghost use Rattle.shop_browse.specs.Driver.{FollowsOne, IsNext};
 
-use crate::driver::{Interaction, Next, attempt_by};
+use crate::driver::attempt_by;
+use crate::item_pages::ItemPage;
 use crate::{Ask, Attempted};
-use shop_attempt::{ReadOf, Store};
-use shop_draft::{Draft, PageIds, Template, refusal};
-use shop_history::{Key, Row};
-use shop_model::{Author, Item, ProductDetail, Refusal, Request};
-use shop_search::Index;
+use shop_attempt::Store;
+use shop_draft::{Draft, PageIds, Template};
+use shop_model::{Author, Item, ProductDetail, Request};
 use shop_text::Memory;
 use std::alloc::Global;
 
@@ -58,7 +54,7 @@ fn about_line(page: &mut Template, item: &Item) -> Result<(), Memory>
     Ok(())
 }
 
-fn picture(page: &mut Template, item: &Item) -> Result<(), Memory>
+pub(crate) fn picture(page: &mut Template, item: &Item) -> Result<(), Memory>
     ensures { OnOk result (Says page.old page.new (block_line (block.Picture item.now.image item.now.title))) }
 {
     let details = item.details.get();
@@ -103,7 +99,12 @@ fn details(page: &mut Template, item: &Item, ids: PageIds) -> Result<(), Memory>
 
 /// Writes the page of an item and its author.
 #[tactic(auto, unfolding(shop_model::specs::pages::PageText::page_text, shop_model::specs::pages::ProductDetail::product_page))]
-fn write_page(draft: &mut Draft, item: &Item, author: &Author, ids: PageIds) -> Result<(), Memory>
+pub(crate) fn write_page(
+    draft: &mut Draft,
+    item: &Item,
+    author: &Author,
+    ids: PageIds,
+) -> Result<(), Memory>
     ensures { OnOk result (Shows draft.new (λ drawn. spec.product_page item.now author.now (ids_at drawn ids))) }
 {
     draft.status = 200;
@@ -119,55 +120,6 @@ fn write_page(draft: &mut Draft, item: &Item, author: &Author, ids: PageIds) -> 
     Ok(())
 }
 
-/// What is done by what was read of the item, whose author an index knows.
-fn by_item(
-    index: &Index,
-    asked: &ProductDetail,
-    item: &ReadOf,
-    draft: &mut Draft,
-) -> Result<Next, Memory>
-    requires { item.now.key ≡ key_kinds.Item asked.now.item }
-    ensures { IfOk result (λ next. (ask : Ask) (round : ℕ) → ask.index.now ≡ index.now → IsNext (FollowsOne (key_kinds.Item asked.now.item)) (Request.ProductDetail asked.now) ask round (item.now ∷ []) draft.new next) }
-{
-    match &item.row {
-        Row::Absent => {
-            refusal(draft, Refusal::NoItem)?;
-            Ok(Next::Show)
-        }
-        Row::Item(item) => match index.author(item.details.get().author) {
-            Some(author) => {
-                write_page(draft, item, author.get(), PageIds::of(asked.ids))?;
-                Ok(Next::Show)
-            }
-            None => Ok(Next::Never),
-        },
-        _ => Ok(Next::Never),
-    }
-}
-
-impl<'a> Interaction for &'a ProductDetail {
-    ghost use Rattle.shop_model.specs.declared.requests.Request.TheVariants as request_kinds;
-
-    ghost request = { λ asked. request_kinds.ProductDetail asked.now };
-
-    ghost follows = { λ asked ask. FollowsOne (key_kinds.Item asked.now.item) };
-
-    fn next(
-        &mut self,
-        alloc: Global,
-        ask: &Ask,
-        round: u32,
-        reads: &[ReadOf],
-        draft: &mut Draft,
-    ) -> Result<Next, Memory> {
-        let _ = alloc;
-        if round == 0 {
-            return Ok(Next::ReadOne(Key::Item(self.item)));
-        }
-        by_item(ask.index, *self, &reads[0], draft)
-    }
-}
-
 /// An attempt at the page of the item with this number, which it writes into the draft.
 #[inline(never)]
 pub fn product_detail<St: Store>(
@@ -181,5 +133,5 @@ pub fn product_detail<St: Store>(
     ensures looks { Looks St.seat St.marked store.old store.new }
     ensures attempted { AttemptedAs (St.seat store.old) (St.seat store.new) (asking_of ask.now (Request.ProductDetail asked.now)) draft.new result }
 {
-    attempt_by(alloc, store, ask, asked, draft)
+    attempt_by(alloc, store, ask, ItemPage::Detail(asked), draft)
 }

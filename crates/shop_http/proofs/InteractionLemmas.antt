@@ -78,12 +78,6 @@ unfolding matchit_on_literals
 plain_paths Home = refl
 plain_paths _ = refl
 
--- each is found by its path
-pub found_by_path : (interaction : Interaction) → Some interaction ≡ interaction_of (path_of interaction)
-unfolding interaction_of
-found_by_path Home = refl
-found_by_path _ = refl
-
 -- the rows of a router to which these were added
 abbrev pub added : RowsOf (RouteOf Interaction) → List Interaction → RowsOf (RouteOf Interaction)
 added rows [] = rows

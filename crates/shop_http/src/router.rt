@@ -45,15 +45,41 @@ impl Routes {
 }
 
 /// The interaction that pages link to by this path. Most messages ask for one, and need no router.
+#[tactic(auto, unfolding(shop_model::specs::asked::Interactions::interaction_of))]
 fn linked(path: &[u8]) -> Option<Interaction>
     ensures { IfSome result (λ interaction. Some interaction ≡ interaction_of path.now) }
 {
-    for interaction in INTERACTIONS {
-        if is_same(path, interaction.path().as_bytes()) {
-            return Some(interaction);
-        }
+    if is_same(path, b"/home") {
+        Some(Interaction::Home)
+    } else if is_same(path, b"/new_products") {
+        Some(Interaction::NewProducts)
+    } else if is_same(path, b"/best_sellers") {
+        Some(Interaction::BestSellers)
+    } else if is_same(path, b"/product_detail") {
+        Some(Interaction::ProductDetail)
+    } else if is_same(path, b"/search_request") {
+        Some(Interaction::SearchRequest)
+    } else if is_same(path, b"/search_results") {
+        Some(Interaction::SearchResults)
+    } else if is_same(path, b"/shopping_cart") {
+        Some(Interaction::ShoppingCart)
+    } else if is_same(path, b"/customer_registration") {
+        Some(Interaction::CustomerRegistration)
+    } else if is_same(path, b"/buy_request") {
+        Some(Interaction::BuyRequest)
+    } else if is_same(path, b"/buy_confirm") {
+        Some(Interaction::BuyConfirm)
+    } else if is_same(path, b"/order_inquiry") {
+        Some(Interaction::OrderInquiry)
+    } else if is_same(path, b"/order_display") {
+        Some(Interaction::OrderDisplay)
+    } else if is_same(path, b"/admin_request") {
+        Some(Interaction::AdminRequest)
+    } else if is_same(path, b"/admin_confirm") {
+        Some(Interaction::AdminConfirm)
+    } else {
+        None
     }
-    None
 }
 
 /// Adds the paths that pages link to, and another one of Home.
