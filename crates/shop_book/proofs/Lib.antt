@@ -3,6 +3,7 @@ pub mod SaidLemmas
 pub mod NamedLemmas
 pub mod Grid
 pub mod Readiness
+pub mod Stamping
 pub mod WatchingLemmas
 pub mod Placed
 pub mod Sizes
@@ -14,6 +15,7 @@ pub mod NewOrders
 pub mod Callers
 pub mod Solos
 pub mod ChangesLemmas
+pub mod Preparing
 pub mod Ascending
 pub mod WindowMoves
 pub mod BuyersChange

@@ -12,7 +12,7 @@ use Rattle.shop_attempt.proofs.cited.Writes.{written_one_grows, written_grows}
 use Rattle.shop_book.specs.declared.puts.Put.{Put}
 use Rattle.shop_book.specs.declared.puts.Put.TheVariants as put
 use Rattle.shop_book.specs.declared.rows.Rows.{Rows}
-use Rattle.shop_book.specs.Puts.{put_one, all_put, IsWhole}
+use Rattle.shop_book.specs.Puts.{put_one, all_put, put_at, stamped, IsWhole}
 use Rattle.shop_book.specs.Readiness.{IdsFit, AreReady}
 use Rattle.shop_book.specs.RowsNow.{tables_with, HasRoom}
 
@@ -23,7 +23,7 @@ put_one_grows t stamp (put.Cart cart) = written_one_grows t stamp (write.PutCart
 put_one_grows t stamp (put.Login id) = written_one_grows t stamp (write.Login id)
 put_one_grows t stamp (put.Address address text) = grind (arith, length-append t.addresses (address ∷ []))
 put_one_grows t stamp (put.Customer customer) = written_one_grows t stamp (write.AddCustomer customer)
-put_one_grows t stamp (put.Order order) = grind (arith, length-append t.orders (order ∷ []), length-set t.last (order.customer - 1) (Some order.id))
+put_one_grows t stamp (put.Order order days) = grind (arith, length-append t.orders (order ∷ []), length-set t.last (order.customer - 1) (Some order.id))
 put_one_grows t stamp (put.Stock stock) = written_one_grows t stamp (write.SetStock stock)
 put_one_grows t stamp (put.Item item) = written_one_grows t stamp (write.PutItem item)
 
@@ -48,6 +48,6 @@ pub room_one : (rows : Rows) (rest : List Put) (p : Put) → HasRoom rows (lengt
 room_one rows rest p room = grind arith
 
 -- one more behind the others
-pub put_more : (t : Tables) (stamp : ℕ) (puts : List Put) (p : Put) → all_put t stamp (puts ++ p ∷ []) ≡ put_one (all_put t stamp puts) stamp p
+pub put_more : (t : Tables) (stamp : ℕ) (puts : List Put) (p : Put) → put_at t stamp (puts ++ p ∷ []) ≡ put_one (put_at t stamp puts) stamp (stamped stamp p)
 put_more t stamp [] p = refl
-put_more t stamp (first ∷ puts) p = put_more (put_one t stamp first) stamp puts p
+put_more t stamp (first ∷ puts) p = put_more (put_one t stamp (stamped stamp first)) stamp puts p

@@ -44,7 +44,7 @@ few_one t stamp (put.Customer customer) = grind (arith, length-append t.customer
 few_one t stamp (put.Stock stock) = grind (arith, changed_length t.items stock.item (λ item. record item { stock = stock.stock; restocks = stock.restocks }))
 few_one t stamp (put.Item item) = grind (arith, put_one_more t.items item.id (λ id. record item { id = id; published = day_of stamp }))
 few_one t stamp (put.Address address text) = grind (arith, length-append t.addresses (address ∷ []))
-few_one t stamp (put.Order order) = grind (arith, length-append t.orders (order ∷ []))
+few_one t stamp (put.Order order days) = grind (arith, length-append t.orders (order ∷ []))
 
 pub few_more : (t : Tables) (stamp : ℕ) (puts : List Put) (column : ℕ) → get_or (sizes_in (all_put t stamp puts)) column 0 ≤ get_or (sizes_in t) column 0 + growth puts column
 few_more t stamp [] column = omega arith

@@ -20,6 +20,7 @@ pub mod Sales
 pub mod Mending
 pub mod Planning
 pub mod Changing
+pub mod Preparing
 pub mod Summaries
 pub mod Keeping
 pub mod Settles

@@ -42,7 +42,7 @@ grown (put.Item item) = 0 ∷ 6 ∷ []
 grown (put.Customer customer) = 2 ∷ 7 ∷ 11 ∷ []
 grown (put.Cart cart) = 3 ∷ []
 grown (put.Address address text) = 8 ∷ []
-grown (put.Order order) = 10 ∷ []
+grown (put.Order order days) = 10 ∷ []
 grown _ = []
 
 abbrev pub grows : ℕ → Put → Bool

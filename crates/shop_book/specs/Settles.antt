@@ -1,19 +1,15 @@
 -- What a settle of a book answers, and what it leaves.
-use Rattle.std.specs.Prelude.{◌≡◌, ℕ, ◌+◌, ◌<◌, ◌≤◌, max, List, [], ◌∷◌, ◌++◌, length, Option, Some, None, IsSome}
+use Rattle.std.specs.Prelude.{◌≡◌, ℕ, ◌<◌, max, List, [], ◌∷◌, ◌++◌, length, Option, Some, None, IsSome}
 use Rattle.shop_model.specs.declared.tables.Tables.{Tables}
-use Rattle.shop_model.specs.rows.Limits.{stamp_limit}
 use Rattle.shop_history.specs.declared.acts.Act.{Act}
 use Rattle.shop_history.specs.declared.acts.Drawn.{Drawn}
 use Rattle.shop_history.specs.declared.acts.Entry.{Entry}
 use Rattle.shop_history.specs.declared.acts.Ids.{Ids}
 use Rattle.shop_history.specs.Drawing.{no_ids, new_ids}
-use Rattle.shop_history.specs.Logs.{entries_of}
 use Rattle.shop_attempt.specs.declared.attempts.Attempt.{Attempt}
 use Rattle.shop_attempt.specs.declared.attempts.Conflict.{Conflict}
 use Rattle.shop_attempt.specs.declared.attempts.Settle.{Settle}
 use Rattle.shop_attempt.specs.declared.attempts.Settle.TheVariants.{Done, Stale, Full, Memory}
-use Rattle.shop_attempt.specs.declared.attempts.Write.{Write}
-use Rattle.shop_attempt.specs.Faithful.{Makes}
 use Rattle.shop_attempt.specs.Reads.{first_stale}
 use Rattle.shop_attempt.specs.Conflicts.{IsOvertaken}
 use Rattle.shop_book.specs.Books.{BookValue, tables_of}
@@ -70,14 +66,6 @@ SettledAs old new caller number attempt (Full size) =
     NotTaken old new attempt × (size ≡ length old.log) × (size ≡ old.opening.limit)
 SettledAs old new caller number attempt Memory =
     NotTaken old new attempt × (length old.log < old.opening.limit)
-
--- an entry that a log that is not full may take: it is late enough, has its caller's next number, and these writes make what its act does
-pub record IsNext (b : BookValue) (entry : Entry) (writes : List Write) : Type 0 where
-  pub left : length b.log < b.opening.limit
-  pub late : b.latest ≤ entry.stamp
-  pub bound : entry.stamp ≤ stamp_limit
-  pub number : entry.number ≡ length (entries_of entry.caller b.log) + 1
-  pub makes : Makes (tables_of b) entry.stamp entry.act writes
 
 -- an attempt without stale reads is taken, at this stamp and with this act, or there is no memory for it
 abbrev pub TakenAs : BookValue → BookValue → ℕ → ℕ → ℕ → Option Act → Settle → Type 0

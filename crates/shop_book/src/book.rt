@@ -1,4 +1,4 @@
-ghost use Rattle.std.specs.Prelude.{◌≡◌, ◌+◌, ◌≤◌, [], length, map, IfOk, IsSome};
+ghost use Rattle.std.specs.Prelude.{◌≡◌, ℕ, ◌+◌, ◌≤◌, max, [], length, map, IfOk, IfErr, IfSome, IsSome, None};
 ghost use Rattle.shop_model.specs.lists.Related.{sold_of, last, recent};
 ghost use Rattle.shop_model.specs.rows.Limits.{stamp_limit, counted_orders};
 ghost use Rattle.shop_ranking.specs.StandingBest.{AreSoldLately};
@@ -9,8 +9,10 @@ ghost use Rattle.shop_attempt.specs.Faithful.{Faithful};
 ghost use Rattle.shop_attempt.specs.Reads as reading;
 ghost use Rattle.shop_book.specs.Books.{IsBook, tables_of};
 ghost use Rattle.shop_book.specs.Laws.{IsShortest, IsGoodThroughout};
+ghost use Rattle.shop_book.specs.Listings.{IsList};
 ghost use Rattle.shop_book.specs.Openings.{IsOpening};
-ghost use Rattle.shop_book.specs.Settles.{IsNext, SettledAs, TakenAs};
+ghost use Rattle.shop_book.specs.Preparing.{AlwaysMakes, IsChangeOf, IsNext, IsReady, IsPrepared, IsRefused};
+ghost use Rattle.shop_book.specs.Settles.{SettledAs, TakenAs};
 ghost use Rattle.shop_book.specs.Summaries as spec;
 
 use crate::changes::{change_rows, make_room};
@@ -18,13 +20,13 @@ use crate::counts::Counts;
 use crate::lists::Lists;
 use crate::orders::cents_of;
 use crate::plan::Plan;
-use crate::puts::puts_of;
+use crate::puts::{Put, puts_at, puts_of};
 use crate::rows::Rows;
 use crate::shown::shown;
 use crate::versions::Versions;
-use crate::{Opening, Summary};
+use crate::{Opening, Prepared, Summary};
 use shop_attempt::{Attempt, Conflict, ReadOf, Settle, Write};
-use shop_history::{Drawn, Entry, Ids, Key, Row};
+use shop_history::{Act, Drawn, Entry, Ids, Key, Row};
 use shop_model::{AuthId, Tables};
 use shop_ranking::{Best, Newest};
 use shop_text::{Listed, Memory};
@@ -82,6 +84,23 @@ impl Book {
         })
     }
 
+    /// What a key shows, and its version, as `read` answers; none where the row of a list has to be made
+    /// first, which `read` does.
+    #[inline(always)]
+    pub fn look(&self, key: &Key) -> Option<Result<(Row, u64), Memory>>
+        ensures row { IfSome result (λ looked. IfOk looked (λ read. read.0 ≡ keys.row_of (tables_of self.now) key.now)) }
+        ensures version { IfSome result (λ looked. IfOk looked (λ read. read.1 ≡ version_of self.now.opening.tables self.now.log key.now)) }
+        ensures shortest { IfSome result (λ looked. IfOk looked (λ read. IsShortest self.now.opening.tables self.now.log key.now read.1)) }
+        ensures list { result ≡ None → IsList key.now }
+        ensures kept { IsBook self.now }
+        ensures sound { IsGoodThroughout self.now }
+    {
+        match shown(&self.opening.tables, &self.rows, &self.lists, key)? {
+            Ok(row) => Some(Ok((row, self.versions.of(key)))),
+            Err(Memory) => Some(Err(Memory)),
+        }
+    }
+
     /// What a key shows, and its version.
     pub fn read(&mut self, key: &Key) -> Result<(Row, u64), Memory>
         ensures row { IfOk result (λ read. read.0 ≡ keys.row_of (tables_of self.old) key.now) }
@@ -91,12 +110,16 @@ impl Book {
         ensures kept { IsBook self.old }
         ensures sound { IsGoodThroughout self.old }
     {
-        let row = shown(&self.opening.tables, &self.rows, &mut self.lists, key)?;
+        if let Some(read) = self.look(key) {
+            return read;
+        }
+        let row = self.lists.list_row(key)?;
         Ok((row, self.versions.of(key)))
     }
 
     /// The first read whose version is no more the key's.
-    fn first_stale(&self, reads: Listed<ReadOf>) -> Option<Conflict>
+    #[inline(always)]
+    pub fn first_stale(&self, reads: Listed<ReadOf>) -> Option<Conflict>
         ensures first { result ≡ reading.first_stale self.now.opening.tables self.now.log reads }
         ensures kept { IsBook self.now }
     {
@@ -136,6 +159,15 @@ impl Book {
         ensures kept { IsBook self.now }
     {
         self.latest
+    }
+
+    /// Makes the latest stamp at least this one: the shop accepted a settle at it that changed nothing.
+    pub fn raise(&mut self, stamp: u64)
+        requires { stamp ≤ stamp_limit }
+        ensures value { self.new ≡ record self.old { latest = max self.old.latest stamp } }
+        ensures kept { IsBook self.new }
+    {
+        self.latest = self.latest.max(stamp);
     }
 
     /// What the book has come to.
@@ -210,22 +242,14 @@ impl Book {
         if let Some(conflict) = self.first_stale(reads) {
             return Settle::Stale(conflict);
         }
-        let stamp = self.latest.max(moment);
         match (writes, act) {
             (Some(writes), Some(act)) => {
-                let size = self.log.len() as u64;
-                if size >= self.opening.limit {
-                    return Settle::Full(size);
+                match self.ready(caller, number, moment, act, writes.into_vec()) {
+                    Ok(prepared) => self.commit(prepared),
+                    Err(refused) => refused,
                 }
-                let entry = Entry {
-                    caller,
-                    number,
-                    stamp,
-                    act,
-                };
-                self.change(entry, writes.into_vec())
             }
-            _ => self.pass(stamp),
+            _ => self.pass(self.latest.max(moment)),
         }
     }
 
@@ -249,19 +273,106 @@ impl Book {
         })
     }
 
+    /// The first half of the settle of a change, which leaves the book as it is: refuses the attempt where
+    /// `settle` would, or makes it ready.
+    pub fn prepare(&self, caller: u32, number: u64, attempt: Attempt) -> Result<Prepared, Settle>
+        requires act { IsSome attempt.act }
+        requires number { number ≡ length (entries_of caller self.now.log) + 1 }
+        requires faithful { Faithful self.now.opening.tables self.now.log attempt }
+        requires moment { attempt.moment ≤ stamp_limit }
+        ensures prepared { IfOk result (IsPrepared self.now.opening self.now.log caller number attempt) }
+        ensures refused { IfErr result (SettledAs self.now self.now caller number attempt) }
+        ensures kept { IsBook self.now }
+    {
+        let Attempt {
+            reads,
+            moment,
+            draw: _,
+            writes,
+            act,
+        } = attempt;
+        if let Some(conflict) = self.first_stale(reads) {
+            return Err(Settle::Stale(conflict));
+        }
+        match (writes, act) {
+            (Some(writes), Some(act)) => {
+                self.ready(caller, number, moment, act, writes.into_vec())
+            }
+            _ => unreachable!(),
+        }
+    }
+
+    /// A change, and all that it takes but room; refuses it where it would add an entry to a full log.
+    #[inline(always)]
+    fn ready(
+        &self,
+        caller: u32,
+        number: u64,
+        moment: u64,
+        act: Act,
+        writes: Vec<Write>,
+    ) -> Result<Prepared, Settle>
+        requires moment { moment ≤ stamp_limit }
+        requires number { number ≡ length (entries_of caller self.now.log) + 1 }
+        requires makes { AlwaysMakes (tables_of self.now) act writes.items }
+        ensures ready { IfOk result (IsReady self.now.opening self.now.log) }
+        ensures change { IfOk result (IsChangeOf caller number moment act) }
+        ensures refused { IfErr result (IsRefused self.now) }
+    {
+        let size = self.log.len() as u64;
+        if size >= self.opening.limit {
+            return Err(Settle::Full(size));
+        }
+        let stamp = self.latest.max(moment);
+        let alloc = *self.log.allocator();
+        let Ok(plan) = Plan::of(alloc, &self.rows, &act) else {
+            return Err(Settle::Memory);
+        };
+        let Ok(puts) = puts_of(alloc, &self.rows, stamp, writes) else {
+            return Err(Settle::Memory);
+        };
+        let entry = Entry {
+            caller,
+            number,
+            stamp,
+            act,
+        };
+        Ok(Prepared {
+            entry,
+            moment,
+            plan,
+            puts,
+        })
+    }
+
+    /// The other half: makes a change that this book prepared, where no other change was made since. Its
+    /// stamp is the latest of those accepted meanwhile, or its moment.
+    pub fn commit(&mut self, prepared: Prepared) -> Settle
+        requires { IsReady self.old.opening self.old.log prepared }
+        ensures settled { (caller number : ℕ) → (attempt : Attempt) → IsPrepared self.old.opening self.old.log caller number attempt prepared
+            → SettledAs self.old self.new caller number attempt result }
+        ensures kept { IsBook self.new }
+    {
+        let stamp = self.latest.max(prepared.moment);
+        let Prepared {
+            entry,
+            moment: _,
+            plan,
+            puts,
+        } = prepared;
+        match puts_at(*self.log.allocator(), entry.stamp, stamp, puts) {
+            Ok(puts) => self.change(Entry { stamp, ..entry }, plan, puts),
+            Err(Memory) => Settle::Memory,
+        }
+    }
+
     /// Takes an entry, and makes its writes. All that takes memory comes before the first change.
-    fn change(&mut self, entry: Entry, writes: Vec<Write>) -> Settle
-        requires { IsNext self.old entry writes.items }
+    #[inline(always)]
+    fn change(&mut self, entry: Entry, plan: Plan, puts: Vec<Put>) -> Settle
+        requires { IsNext self.old entry plan puts.items }
         ensures taken { TakenAs self.old self.new entry.caller entry.number entry.stamp (Some entry.act) result }
         ensures kept { IsBook self.new }
     {
-        let alloc = *self.log.allocator();
-        let Ok(plan) = Plan::of(alloc, &self.rows, &entry.act) else {
-            return Settle::Memory;
-        };
-        let Ok(puts) = puts_of(alloc, &self.rows, entry.stamp, writes) else {
-            return Settle::Memory;
-        };
         let (added, keys) = (puts.as_slice(), plan.len());
         if !make_room(
             &mut self.log,

@@ -19,6 +19,7 @@ mod opening;
 mod orders;
 mod places;
 mod plan;
+mod prepared;
 mod puts;
 mod ranks;
 mod rows;
@@ -34,6 +35,7 @@ mod writes;
 
 pub use book::Book;
 pub use opening::Opening;
+pub use prepared::Prepared;
 pub use solo::Solo;
 pub use summary::Summary;
 pub use visitor::Visitor;

@@ -1,9 +1,10 @@
 //! A list of items, as it is shown.
-ghost use Rattle.std.specs.Prelude.{◌≡◌, ◌≢◌, ◌≤◌, ℕ, [], true, false, List, IfOk, map, vec_capacity};
+ghost use Rattle.std.specs.Prelude.{◌≡◌, ◌≢◌, ◌≤◌, ℕ, [], true, false, List, IfOk, IfSome, map, vec_capacity};
 ghost use Rattle.shop_model.specs.declared.subject.Subject.{Subject};
 ghost use Rattle.shop_model.specs.rows.Limits.{list_limit};
 ghost use Rattle.shop_model.specs.rows.Subjects.{subjects};
 
+use shop_history::Row;
 use shop_model::Subject;
 use shop_ranking::{Best, Newest};
 use shop_text::{Listed, Memory, Shared};
@@ -87,6 +88,16 @@ impl Listing {
             self.row = None;
         }
         changed
+    }
+
+    /// What the key of the list shows; none where it was not asked for since the list changed.
+    pub(crate) fn shown(&self) -> Option<Result<Row, Memory>>
+        ensures { IfSome result (λ looked. IfOk looked (λ row. row ≡ Row.Items self.now)) }
+    {
+        match self.row.as_ref()?.share() {
+            Ok(row) => Some(Ok(Row::Items(row))),
+            Err(Memory) => Some(Err(Memory)),
+        }
     }
 
     /// The row that shows the list. It takes memory where the list was not asked for since it changed.

@@ -1,5 +1,5 @@
 //! What is kept of the latest orders and of the items, so that a list is looked up.
-ghost use Rattle.std.specs.Prelude.{◌≡◌, ◌≤◌, IfOk, All, length, map};
+ghost use Rattle.std.specs.Prelude.{◌≡◌, ◌≤◌, IfOk, IfSome, All, length, map};
 ghost use Rattle.shop_model.specs.declared.tables.Tables.{Tables};
 ghost use Rattle.shop_model.specs.lists.Rankings as spec;
 ghost use Rattle.shop_model.specs.lists.Related.{sold_of, last, units_in_orders};
@@ -7,11 +7,13 @@ ghost use Rattle.shop_model.specs.rows.Limits.{recent_orders};
 ghost use Rattle.shop_model.specs.rows.Sound.{Sound, Runs};
 ghost use Rattle.shop_model.specs.rows.Subjects.{subjects};
 ghost use Rattle.std.specs.Bool.{OnTrue};
+ghost use Rattle.shop_history.specs.Keys.{row_of};
 ghost use Rattle.shop_book.specs.KeptLists.{AreLists, HasRoom, IsAdmitted, UnitsAre};
+ghost use Rattle.shop_book.specs.Listings.{IsList};
 
 use crate::auths::Auths;
 use crate::listing::{Listing, listings};
-use shop_history::Row;
+use shop_history::{Key, Row};
 use shop_model::{Item, Order, Subject, Tables};
 use shop_ranking::{Best, Newest};
 use shop_text::{Memory, Shared};
@@ -88,6 +90,36 @@ impl Lists {
         })
     }
 
+    /// What the key of the customers who bought an item shows.
+    pub(crate) fn buyers_row(&self, item: u32) -> Result<Row, Memory>
+        ensures { (t : Tables) → AreLists t self.now → IfOk result (λ row. row ≡ row_of t (Key.Buyers item)) }
+    {
+        Ok(Row::Customers(self.recent.buyers(item)?))
+    }
+
+    /// What the key of what a customer bought shows.
+    pub(crate) fn bought_row(&self, customer: u32) -> Result<Row, Memory>
+        ensures { (t : Tables) → AreLists t self.now → IfOk result (λ row. row ≡ row_of t (Key.Bought customer)) }
+    {
+        Ok(Row::Totals(self.recent.bought(customer)?))
+    }
+
+    /// What the key of a subject's newest items shows; none where its row has to be made first.
+    pub(crate) fn newest_shown(&self, subject: Subject) -> Option<Result<Row, Memory>>
+        requires { length self.now.newest_rows.items ≡ length subjects }
+        ensures { (t : Tables) → AreLists t self.now → IfSome result (λ looked. IfOk looked (λ row. row ≡ Row.Items (spec.newest t subject))) }
+    {
+        self.newest_rows[subject.number() as usize].shown()
+    }
+
+    /// What the key of a subject's best sold items shows; none where its row has to be made first.
+    pub(crate) fn best_shown(&self, subject: Subject) -> Option<Result<Row, Memory>>
+        requires { length self.now.best_rows.items ≡ length subjects }
+        ensures { (t : Tables) → AreLists t self.now → IfSome result (λ looked. IfOk looked (λ row. row ≡ Row.Items (spec.best t subject))) }
+    {
+        self.best_rows[subject.number() as usize].shown()
+    }
+
     /// What the key of a subject's newest items shows.
     pub(crate) fn newest_row(&mut self, subject: Subject) -> Result<Row, Memory>
         requires { length self.old.newest_rows.items ≡ length subjects }
@@ -108,6 +140,20 @@ impl Lists {
     {
         let list = &mut self.best_rows[subject.number() as usize];
         Ok(Row::Items(list.row()?))
+    }
+
+    /// What the key of a list shows.
+    pub(crate) fn list_row(&mut self, key: &Key) -> Result<Row, Memory>
+        requires list { IsList key.now }
+        requires lists { (t : Tables) × AreLists t self.old }
+        ensures row { (t : Tables) → AreLists t self.old → IfOk result (λ row. row ≡ row_of t key.now) }
+        ensures lists { (t : Tables) → AreLists t self.old → AreLists t self.new }
+    {
+        match key {
+            Key::NewIn(subject) => self.newest_row(*subject),
+            Key::BestIn(subject) => self.best_row(*subject),
+            _ => unreachable!(),
+        }
     }
 
     /// Makes room for one order more; answers whether there is.

@@ -1,9 +1,9 @@
 //! Writes that take no more memory: it is taken before the first of them is made.
-ghost use Rattle.std.specs.Prelude.{◌≡◌, ◌+◌, ◌^◌, ◌<◌, ◌≤◌, IfOk, All};
+ghost use Rattle.std.specs.Prelude.{◌≡◌, ℕ, ◌+◌, ◌^◌, ◌<◌, ◌≤◌, IfOk, All, map};
 ghost use Rattle.shop_model.specs.declared.tables.Tables.{Tables};
 ghost use Rattle.shop_model.specs.rows.Limits.{stamp_limit};
 ghost use Rattle.shop_attempt.specs.Writes as write;
-ghost use Rattle.shop_attempt.specs.Writes.{written_one, written, placed};
+ghost use Rattle.shop_attempt.specs.Writes.{written_one, placed};
 ghost use Rattle.shop_book.specs.Puts as spec;
 ghost use Rattle.shop_book.specs.Readiness.{IsFit, AreFit};
 ghost use Rattle.shop_book.specs.RowsNow.{tables_with};
@@ -24,7 +24,8 @@ pub(crate) enum Put {
     /// A new address, and the text that it says.
     Address(Shared<Address>, Boxed<AddressText>),
     Customer(Customer),
-    Order(Shared<Order>),
+    /// A new order, and how many days later it is shipped.
+    Order(Shared<Order>, u32),
     Stock(Stock),
     Item(Item),
 }
@@ -44,25 +45,36 @@ pub(crate) fn or_last(id: u32, count: usize) -> u32
     if id == 0 { count as u32 } else { id }
 }
 
-/// An order in its place among the others, shipped so many days after the stamp.
-fn placed_order(next: Next, stamp: u64, order: Order, days: u32) -> Order
-    requires addresses { next.addresses < 2 ^ 32 }
-    requires orders { next.orders + 1 < 2 ^ 32 }
-    requires stamp { stamp ≤ stamp_limit }
-    ensures { (t : Tables) → spec.AreCounted t next → result ≡ placed t stamp days order }
+/// An order placed at a stamp, and shipped so many days later.
+fn order_stamped(stamp: u64, days: u32, order: Order) -> Order
+    requires { stamp ≤ stamp_limit }
+    ensures { result ≡ spec.order_stamped stamp days order }
 {
     let day = stamp / DAY_LENGTH + u64::from(days);
     Order {
-        id: next.orders as u32 + 1,
         placed: stamp,
         ship_day: day.min(u64::from(DAY_LIMIT)) as u32,
-        ship_address: or_last(order.ship_address, next.addresses),
         card: CardUse {
             stamp,
             ..order.card
         },
         ..order
     }
+}
+
+/// An order in its place among the others.
+fn placed_order(next: Next, stamp: u64, days: u32, order: Order) -> Order
+    requires addresses { next.addresses < 2 ^ 32 }
+    requires orders { next.orders + 1 < 2 ^ 32 }
+    requires stamp { stamp ≤ stamp_limit }
+    ensures { (t : Tables) → spec.AreCounted t next → result ≡ placed t stamp days order }
+{
+    let placed = Order {
+        id: next.orders as u32 + 1,
+        ship_address: or_last(order.ship_address, next.addresses),
+        ..order
+    };
+    order_stamped(stamp, days, placed)
 }
 
 impl Next {
@@ -94,9 +106,10 @@ impl Next {
     /// A write, with the memory that it takes.
     fn put(&mut self, alloc: Global, stamp: u64, write: Write) -> Result<Put, Memory>
         requires { IsFit self.old stamp write }
-        ensures made { IfOk result (λ put. (t : Tables) → spec.AreCounted t self.old → spec.put_one t stamp put ≡ written_one t stamp write) }
+        ensures made { IfOk result (spec.IsPutOf self.old write) }
+        ensures stamped { IfOk result (spec.IsStamped stamp) }
         ensures whole { IfOk result spec.IsWhole }
-        ensures next { (t : Tables) → spec.AreCounted t self.old → spec.AreCounted (written_one t stamp write) self.new }
+        ensures next { (t : Tables) → (at : ℕ) → spec.AreCounted t self.old → spec.AreCounted (written_one t at write) self.new }
     {
         match write {
             Write::PutCart(cart) => Ok(Put::Cart(cart)),
@@ -104,9 +117,9 @@ impl Next {
             Write::AddAddress(text) => self.address(alloc, text),
             Write::AddCustomer(customer) => Ok(Put::Customer(customer)),
             Write::AddOrder(order, days) => {
-                let order = placed_order(*self, stamp, order.into_inner(), days);
+                let order = placed_order(*self, stamp, days, order.into_inner());
                 self.orders += 1;
-                Ok(Put::Order(Shared::new(alloc, order)?))
+                Ok(Put::Order(Shared::new(alloc, order)?, days))
             }
             Write::SetStock(stock) => Ok(Put::Stock(stock)),
             Write::PutItem(item) => Ok(Put::Item(item)),
@@ -114,7 +127,54 @@ impl Next {
     }
 }
 
-/// The writes, with the memory that they take.
+impl Put {
+    /// The write as it is at another stamp.
+    fn stamped(self, alloc: Global, stamp: u64) -> Result<Put, Memory>
+        requires { stamp ≤ stamp_limit }
+        ensures { IfOk result (λ put. put ≡ spec.stamped stamp self) }
+    {
+        match self {
+            Put::Order(order, days) => {
+                let order = order_stamped(stamp, days, order.get().copy(alloc)?);
+                Ok(Put::Order(Shared::new(alloc, order)?, days))
+            }
+            put => Ok(put),
+        }
+    }
+}
+
+/// The writes as they are at another stamp.
+#[inline(never)]
+fn all_stamped(alloc: Global, stamp: u64, puts: Vec<Put>) -> Result<Vec<Put>, Memory>
+    requires { stamp ≤ stamp_limit }
+    ensures { IfOk result (λ all. all.items ≡ map (spec.stamped stamp) puts.items) }
+{
+    let mut all = Vec::with_capacity(alloc, puts.len())?;
+    for put in puts {
+        all.push(put.stamped(alloc, stamp)?)?;
+    }
+    Ok(all)
+}
+
+/// Writes that are as they are at one stamp, as they are at another.
+#[inline(always)]
+pub(crate) fn puts_at(
+    alloc: Global,
+    was: u64,
+    stamp: u64,
+    puts: Vec<Put>,
+) -> Result<Vec<Put>, Memory>
+    requires was { All (spec.IsStamped was) puts.items }
+    requires stamp { stamp ≤ stamp_limit }
+    ensures { IfOk result (λ all. all.items ≡ map (spec.stamped stamp) puts.items) }
+{
+    if stamp == was {
+        return Ok(puts);
+    }
+    all_stamped(alloc, stamp, puts)
+}
+
+/// The writes, with the memory that they take. At another stamp each is as `puts_at` makes it.
 pub(crate) fn puts_of(
     alloc: Global,
     rows: &Rows,
@@ -122,7 +182,8 @@ pub(crate) fn puts_of(
     writes: Vec<Write>,
 ) -> Result<Vec<Put>, Memory>
     requires { AreFit rows.now stamp writes.items }
-    ensures made { IfOk result (λ puts. (t : Tables) → spec.all_put (tables_with t rows.now) stamp puts.items ≡ written (tables_with t rows.now) stamp writes.items) }
+    ensures made { IfOk result (λ puts. spec.ArePutsOf rows.now writes.items puts.items) }
+    ensures stamped { IfOk result (λ puts. All (spec.IsStamped stamp) puts.items) }
     ensures whole { IfOk result (λ puts. All spec.IsWhole puts.items) }
 {
     let mut puts = Vec::with_capacity(alloc, writes.len())?;

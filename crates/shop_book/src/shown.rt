@@ -1,7 +1,8 @@
-ghost use Rattle.std.specs.Prelude.{◌≡◌, IfOk};
+ghost use Rattle.std.specs.Prelude.{◌≡◌, None, IfOk, IfSome};
 ghost use Rattle.shop_model.specs.rows.Sound.{Sound};
 ghost use Rattle.shop_history.specs.Keys.{row_of};
 ghost use Rattle.shop_book.specs.KeptLists.{AreLists};
+ghost use Rattle.shop_book.specs.Listings.{IsList};
 ghost use Rattle.shop_book.specs.RowsNow.{tables_with};
 
 use crate::lists::Lists;
@@ -10,32 +11,33 @@ use shop_history::{Key, Row};
 use shop_model::Tables;
 use shop_text::Memory;
 
-/// What a key shows in the tables with these rows and lists.
+/// What a key shows in the tables with these rows and lists; none where a list's row has to be made first.
+#[inline(always)]
 pub(crate) fn shown(
     tables: &Tables,
     rows: &Rows,
-    lists: &mut Lists,
+    lists: &Lists,
     key: &Key,
-) -> Result<Row, Memory>
+) -> Option<Result<Row, Memory>>
     requires sound { Sound (tables_with tables.now rows.now) }
-    requires lists { AreLists (tables_with tables.now rows.now) lists.old }
-    ensures row { IfOk result (λ row. row ≡ row_of (tables_with tables.now rows.now) key.now) }
-    ensures lists { AreLists (tables_with tables.now rows.now) lists.new }
+    requires lists { AreLists (tables_with tables.now rows.now) lists.now }
+    ensures row { IfSome result (λ looked. IfOk looked (λ row. row ≡ row_of (tables_with tables.now rows.now) key.now)) }
+    ensures list { result ≡ None → IsList key.now }
 {
     match key {
-        Key::Item(id) => rows.item_row(*id),
-        Key::Label(id) => rows.label_row(tables, *id),
-        Key::Customer(id) => rows.customer_row(*id),
-        Key::Cart(id) => rows.cart_row(*id),
-        Key::NewIn(subject) => lists.newest_row(*subject),
-        Key::BestIn(subject) => lists.best_row(*subject),
-        Key::Buyers(item) => Ok(Row::Customers(lists.recent.buyers(*item)?)),
-        Key::Bought(customer) => Ok(Row::Totals(lists.recent.bought(*customer)?)),
-        Key::Name(user) => Ok(id_row(rows.customer_named(user))),
-        Key::Address(id) => rows.address_row(*id),
-        Key::SameAddress(text) => Ok(id_row(rows.addresses.saying(text.get()))),
-        Key::Country(id) => country_row(tables.countries.as_slice(), *id),
-        Key::Order(id) => rows.order_row(*id),
-        Key::LastOrder(customer) => Ok(rows.last_row(*customer)),
+        Key::Item(id) => Some(rows.item_row(*id)),
+        Key::Label(id) => Some(rows.label_row(tables, *id)),
+        Key::Customer(id) => Some(rows.customer_row(*id)),
+        Key::Cart(id) => Some(rows.cart_row(*id)),
+        Key::NewIn(subject) => lists.newest_shown(*subject),
+        Key::BestIn(subject) => lists.best_shown(*subject),
+        Key::Buyers(item) => Some(lists.buyers_row(*item)),
+        Key::Bought(customer) => Some(lists.bought_row(*customer)),
+        Key::Name(user) => Some(Ok(id_row(rows.customer_named(user)))),
+        Key::Address(id) => Some(rows.address_row(*id)),
+        Key::SameAddress(text) => Some(Ok(id_row(rows.addresses.saying(text.get())))),
+        Key::Country(id) => Some(country_row(tables.countries.as_slice(), *id)),
+        Key::Order(id) => Some(rows.order_row(*id)),
+        Key::LastOrder(customer) => Some(Ok(rows.last_row(*customer))),
     }
 }

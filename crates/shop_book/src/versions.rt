@@ -143,7 +143,7 @@ impl Versions {
             }
             Put::Cart(_) => self.grow(3, rows.carts.len(), more),
             Put::Address(_, _) => self.grow(8, rows.addresses.len(), more),
-            Put::Order(_) => self.grow(10, rows.orders.len(), more),
+            Put::Order(_, _) => self.grow(10, rows.orders.len(), more),
             Put::Login(_) | Put::Stock(_) => true,
         }
     }

@@ -96,7 +96,7 @@ impl Rows {
     /// Adds an order, which is its customer's last.
     fn add_order(&mut self, order: Shared<Order>)
         requires { HasRoom self.old 1 }
-        ensures made { (t : Tables) → (stamp : ℕ) → tables_with t self.new ≡ put_one (tables_with t self.old) stamp (Put.Order order) }
+        ensures made { (t : Tables) → (stamp days : ℕ) → tables_with t self.new ≡ put_one (tables_with t self.old) stamp (Put.Order order days) }
         ensures room { TakesOne self.old self.new }
     {
         let (id, customer) = (order.get().id, order.get().customer);
@@ -118,7 +118,7 @@ impl Rows {
             Put::Login(id) => login(&mut self.customers, id, stamp),
             Put::Address(address, text) => self.addresses.push(address, text.into_inner()),
             Put::Customer(customer) => self.add_customer(stamp, customer),
-            Put::Order(order) => self.add_order(order),
+            Put::Order(order, _) => self.add_order(order),
             Put::Stock(stock) => set_stock(&mut self.items, &stock),
             Put::Item(item) => put_item(&mut self.items, item, stamp),
         }

@@ -32,7 +32,8 @@ use Rattle.shop_turn.specs.Rule.{shelved}
 use Rattle.shop_turn.specs.Marks.{MarkFits}
 use Rattle.shop_turn.specs.Plays.{AtTable, PartTold}
 use Rattle.shop_turn.specs.Desks.{DeskValue, desk_value, greatest_of, own_of, shop_name, seat_of, marks_of, IsOneShop, HasLooked, HasSettled, Meets}
-use Rattle.shop_turn.specs.Seats.{IsReady, Found, IsReadIn, settled_view}
+use Rattle.shop_turn.specs.Shared.{IsReadIn}
+use Rattle.shop_turn.specs.Seats.{IsReady, Found, settled_view}
 use Rattle.shop_turn.proofs.Fits.{drop-all, mark_push}
 
 none_of : (n : ℕ) (xs : List Entry) → All (λ e. e.caller ≢ n) xs → entries_of n xs ≡ []
@@ -84,7 +85,7 @@ seat_valid s b k opening limit log = record {
   short = let l = ap length log in omega (arith, k.short, limit, l);
 }
 
-module _ (table table' : TableId) (n : ℕ) (m : AtTable) (ready : IsReady n m) (long : m.0.origin.size ≤ length m.0.own.seen) (same : table' ≡ table) where
+module _ (table table' : TableId) (n callers : ℕ) (m : AtTable) (ready : IsReady n callers m) (long : m.0.origin.size ≤ length m.0.own.seen) (same : table' ≡ table) where
   abbrev origin : Origin
   origin = m.0.origin
 
@@ -278,16 +279,16 @@ module _ (table table' : TableId) (n : ℕ) (m : AtTable) (ready : IsReady n m) 
 pub joined_copy : (table : TableId) (n : ℕ) (v w : View) → desk_value table n (together v (copy w)) ≡ desk_value table n v
 joined_copy table n v w = λ i. record { table = table; origin = v.origin; number = n; seen = v.own.seen; marks = append-nil v.marks i; looks = v.looks; settles = v.settles }
 
-joined_ready : (n : ℕ) (m : AtTable) (w : View) → IsReady n m → IsReady n (together m.0 w, m.1)
-joined_ready n m w r = record { live = r.live; idle = r.idle; number_is = r.number_is; one = r.one; empty = r.empty }
+joined_ready : (n callers : ℕ) (m : AtTable) (w : View) → IsReady n callers m → IsReady n callers (together m.0 w, m.1)
+joined_ready n callers m w r = record { live = r.live; idle = r.idle; number_is = r.number_is; one = r.one; most = r.most; empty = r.empty }
 
-pub meet_means : (table table' : TableId) (n : ℕ) (m m' : AtTable) (w : View) → IsReady n m → m.0.origin.size ≤ length m.0.own.seen → table' ≡ table → (b : BookValue) → Found b (together m.0 (copy w)) → m' ≡ (read_view b (together m.0 (copy w)), [])
+pub meet_means : (table table' : TableId) (n callers : ℕ) (m m' : AtTable) (w : View) → IsReady n callers m → m.0.origin.size ≤ length m.0.own.seen → table' ≡ table → (b : BookValue) → Found b (together m.0 (copy w)) → m' ≡ (read_view b (together m.0 (copy w)), [])
     → (d e : DeskValue) → desk_value table n m.0 ≡ d → e.seen ≡ w.own.seen → Meets d e (desk_value table' n m'.0)
-meet_means table table' n m m' w ready long same b f is d e view other =
+meet_means table table' n callers m m' w ready long same b f is d e view other =
     let p : PartTold b.log (copy w).own = All-contains (PartTold b.log) (m.0.others ++ (copy w).own ∷ []) (copy w).own (All-tail (PartTold b.log) m.0.own (m.0.others ++ (copy w).own ∷ []) f.told.parts) (Contains-push m.0.others (copy w).own) in
     let seen : m'.0.own.seen ≡ b.log = ap (λ (x : AtTable). x.0.own.seen) is in
     record {
-      looks = look_means table table' n (together m.0 (copy w), m.1) (joined_ready n m (copy w) ready) long same d m' b (joined_copy table n m.0 w ∙ view) f is;
+      looks = look_means table table' n callers (together m.0 (copy w), m.1) (joined_ready n callers m (copy w) ready) long same d m' b (joined_copy table n m.0 w ∙ view) f is;
       other_seen = record { rest = p.after; is = seen ∙ p.is ∙ ap (λ (l : List Entry). l ++ p.after) (sym other) };
     }
 

@@ -1,5 +1,5 @@
 -- What a seat knows fits the rule, after a step of another or of its own.
-use Rattle.std.proofs.Common.{◌≡◌, ℕ, ◌≤◌, List, [], ◌∷◌, ◌++◌, length, true, sym, subst, arith, ◌∙◌, ap, length-append, refl, ◌≢◌, ⊎_elim, set, drop, append_assoc}
+use Rattle.std.proofs.Common.{◌≡◌, ℕ, ◌*◌, ◌≤◌, List, [], ◌∷◌, ◌++◌, length, get_or, Some, sym, subst, arith, ◌∙◌, ap, length-append, refl, ◌≢◌, ⊎_elim, set, drop, append_assoc}
 use Rattle.std.proofs.lemmas.List.Elements.{All-head, All-weaker, All-push}
 use Rattle.std.specs.List.{All}
 use Rattle.std.proofs.lemmas.List.{drop-append-le}
@@ -10,7 +10,7 @@ use Rattle.shop_history.specs.declared.acts.Entry.{Entry}
 use Rattle.shop_turn.specs.declared.rule.Origin.{Origin}
 use Rattle.shop_turn.specs.declared.rule.Part.{Part}
 use Rattle.shop_turn.specs.declared.rule.View.{View}
-use Rattle.shop_turn.specs.Rule.{PartFits, Now, Fits}
+use Rattle.shop_turn.specs.Rule.{PartFits, Now, Homes, CallerFits, Fits, shelved}
 use Rattle.shop_turn.specs.Marks.{MarkFits}
 
 pub each_set : {V : Type 0} (F G : ℕ → V → Type 0) (views : List V) (id : ℕ) (w : V) → ((by : ℕ) (v : V) → get_elem? views by ≡ some v → F by v)
@@ -22,14 +22,23 @@ pub drop-all : {A : Type 0} (xs : List A) → drop (length xs) xs ≡ []
 drop-all [] = refl
 drop-all (x ∷ xs) = drop-all xs
 
--- no other seat has the turn
-pub not_theirs : (origin : Origin) (now : Now) (by id : ℕ) (v u : View) → Fits origin now by v → Fits origin now id u → by ≢ id → u.has_turn ≡ true → v.has_turn ≡ true → ⊥
-not_theirs origin now by id v u f g apart mine theirs =
-    let a = f.turns theirs in
-    let b = g.turns mine in
-    let one : now.owner v.own.number ≡ by = ((All-head (PartFits now.log now.owner now.named by) v.own v.others f.parts).owned a.0).1 in
-    let other : now.owner u.own.number ≡ id = ((All-head (PartFits now.log now.owner now.named id) u.own u.others g.parts).owned b.0).1 in
-    apart (sym one ∙ ap now.owner (sym a.1 ∙ b.1) ∙ other)
+pub own_of : (origin : Origin) (now : Now) (by : ℕ) (v : View) → Fits origin now by v → PartFits now.log now.owner now.named by v.own
+own_of origin now by v f = All-head (PartFits now.log now.owner now.named by) v.own v.others f.parts
+
+-- the numbers of two seats are two
+pub not_one : (origin : Origin) (now : Now) (by id : ℕ) (u v : View) → Fits origin now by u → Fits origin now id v → by ≢ id → 1 ≤ u.own.number → 1 ≤ v.own.number → u.own.number ≢ v.own.number
+not_one origin now by id u v f g apart theirs mine same =
+    apart (sym ((own_of origin now by u f).owned theirs).1 ∙ ap now.owner same ∙ ((own_of origin now id v g).owned mine).1)
+
+-- a caller whose word and slot a step leaves, at the same stage
+pub same_caller : (origin : Origin) (now now' : Now) (words words' : List ℕ) (homes homes' : Homes) (c : ℕ) → now'.log ≡ now.log → now'.shelf ≡ now.shelf → now'.stage c ≡ now.stage c → now'.gathered ≡ now.gathered
+    → get_or words' (16 * c) 0 ≡ get_or words (16 * c) 0 → get_elem? homes' (8 * c) ≡ get_elem? homes (8 * c) → CallerFits origin now words homes c → CallerFits origin now' words' homes' c
+same_caller origin now now' words words' homes homes' c log shelf stage gathered word slot k = record {
+  outside = λ z. word ∙ k.outside (sym stage ∙ z);
+  inside = λ some_stage. word ∙ k.inside (omega arith);
+  home = λ low late. slot ∙ k.home (omega arith) (omega arith) ∙ (λ i. some (some (Some (shelved origin (sym log i) (sym shelf i)))));
+  apart = λ e. let a = k.apart (sym stage ∙ e) in omega arith;
+}
 
 -- a part, after an entry of another seat
 pub part_push : (log : List Entry) (owner : ℕ → ℕ) (named by id : ℕ) (e : Entry) (p : Part) → owner e.caller ≡ id → by ≢ id → PartFits log owner named by p → PartFits (log ++ e ∷ []) owner named by p

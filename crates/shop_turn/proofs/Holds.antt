@@ -1,24 +1,24 @@
 -- The rule holds after each change.
-use Rattle.std.proofs.Common.{◌≡◌, ℕ, ◌+◌, ◌≤◌, ◌<◌, List, [], ◌∷◌, ◌++◌, length, max, Option, Some, true, false, sym, subst, arith, ◌∙◌, ap, length-append, refl, ◌≢◌, inr, zero, suc, set, drop}
+use Rattle.std.proofs.Common.{◌≡◌, ◌≢◌, ℕ, ◌+◌, ◌-◌, ◌*◌, ◌≤◌, ◌<◌, List, [], ◌∷◌, ◌++◌, length, max, Option, Some, true, sym, subst, arith, ◌∙◌, ap, refl, inr, zero, suc, set, drop, get_or, length-set, length-append, get_or-set_other, get_or-set_same}
 use Rattle.std.proofs.lemmas.Bool.{true≢false}
-use Rattle.std.proofs.lemmas.List.{append-nil, drop-append-le}
-use Rattle.std.proofs.lemmas.List.Elements.{All-head, All-weaker, All-push, All-nil, All-cons, All-tail, Contains-append_left, Contains-push}
+use Rattle.std.proofs.lemmas.List.{append-nil, drop-append-le, set-get_or}
+use Rattle.std.proofs.lemmas.List.Elements.{All-weaker, All-push, All-nil, All-cons, All-tail, Contains-append_left, Contains-push}
 use Rattle.std.specs.List.{All, Contains}
-use Rattle.std.specs.Prelude.{slice_index}
 use mathlib.Core.Logic.{dite}
 use mathlib.Core.Option.{none, some}
-use native.Mathlib.Decide.{dec_le}
+use native.Mathlib.Decide.{dec_le, ℕ_discrete}
 use lib.ListN.{get_elem?}
-use Rattle.atomic_table.proofs.Lists.{set_again, set_here}
+use Rattle.atomic_table.proofs.Lists.{set_again, set_here, set_else}
 use Rattle.atomic_table.specs.Table.{State}
+use Rattle.shop_model.specs.rows.Limits.{stamp_limit}
 use Rattle.shop_history.specs.declared.acts.Entry.{Entry}
 use Rattle.shop_book.specs.Books.{BookValue}
 use Rattle.shop_turn.specs.declared.rule.Origin.{Origin}
 use Rattle.shop_turn.specs.declared.rule.View.{View}
-use Rattle.shop_turn.specs.Views.{named_as, taking, looking, raising, appending, giving}
-use Rattle.shop_turn.specs.Rule.{PartFits, Now, Fits, IsSourced, EntryFits, shelved, Holds}
+use Rattle.shop_turn.specs.Views.{named_as, staged, sharing, turning, gathering, held_book, looking, knowing, raising, appending, filling, giving}
+use Rattle.shop_turn.specs.Rule.{PartFits, Now, Homes, CallerFits, HasShare, Stands, Fits, IsSourced, EntryFits, shelved, Holds}
 use Rattle.shop_turn.specs.Marks.{MarkFits}
-use Rattle.shop_turn.proofs.Fits.{each_set, drop-all, not_theirs, part_push, mark_push, parts_under}
+use Rattle.shop_turn.proofs.Fits.{each_set, drop-all, own_of, not_one, part_push, mark_push, parts_under, same_caller}
 use Rattle.shop_turn.proofs.Sources.{at_here, given, given-at, given-else, source_set, entries_weaker}
 
 all_after : {X : Type 0} (P : X → Type 0) (n : ℕ) (xs ys : List X) → n ≤ length xs → All P (drop n (xs ++ ys)) → All P ys
@@ -35,23 +35,49 @@ module _ (origin : Origin) (s : State (Option BookValue) View) (h : Holds origin
   mine = h.fits id v at
 
   own_part : PartFits h.now.log h.now.owner h.now.named id v.own
-  own_part = All-head (PartFits h.now.log h.now.owner h.now.named id) v.own v.others mine.parts
+  own_part = own_of origin h.now id v mine
 
   other_parts : All (PartFits h.now.log h.now.owner h.now.named id) v.others
   other_parts = All-tail (PartFits h.now.log h.now.owner h.now.named id) v.own v.others mine.parts
 
-  pub word0 : slice_index s.words 0 ≡ h.now.turn
-  word0 = ap (λ ws. slice_index ws 0) h.words
+  pub number_in : 1 ≤ v.own.number → v.own.number ≤ origin.callers
+  number_in one = let a = (own_part.owned one).0 in let b = h.few in omega arith
 
-  pub word1 : slice_index s.words 1 ≡ length h.now.log
-  word1 = ap (λ ws. slice_index ws 1) h.words
+  my_caller : 1 ≤ v.own.number → CallerFits origin h.now s.words s.homes v.own.number
+  my_caller one = h.callers v.own.number one (number_in one)
 
-  pub word3 : slice_index s.words 3 ≡ h.now.named
-  word3 = ap (λ ws. slice_index ws 3) h.words
+  -- another seat's number is another
+  apart : (by : ℕ) (u : View) → by ≢ id → Fits origin h.now by u → 1 ≤ u.own.number → 1 ≤ v.own.number → u.own.number ≢ v.own.number
+  apart by u other f = not_one origin h.now by id u v f mine other
+
+  -- no other seat has the turn, where nobody has it, or this one
+  none_else : h.now.turn ≡ 0 → (by : ℕ) (u : View) → by ≢ id → Fits origin h.now by u → u.stage ≡ 3 → ⊥
+  none_else nobody by u other f e = let a = (f.place.turns e).0 in let b : u.own.number ≡ 0 = omega arith in let c = f.place.idle b in omega arith
+
+  alone : 1 ≤ v.own.number → v.stage ≡ 3 → (by : ℕ) (u : View) → by ≢ id → Fits origin h.now by u → u.stage ≡ 3 → ⊥
+  alone one has by u other f e =
+      let a = (f.place.turns e).0 in let b = (mine.place.turns has).0 in
+      let same : u.own.number ≡ v.own.number = sym a ∙ b in
+      apart by u other f (omega arith) one same
+
+  -- no other seat is inside, where this one has every share
+  none_inside : origin.callers ≤ h.now.gathered → (by : ℕ) (u : View) → Fits origin h.now by u → u.stage ≡ 2 → ⊥
+  none_inside all by u f e =
+      let one : 1 ≤ u.own.number = dite (ℕ_discrete u.own.number 0) (λ (z : u.own.number ≡ 0). let a = f.place.idle z in absurd (omega arith)) (λ (nz : u.own.number ≢ 0). omega arith) in
+      let o = ((own_of origin h.now by u f).owned one).0 in let few = h.few in
+      let a = (h.callers u.own.number one (omega arith)).apart (f.place.stands one (omega arith) ∙ e) in
+      omega arith
+
+  -- the shares of this seat are of the book that is shared
+  pub held_is : v.live ≡ true → HasShare h.now v → held_book v ≡ shelved origin h.now.log h.now.shelf
+  held_is live share = λ i. record { opening = (mine.same_origin live i).opening; log = share.0 i; latest = share.1 i }
 
   -- a step that changes nothing
-  pub stays : (i : ℕ) → set s.words i (slice_index s.words i) ≡ s.words → Holds origin record { words = set s.words i (slice_index s.words i); homes = s.homes; views = set s.views id v }
-  stays i same = subst (λ ws. Holds origin record { words = ws; homes = s.homes; views = set s.views id v }) (sym same) (subst (λ vs. Holds origin record { words = s.words; homes = s.homes; views = vs }) (sym (set_again s.views id v at)) h)
+  pub stays : (i : ℕ) → Holds origin record { words = set s.words i (get_or s.words i 0); homes = s.homes; views = set s.views id v }
+  stays i = subst (λ ws. Holds origin record { words = ws; homes = s.homes; views = set s.views id v }) (sym (set-get_or s.words i 0)) (subst (λ vs. Holds origin record { words = s.words; homes = s.homes; views = vs }) (sym (set_again s.views id v at)) h)
+
+  pub read_word : (i : ℕ) (homes' : Homes) (w : View) → Holds origin record { words = s.words; homes = homes'; views = set s.views id w } → Holds origin record { words = set s.words i (get_or s.words i 0); homes = homes'; views = set s.views id w }
+  read_word i homes' w = subst (λ ws. Holds origin record { words = ws; homes = homes'; views = set s.views id w }) (sym (set-get_or s.words i 0))
 
   -- the entries and the latest stamp have their sources, where the view w has all marks of v
   module _ (w : View) (more : (x : ℕ × ℕ) → Contains v.marks x → Contains w.marks x) (owner : ℕ → ℕ) (named : ℕ) (le : h.now.named ≤ named) (same : (c : ℕ) → c ≤ h.now.named → owner c ≡ h.now.owner c) where
@@ -61,179 +87,529 @@ module _ (origin : Origin) (s : State (Option BookValue) View) (h : Holds origin
     entries_as : All (EntryFits origin owner named (set s.views id w)) (drop origin.size h.now.log)
     entries_as = entries_weaker origin h.now.owner owner h.now.named named s.views (set s.views id w) (drop origin.size h.now.log) le source_as h.entries
 
-  -- a seat without the turn, after a step of the one that has it or takes it
-  calm : (turn latest by : ℕ) (u : View) → h.now.latest ≤ latest → (u.has_turn ≡ true → ⊥) → Fits origin h.now by u
-      → Fits origin (record { log = h.now.log; owner = h.now.owner; turn = turn; latest = latest; named = h.now.named }) by u
-  calm turn latest by u le off f = record {
-    same_origin = f.same_origin;
-    parts = f.parts;
-    marks = All-weaker (MarkFits h.now.log h.now.latest) (MarkFits h.now.log latest) (λ m t. record { front = t.front; moment = let a = t.moment in omega arith; above = t.above }) u.marks f.marks;
-    turns = λ has. absurd (off has);
-  }
-
   same_owner : (c : ℕ) → c ≤ h.now.named → h.now.owner c ≡ h.now.owner c
   same_owner c le = refl
 
   level : h.now.named ≤ h.now.named
   level = omega arith
 
-  pub named_holds : (new : ℕ) → v.has_turn ≡ false → origin.size ≤ length v.own.seen → new ≡ h.now.named + 1 → new ≤ origin.callers → Holds origin record { words = set s.words 3 new; homes = s.homes; views = set s.views id (named_as new v) }
-  named_holds new idle long next few =
-      let owner : ℕ → ℕ = given h.now.owner new id in
-      let apart : (c : ℕ) → c ≤ h.now.named → owner c ≡ h.now.owner c = λ c le. given-else h.now.owner new id c (λ e. omega arith) in
-      let le : h.now.named ≤ new = omega arith in
-      let after : List Entry = own_part.after in
-      let unnamed : All (λ e. e.caller ≢ new) after = All-weaker (EntryFits origin h.now.owner h.now.named s.views) (λ e. e.caller ≢ new) (λ e t same. let a = t.1 in omega arith) after (all_after (EntryFits origin h.now.owner h.now.named s.views) origin.size v.own.seen after long (subst (λ l. All (EntryFits origin h.now.owner h.now.named s.views) (drop origin.size l)) own_part.is h.entries)) in
-      let now : Now = record { log = h.now.log; owner = owner; turn = h.now.turn; latest = h.now.latest; named = new } in
-      record {
-        now = now;
-        words = ap (λ ws. set ws 3 new) h.words;
-        home = h.home;
-        fits = each_set (Fits origin h.now) (Fits origin now) s.views id (named_as new v) h.fits
-            (λ by u _ f. record { same_origin = f.same_origin; parts = parts_under h.now.log h.now.owner owner h.now.named new by by (u.own ∷ u.others) le (λ c one most is. apart c most ∙ is) f.parts; marks = f.marks; turns = f.turns })
-            (record {
-              same_origin = mine.same_origin;
-              parts = All-cons (PartFits h.now.log owner new id) (named_as new v).own v.others (record { after = after; is = own_part.is; alone = λ _. unnamed; owned = λ _. (omega arith, given-at h.now.owner new id) }) (parts_under h.now.log h.now.owner owner h.now.named new id id v.others le (λ c one most is. apart c most ∙ is) other_parts);
-              marks = mine.marks;
-              turns = λ has. absurd (true≢false (sym has ∙ idle));
-            });
-        few = few;
-        long = h.long;
-        entries = entries_as (named_as new v) (λ x c. c) owner new le apart;
-        source = source_as (named_as new v) (λ x c. c) owner new le apart h.now.latest h.source;
-      }
+  abbrev standing : ℕ → ℕ → (ℕ → ℕ) → Now
+  standing turn gathered stage = record h.now { turn = turn; gathered = gathered; stage = stage }
 
-  pub taken_holds : h.now.turn ≡ 0 → 1 ≤ v.own.number → Holds origin record { words = set s.words 0 v.own.number; homes = set s.homes 0 none; views = set s.views id (taking (shelved origin h.now.log h.now.latest) v) }
-  taken_holds free one =
-      let w = taking (shelved origin h.now.log h.now.latest) v in
-      let now : Now = record { log = h.now.log; owner = h.now.owner; turn = v.own.number; latest = h.now.latest; named = h.now.named } in
+  -- who has the turn changes, how many shares that one has, or how a caller stands
+  stood_holds : (turn gathered : ℕ) (stage : ℕ → ℕ) (words' : List ℕ) (homes' : Homes) (w : View) → ((x : ℕ × ℕ) → Contains v.marks x → Contains w.marks x) → length words' ≡ length s.words
+      → get_or words' 0 0 ≡ turn → ((j : ℕ) → 1 ≤ j → j < 4 → get_or words' j 0 ≡ get_or s.words j 0) → (turn ≡ 0 → gathered ≡ 0) → gathered ≤ origin.callers → ((c : ℕ) → h.now.named < c → stage c ≡ 0)
+      → ((c : ℕ) → 1 ≤ c → c ≤ origin.callers → CallerFits origin (standing turn gathered stage) words' homes' c)
+      → ((by : ℕ) (u : View) → by ≢ id → Fits origin h.now by u → Stands origin (standing turn gathered stage) u) → Fits origin (standing turn gathered stage) id w → Holds origin record { words = words'; homes = homes'; views = set s.views id w }
+  stood_holds turn gathered stage words' homes' w more len first word free most unnamed each others fit = record {
+    now = standing turn gathered stage;
+    wide = len ∙ h.wide;
+    turn = first;
+    count = word 1 (omega arith) (omega arith) ∙ h.count;
+    latest = word 2 (omega arith) (omega arith) ∙ h.latest;
+    named = word 3 (omega arith) (omega arith) ∙ h.named;
+    free = free;
+    most = most;
+    unnamed = unnamed;
+    callers = each;
+    shelf = h.shelf;
+    bound = h.bound;
+    fits = each_set (Fits origin h.now) (Fits origin (standing turn gathered stage)) s.views id w h.fits (λ by u other f. record { same_origin = f.same_origin; parts = f.parts; marks = f.marks; place = others by u other f }) fit;
+    few = h.few;
+    long = h.long;
+    entries = entries_as w more h.now.owner h.now.named level same_owner;
+    source = source_as w more h.now.owner h.now.named level same_owner h.now.latest h.source;
+  }
+
+  abbrev at_stage : ℕ → Now
+  at_stage t = standing h.now.turn h.now.gathered (given h.now.stage v.own.number t)
+
+  -- the stage of this seat's caller becomes t
+  moved_holds : (t : ℕ) (words' : List ℕ) (homes' : Homes) (w : View) → ((x : ℕ × ℕ) → Contains v.marks x → Contains w.marks x) → 1 ≤ v.own.number → length words' ≡ length s.words
+      → ((j : ℕ) → j ≢ 16 * v.own.number → get_or words' j 0 ≡ get_or s.words j 0) → ((j : ℕ) → j ≢ 8 * v.own.number → get_elem? homes' j ≡ get_elem? s.homes j)
+      → CallerFits origin (at_stage t) words' homes' v.own.number → Fits origin (at_stage t) id w → Holds origin record { words = words'; homes = homes'; views = set s.views id w }
+  moved_holds t words' homes' w more one len word slot own =
+      stood_holds h.now.turn h.now.gathered (given h.now.stage v.own.number t) words' homes' w more len (word 0 (λ e. omega arith) ∙ h.turn) (λ j some_j few. word j (λ e. omega arith)) h.free h.most
+      (λ c late. given-else h.now.stage v.own.number t c (λ e. let a = (own_part.owned one).0 in omega arith) ∙ h.unnamed c late)
+      (λ c low high. dite (ℕ_discrete c v.own.number)
+      (λ (e : c ≡ v.own.number). subst (CallerFits origin (at_stage t) words' homes') (sym e) own)
+      (λ (ne : c ≢ v.own.number). same_caller origin h.now (at_stage t) s.words words' s.homes homes' c refl refl (given-else h.now.stage v.own.number t c ne) refl (word (16 * c) (λ e. ne (omega arith))) (slot (8 * c) (λ e. ne (omega arith))) (h.callers c low high)))
+      (λ by u other f. record {
+        idle = f.place.idle;
+        stands = λ some_number low. given-else h.now.stage v.own.number t u.own.number (apart by u other f some_number one) ∙ f.place.stands some_number low;
+        stays_out = λ some_number e. given-else h.now.stage v.own.number t u.own.number (apart by u other f some_number one) ∙ f.place.stays_out some_number e;
+        shares = f.place.shares;
+        turns = f.place.turns;
+        knows = f.place.knows;
+      })
+
+  pub entered_holds : 1 ≤ v.own.number → v.stage ≡ 0 → Holds origin record { words = set s.words (16 * v.own.number) 1; homes = s.homes; views = set s.views id (staged 1 v) }
+  entered_holds one out =
+      let k = my_caller one in let m = mine in let here = given-at h.now.stage v.own.number 1 in let high = number_in one in let wide = h.wide in
+      let was : h.now.stage v.own.number ≡ 0 = m.place.stands one (omega arith) ∙ out in
+      moved_holds 1 (set s.words (16 * v.own.number) 1) s.homes (staged 1 v) (λ x c. c) one (length-set s.words (16 * v.own.number) 1) (λ j ne. get_or-set_other s.words (16 * v.own.number) j 1 0 ne) (λ j ne. refl)
+      (record {
+        outside = λ z. absurd (omega arith);
+        inside = λ z. get_or-set_same s.words (16 * v.own.number) 1 0 (omega arith);
+        home = λ low late. k.home (omega arith) late;
+        apart = λ e. absurd (omega arith);
+      })
+      (record {
+        same_origin = m.same_origin;
+        parts = m.parts;
+        marks = m.marks;
+        place = record {
+          idle = λ z. absurd (omega arith);
+          stands = λ z low. here;
+          stays_out = λ z e. absurd (omega arith);
+          shares = λ e. absurd (omega arith);
+          turns = λ e. absurd (omega arith);
+          knows = λ e. let a = (m.place.knows e).0 in absurd (omega arith);
+        };
+      })
+
+  -- out again, from the door
+  pub backed_holds : 1 ≤ v.own.number → v.stage ≡ 1 → Holds origin record { words = set s.words (16 * v.own.number) 0; homes = s.homes; views = set s.views id (staged 0 v) }
+  backed_holds one in_door =
+      let k = my_caller one in let m = mine in let here = given-at h.now.stage v.own.number 0 in let high = number_in one in let wide = h.wide in
+      let was : h.now.stage v.own.number ≡ 1 = m.place.stands one (omega arith) ∙ in_door in
+      moved_holds 0 (set s.words (16 * v.own.number) 0) s.homes (staged 0 v) (λ x c. c) one (length-set s.words (16 * v.own.number) 0) (λ j ne. get_or-set_other s.words (16 * v.own.number) j 0 0 ne) (λ j ne. refl)
+      (record {
+        outside = λ z. get_or-set_same s.words (16 * v.own.number) 0 0 (omega arith);
+        inside = λ z. absurd (omega arith);
+        home = λ low late. k.home (omega arith) late;
+        apart = λ e. absurd (omega arith);
+      })
+      (record {
+        same_origin = m.same_origin;
+        parts = m.parts;
+        marks = m.marks;
+        place = record {
+          idle = λ z. refl;
+          stands = λ z low. here;
+          stays_out = λ z e. absurd (omega arith);
+          shares = λ e. absurd (omega arith);
+          turns = λ e. absurd (omega arith);
+          knows = λ e. let a = (m.place.knows e).0 in absurd (omega arith);
+        };
+      })
+
+  -- inside, where nobody has the turn
+  pub seen_holds : 1 ≤ v.own.number → v.stage ≡ 1 → h.now.turn ≡ 0
+      → Holds origin record { words = s.words; homes = set s.homes (8 * v.own.number) none; views = set s.views id (sharing (shelved origin h.now.log h.now.shelf) v) }
+  seen_holds one in_door nobody =
+      let k = my_caller one in let m = mine in let here = given-at h.now.stage v.own.number 2 in let none_yet = h.free nobody in
+      let was : h.now.stage v.own.number ≡ 1 = m.place.stands one (omega arith) ∙ in_door in
+      moved_holds 2 s.words (set s.homes (8 * v.own.number) none) (sharing (shelved origin h.now.log h.now.shelf) v) (λ x c. c) one refl (λ j ne. refl) (λ j ne. set_else s.homes (8 * v.own.number) j none ne)
+      (record {
+        outside = λ z. absurd (omega arith);
+        inside = λ z. k.inside (omega arith);
+        home = λ low late. absurd (omega arith);
+        apart = λ e. let a : h.now.gathered < v.own.number = omega arith in a;
+      })
+      (record {
+        same_origin = m.same_origin;
+        parts = m.parts;
+        marks = m.marks;
+        place = record {
+          idle = λ z. absurd (omega arith);
+          stands = λ z low. here;
+          stays_out = λ z e. absurd (omega arith);
+          shares = λ e. (refl, refl);
+          turns = λ e. absurd (omega arith);
+          knows = λ e. let a = (m.place.knows e).0 in absurd (omega arith);
+        };
+      })
+
+  pub share_at_home : 1 ≤ v.own.number → v.stage ≡ 1 → h.now.turn ≡ 0 → get_elem? s.homes (8 * v.own.number) ≡ some (some (Some (shelved origin h.now.log h.now.shelf)))
+  share_at_home one in_door nobody =
+      let was : h.now.stage v.own.number ≡ 1 = mine.place.stands one (omega arith) ∙ in_door in let none_yet = h.free nobody in
+      (my_caller one).home (omega arith) (omega arith)
+
+  -- out again, with the share back
+  pub left_holds : (b : BookValue) → 1 ≤ v.own.number → v.stage ≡ 2 → v.live ≡ true → b ≡ held_book v → length s.homes ≡ 8 * origin.callers + 8
+      → Holds origin record { words = set s.words (16 * v.own.number) 0; homes = set s.homes (8 * v.own.number) (some (Some b)); views = set s.views id (giving v) }
+  left_holds b one inside live is deep =
+      let k = my_caller one in let m = mine in let here = given-at h.now.stage v.own.number 0 in let high = number_in one in let wide = h.wide in
+      let same : b ≡ shelved origin h.now.log h.now.shelf = is ∙ held_is live (m.place.shares inside) in
+      moved_holds 0 (set s.words (16 * v.own.number) 0) (set s.homes (8 * v.own.number) (some (Some b))) (giving v) (λ x c. c) one (length-set s.words (16 * v.own.number) 0) (λ j ne. get_or-set_other s.words (16 * v.own.number) j 0 0 ne) (λ j ne. set_else s.homes (8 * v.own.number) j (some (Some b)) ne)
+      (record {
+        outside = λ z. get_or-set_same s.words (16 * v.own.number) 0 0 (omega arith);
+        inside = λ z. absurd (omega arith);
+        home = λ low late. set_here s.homes (8 * v.own.number) (some (Some b)) (omega arith) ∙ ap (λ (x : BookValue). some (some (Some x))) same;
+        apart = λ e. absurd (omega arith);
+      })
+      (record {
+        same_origin = m.same_origin;
+        parts = m.parts;
+        marks = m.marks;
+        place = record {
+          idle = λ z. refl;
+          stands = λ z low. here;
+          stays_out = λ z e. absurd (omega arith);
+          shares = λ e. absurd (omega arith);
+          turns = λ e. absurd (omega arith);
+          knows = λ e. absurd (true≢false (sym e));
+        };
+      })
+
+  -- all of the log is seen
+  pub looked_holds : (n : ℕ) → 1 ≤ v.own.number → v.log ≡ h.now.log → Holds origin record { words = s.words; homes = s.homes; views = set s.views id (looking n v) }
+  looked_holds n one whole =
+      let w = looking n v in let m = mine in
       record {
-        now = now;
-        words = ap (λ ws. set ws 0 v.own.number) h.words;
-        home = λ e. absurd (omega arith);
-        fits = each_set (Fits origin h.now) (Fits origin now) s.views id w h.fits
-            (λ by u _ f. calm v.own.number h.now.latest by u (omega arith) (λ has. let a = f.turns has in let x = a.0 in let y = a.1 in omega arith) f)
-            (record { same_origin = mine.same_origin; parts = mine.parts; marks = mine.marks; turns = λ _. (one, refl, refl, refl) });
+        now = h.now;
+        wide = h.wide;
+        turn = h.turn;
+        count = h.count;
+        latest = h.latest;
+        named = h.named;
+        free = h.free;
+        most = h.most;
+        unnamed = h.unnamed;
+        callers = h.callers;
+        shelf = h.shelf;
+        bound = h.bound;
+        fits = each_set (Fits origin h.now) (Fits origin h.now) s.views id w h.fits (λ by u _ f. f)
+            (record {
+              same_origin = m.same_origin;
+              parts = All-cons (PartFits h.now.log h.now.owner h.now.named id) w.own [] (record { after = []; is = sym whole ∙ sym (append-nil v.log); alone = λ _. All-nil (λ e. e.caller ≢ v.own.number); owned = own_part.owned }) (All-nil (PartFits h.now.log h.now.owner h.now.named id));
+              marks = m.marks;
+              place = record { idle = m.place.idle; stands = m.place.stands; stays_out = m.place.stays_out; shares = m.place.shares; turns = m.place.turns; knows = m.place.knows };
+            });
         few = h.few;
         long = h.long;
         entries = entries_as w (λ x c. c) h.now.owner h.now.named level same_owner;
         source = source_as w (λ x c. c) h.now.owner h.now.named level same_owner h.now.latest h.source;
       }
 
-  -- with the turn
-  module _ (has : v.has_turn ≡ true) where
-    number : 1 ≤ v.own.number
-    number = (mine.turns has).0
+  abbrev with_turn : ℕ → ℕ → Now
+  with_turn turn gathered = standing turn gathered h.now.stage
 
-    my_turn : h.now.turn ≡ v.own.number
-    my_turn = (mine.turns has).1
+  -- who has the turn changes, or how many shares that one has
+  turned_holds : (turn gathered : ℕ) (words' : List ℕ) (homes' : Homes) (w : View) → ((x : ℕ × ℕ) → Contains v.marks x → Contains w.marks x) → ((by : ℕ) (u : View) → by ≢ id → Fits origin h.now by u → u.stage ≡ 3 → ⊥)
+      → length words' ≡ length s.words → ((j : ℕ) → 1 ≤ j → get_or words' j 0 ≡ get_or s.words j 0) → get_or words' 0 0 ≡ turn → (turn ≡ 0 → gathered ≡ 0) → gathered ≤ origin.callers
+      → ((c : ℕ) → 1 ≤ c → c ≤ origin.callers → CallerFits origin (with_turn turn gathered) s.words homes' c) → Fits origin (with_turn turn gathered) id w → Holds origin record { words = words'; homes = homes'; views = set s.views id w }
+  turned_holds turn gathered words' homes' w more nobody len word first free most each =
+      stood_holds turn gathered h.now.stage words' homes' w more len first (λ j some_j few. word j some_j) free most h.unnamed
+      (λ c low high. let b = each c low high in record { outside = λ z. word (16 * c) (omega arith) ∙ b.outside z; inside = λ z. word (16 * c) (omega arith) ∙ b.inside z; home = b.home; apart = b.apart })
+      (λ by u other f. record {
+        idle = f.place.idle;
+        stands = f.place.stands;
+        stays_out = f.place.stays_out;
+        shares = f.place.shares;
+        turns = λ e. absurd (nobody by u other f e);
+        knows = λ e. absurd (nobody by u other f (f.place.knows e).0);
+      })
 
-    pub my_log : v.log ≡ h.now.log
-    my_log = (mine.turns has).2
+  pub taken_holds : 1 ≤ v.own.number → v.stage ≡ 0 → h.now.turn ≡ 0 → Holds origin record { words = set s.words 0 v.own.number; homes = s.homes; views = set s.views id (turning v) }
+  taken_holds one out nobody =
+      let m = mine in let wide = h.wide in let none_yet = h.free nobody in
+      turned_holds v.own.number 0 (set s.words 0 v.own.number) s.homes (turning v) (λ x c. c) (none_else nobody) (length-set s.words 0 v.own.number) (λ j some_j. get_or-set_other s.words 0 j v.own.number 0 (λ e. omega arith)) (get_or-set_same s.words 0 v.own.number 0 (omega arith))
+      (λ z. refl) (omega arith)
+      (λ c low high. same_caller origin h.now (with_turn v.own.number 0) s.words s.words s.homes s.homes c refl refl refl (sym none_yet) refl refl (h.callers c low high))
+      (record {
+        same_origin = m.same_origin;
+        parts = m.parts;
+        marks = m.marks;
+        place = record {
+          idle = λ z. absurd (omega arith);
+          stands = λ z low. absurd (omega arith);
+          stays_out = λ z e. m.place.stands one (omega arith) ∙ out;
+          shares = λ e. absurd (omega arith);
+          turns = λ e. (refl, refl, λ z. absurd (omega arith));
+          knows = λ e. absurd (true≢false (sym e));
+        };
+      })
 
-    pub my_latest : v.latest ≡ h.now.latest
-    my_latest = (mine.turns has).3
+  pub given_holds : 1 ≤ v.own.number → v.stage ≡ 3 → v.gathered ≡ 0 → Holds origin record { words = set s.words 0 0; homes = s.homes; views = set s.views id (giving v) }
+  given_holds one has back =
+      let m = mine in let wide = h.wide in let t = m.place.turns has in
+      turned_holds 0 0 (set s.words 0 0) s.homes (giving v) (λ x c. c) (alone one has) (length-set s.words 0 0) (λ j some_j. get_or-set_other s.words 0 j 0 0 (λ e. omega arith)) (get_or-set_same s.words 0 0 0 (omega arith))
+      (λ z. refl) (omega arith)
+      (λ c low high. same_caller origin h.now (with_turn 0 0) s.words s.words s.homes s.homes c refl refl refl (sym (t.1 ∙ back)) refl refl (h.callers c low high))
+      (record {
+        same_origin = m.same_origin;
+        parts = m.parts;
+        marks = m.marks;
+        place = record {
+          idle = λ z. refl;
+          stands = λ z low. m.place.stays_out one has;
+          stays_out = λ z e. absurd (omega arith);
+          shares = λ e. absurd (omega arith);
+          turns = λ e. absurd (omega arith);
+          knows = λ e. absurd (true≢false (sym e));
+        };
+      })
 
-    alone : (by : ℕ) (u : View) → by ≢ id → Fits origin h.now by u → u.has_turn ≡ true → ⊥
-    alone by u apart f = not_theirs origin h.now by id u v f mine apart has
+  -- the share of the next caller is taken, who is outside
+  pub gathered_holds : 1 ≤ v.own.number → v.stage ≡ 3 → v.gathered < origin.callers → get_or s.words (16 * (v.gathered + 1)) 0 ≡ 0
+      → Holds origin record { words = s.words; homes = set s.homes (8 * (v.gathered + 1)) none; views = set s.views id (gathering (shelved origin h.now.log h.now.shelf) v) }
+  gathered_holds one has more outside =
+      let m = mine in let t = m.place.turns has in let k = h.callers (v.gathered + 1) (omega arith) (omega arith) in let same = t.1 in
+      turned_holds h.now.turn (v.gathered + 1) s.words (set s.homes (8 * (v.gathered + 1)) none) (gathering (shelved origin h.now.log h.now.shelf) v) (λ x c. c) (alone one has) refl (λ j some_j. refl) h.turn (λ z. let a = t.0 in absurd (omega arith)) (omega arith)
+      (λ c low high. let b = h.callers c low high in record {
+        outside = b.outside;
+        inside = b.inside;
+        home = λ calm late. set_else s.homes (8 * (v.gathered + 1)) (8 * c) none (λ e. omega arith) ∙ b.home calm (omega arith);
+        apart = λ e. dite (ℕ_discrete c (v.gathered + 1)) (λ (is : c ≡ v.gathered + 1). let i = k.inside (subst (λ j. 0 < h.now.stage j) is (omega arith)) in absurd (omega arith)) (λ (ne : c ≢ v.gathered + 1). let a = b.apart e in omega arith);
+      })
+      (record {
+        same_origin = m.same_origin;
+        parts = m.parts;
+        marks = m.marks;
+        place = record {
+          idle = λ z. absurd (omega arith);
+          stands = λ z low. absurd (omega arith);
+          stays_out = λ z e. m.place.stays_out one has;
+          shares = λ e. absurd (omega arith);
+          turns = λ e. (t.0, refl, λ z. (refl, refl));
+          knows = λ e. absurd (true≢false (sym e));
+        };
+      })
 
-    pub looked_holds : (n : ℕ) → Holds origin record { words = set s.words 1 (slice_index s.words 1); homes = s.homes; views = set s.views id (looking n v) }
-    looked_holds n =
-        let w = looking n v in
-        record {
-          now = h.now;
-          words = ap (λ ws. set ws 1 (slice_index ws 1)) h.words;
-          home = h.home;
-          fits = each_set (Fits origin h.now) (Fits origin h.now) s.views id w h.fits
-              (λ by u _ f. f)
-              (record {
-                same_origin = mine.same_origin;
-                parts = All-cons (PartFits h.now.log h.now.owner h.now.named id) w.own [] (record { after = []; is = sym my_log ∙ sym (append-nil v.log); alone = λ _. All-nil (λ e. e.caller ≢ v.own.number); owned = own_part.owned }) (All-nil (PartFits h.now.log h.now.owner h.now.named id));
-                marks = mine.marks;
-                turns = mine.turns;
-              });
-          few = h.few;
-          long = h.long;
-          entries = entries_as w (λ x c. c) h.now.owner h.now.named level same_owner;
-          source = source_as w (λ x c. c) h.now.owner h.now.named level same_owner h.now.latest h.source;
-        }
+  pub next_at_home : v.stage ≡ 3 → v.gathered < origin.callers → get_or s.words (16 * (v.gathered + 1)) 0 ≡ 0 → get_elem? s.homes (8 * (v.gathered + 1)) ≡ some (some (Some (shelved origin h.now.log h.now.shelf)))
+  next_at_home has more outside =
+      let t = mine.place.turns has in let k = h.callers (v.gathered + 1) (omega arith) (omega arith) in let same = t.1 in
+      k.home (dite (ℕ_discrete (h.now.stage (v.gathered + 1)) 0) (λ (z : h.now.stage (v.gathered + 1) ≡ 0). omega arith) (λ (nz : h.now.stage (v.gathered + 1) ≢ 0). let i = k.inside (omega arith) in absurd (omega arith))) (omega arith)
 
-    pub raised_holds : (t : ℕ) → Holds origin record { words = set s.words 2 (max (slice_index s.words 2) t); homes = s.homes; views = set s.views id (raising t v) }
-    raised_holds t =
-        let w = raising t v in
-        let latest : ℕ = max h.now.latest t in
-        let keep : (x : ℕ × ℕ) → Contains v.marks x → Contains w.marks x = λ x c. Contains-append_left v.marks ((length v.log, t) ∷ []) x c in
-        let now : Now = record { log = h.now.log; owner = h.now.owner; turn = h.now.turn; latest = latest; named = h.now.named } in
-        record {
-          now = now;
-          words = ap (λ ws. set ws 2 (max (slice_index ws 2) t)) h.words;
-          home = λ e. let a = number in let b = my_turn in absurd (omega arith);
-          fits = each_set (Fits origin h.now) (Fits origin now) s.views id w h.fits
-              (λ by u apart f. calm h.now.turn latest by u (omega arith) (alone by u apart f) f)
-              (record {
-                same_origin = mine.same_origin;
-                parts = mine.parts;
-                marks = All-push (MarkFits h.now.log latest) v.marks (length v.log, t)
-                    (All-weaker (MarkFits h.now.log h.now.latest) (MarkFits h.now.log latest) (λ m f. record { front = f.front; moment = let a = f.moment in omega arith; above = f.above }) v.marks mine.marks)
-                    (record { front = let a = ap length my_log in omega arith; moment = omega arith; above = subst (λ l. All (λ e. t ≤ e.stamp) (drop (length l) h.now.log)) (sym my_log) (subst (All (λ e. t ≤ e.stamp)) (sym (drop-all h.now.log)) (All-nil (λ e. t ≤ e.stamp))) });
-                turns = λ _. (number, my_turn, my_log, ap (λ n. max n t) my_latest);
-              });
-          few = h.few;
-          long = h.long;
-          entries = entries_as w keep h.now.owner h.now.named level same_owner;
-          source = larger (λ m. IsSourced origin h.now.owner h.now.named (set s.views id w) m) h.now.latest t (source_as w keep h.now.owner h.now.named level same_owner h.now.latest h.source)
-              (inr (record { caller = v.own.number; one = number; most = (own_part.owned number).0; view = w; there = subst (λ j. get_elem? (set s.views id w) j ≡ some w) (sym (own_part.owned number).1) (at_here s.views id v w at); front = length v.log; mark = Contains-push v.marks (length v.log, t) }));
-        }
+  -- a share goes back
+  pub filled_holds : (b : BookValue) → 1 ≤ v.own.number → v.stage ≡ 3 → 0 < v.gathered → v.live ≡ true → b ≡ held_book v → length s.homes ≡ 8 * origin.callers + 8
+      → Holds origin record { words = s.words; homes = set s.homes (8 * v.gathered) (some (Some b)); views = set s.views id (filling v) }
+  filled_holds b one has some_share live is deep =
+      let m = mine in let t = m.place.turns has in let same = t.1 in let most = h.most in
+      let full : b ≡ shelved origin h.now.log h.now.shelf = is ∙ held_is live (t.2 some_share) in
+      turned_holds h.now.turn (v.gathered - 1) s.words (set s.homes (8 * v.gathered) (some (Some b))) (filling v) (λ x c. c) (alone one has) refl (λ j some_j. refl) h.turn (λ z. let a = t.0 in absurd (omega arith)) (omega arith)
+      (λ c low high. let k = h.callers c low high in record {
+        outside = k.outside;
+        inside = k.inside;
+        home = λ calm late. dite (ℕ_discrete c v.gathered)
+            (λ (e : c ≡ v.gathered). subst (λ j. get_elem? (set s.homes (8 * v.gathered) (some (Some b))) (8 * j) ≡ some (some (Some (shelved origin h.now.log h.now.shelf)))) (sym e) (set_here s.homes (8 * v.gathered) (some (Some b)) (omega arith) ∙ ap (λ (x : BookValue). some (some (Some x))) full))
+            (λ (ne : c ≢ v.gathered). set_else s.homes (8 * v.gathered) (8 * c) (some (Some b)) (λ e. ne (omega arith)) ∙ k.home calm (omega arith));
+        apart = λ e. let a = k.apart e in omega arith;
+      })
+      (record {
+        same_origin = m.same_origin;
+        parts = m.parts;
+        marks = m.marks;
+        place = record {
+          idle = λ z. absurd (omega arith);
+          stands = λ z low. absurd (omega arith);
+          stays_out = λ z e. m.place.stays_out one has;
+          shares = λ e. absurd (omega arith);
+          turns = λ e. (t.0, refl, λ z. t.2 some_share);
+          knows = λ e. absurd (true≢false (sym e));
+        };
+      })
 
-    pub appended_holds : (e : Entry) (log : List Entry) (next : ℕ) → v.others ≡ [] → log ≡ v.log ++ e ∷ [] → e.caller ≡ v.own.number → e.stamp ≡ v.latest → next ≡ length h.now.log + 1
-        → Holds origin record { words = set s.words 1 next; homes = s.homes; views = set s.views id (appending log v) }
-    appended_holds e log next single is caller stamp count =
-        let w = appending log v in
-        let full : log ≡ h.now.log ++ e ∷ [] = is ∙ ap (λ l. l ++ e ∷ []) my_log in
-        let owned : (v.own.number ≤ h.now.named) × (h.now.owner v.own.number ≡ id) = own_part.owned number in
-        let owner_is : h.now.owner e.caller ≡ id = ap h.now.owner caller ∙ owned.1 in
-        let stamp_is : e.stamp ≡ h.now.latest = stamp ∙ my_latest in
-        let marks_kept : (u : View) → All (MarkFits h.now.log h.now.latest) u.marks → All (MarkFits (h.now.log ++ e ∷ []) h.now.latest) u.marks = λ u. All-weaker (MarkFits h.now.log h.now.latest) (MarkFits (h.now.log ++ e ∷ []) h.now.latest) (λ m. mark_push h.now.log h.now.latest e m stamp_is) u.marks in
-        let now : Now = record { log = h.now.log ++ e ∷ []; owner = h.now.owner; turn = h.now.turn; latest = h.now.latest; named = h.now.named } in
-        record {
-          now = now;
-          words = ap (λ ws. set ws 1 next) h.words ∙ ap (λ n. h.now.turn ∷ n ∷ h.now.latest ∷ h.now.named ∷ []) (count ∙ sym (length-append h.now.log (e ∷ [])));
-          home = λ z. let a = number in let b = my_turn in absurd (omega arith);
-          fits = each_set (Fits origin h.now) (Fits origin now) s.views id w h.fits
-              (λ by u apart f. record {
-                same_origin = f.same_origin;
-                parts = All-weaker (PartFits h.now.log h.now.owner h.now.named by) (PartFits (h.now.log ++ e ∷ []) h.now.owner h.now.named by) (λ p. part_push h.now.log h.now.owner h.now.named by id e p owner_is apart) (u.own ∷ u.others) f.parts;
-                marks = marks_kept u f.marks;
-                turns = λ theirs. absurd (alone by u apart f theirs);
-              })
-              (record {
-                same_origin = mine.same_origin;
-                parts = subst (λ ps. All (PartFits (h.now.log ++ e ∷ []) h.now.owner h.now.named id) (w.own ∷ ps)) (sym single) (All-cons (PartFits (h.now.log ++ e ∷ []) h.now.owner h.now.named id) w.own [] (record { after = []; is = sym full ∙ sym (append-nil log); alone = λ _. All-nil (λ x. x.caller ≢ v.own.number); owned = own_part.owned }) (All-nil (PartFits (h.now.log ++ e ∷ []) h.now.owner h.now.named id)));
-                marks = marks_kept v mine.marks;
-                turns = λ _. (number, my_turn, full, my_latest);
-              });
-          few = h.few;
-          long = let a = h.long in omega (arith, length-append h.now.log (e ∷ []));
-          entries = rw (drop-append-le origin.size h.now.log (e ∷ []) h.long) (All-push (EntryFits origin h.now.owner h.now.named (set s.views id w)) (drop origin.size h.now.log) e (entries_as w (λ x c. c) h.now.owner h.now.named level same_owner)
-              (let a = number in let b = owned.0 in omega arith, let a = owned.0 in omega arith, subst (IsSourced origin h.now.owner h.now.named (set s.views id w)) (sym stamp_is) (source_as w (λ x c. c) h.now.owner h.now.named level same_owner h.now.latest h.source)));
-          source = source_as w (λ x c. c) h.now.owner h.now.named level same_owner h.now.latest h.source;
-        }
+  pub named_holds : (new : ℕ) → v.stage ≡ 0 → origin.size ≤ length v.own.seen → new ≡ h.now.named + 1 → new ≤ origin.callers → Holds origin record { words = set s.words 3 new; homes = s.homes; views = set s.views id (named_as new v) }
+  named_holds new out long next few =
+      let m = mine in let wide = h.wide in
+      let owner : ℕ → ℕ = given h.now.owner new id in
+      let other_owner : (c : ℕ) → c ≤ h.now.named → owner c ≡ h.now.owner c = λ c le. given-else h.now.owner new id c (λ e. omega arith) in
+      let le : h.now.named ≤ new = omega arith in
+      let after : List Entry = own_part.after in
+      let unnamed : All (λ e. e.caller ≢ new) after = All-weaker (EntryFits origin h.now.owner h.now.named s.views) (λ e. e.caller ≢ new) (λ e t same. let a = t.1 in omega arith) after (all_after (EntryFits origin h.now.owner h.now.named s.views) origin.size v.own.seen after long (subst (λ l. All (EntryFits origin h.now.owner h.now.named s.views) (drop origin.size l)) own_part.is h.entries)) in
+      let now : Now = record h.now { owner = owner; named = new } in
+      record {
+        now = now;
+        wide = length-set s.words 3 new ∙ h.wide;
+        turn = get_or-set_other s.words 3 0 new 0 (λ e. omega arith) ∙ h.turn;
+        count = get_or-set_other s.words 3 1 new 0 (λ e. omega arith) ∙ h.count;
+        latest = get_or-set_other s.words 3 2 new 0 (λ e. omega arith) ∙ h.latest;
+        named = get_or-set_same s.words 3 new 0 (omega arith);
+        free = h.free;
+        most = h.most;
+        unnamed = λ c late. h.unnamed c (omega arith);
+        callers = λ c low high. same_caller origin h.now now s.words (set s.words 3 new) s.homes s.homes c refl refl refl refl (get_or-set_other s.words 3 (16 * c) new 0 (λ e. omega arith)) refl (h.callers c low high);
+        shelf = h.shelf;
+        bound = h.bound;
+        fits = each_set (Fits origin h.now) (Fits origin now) s.views id (named_as new v) h.fits
+            (λ by u _ f. record {
+              same_origin = f.same_origin;
+              parts = parts_under h.now.log h.now.owner owner h.now.named new by by (u.own ∷ u.others) le (λ c one most is. other_owner c most ∙ is) f.parts;
+              marks = f.marks;
+              place = record { idle = f.place.idle; stands = f.place.stands; stays_out = f.place.stays_out; shares = f.place.shares; turns = f.place.turns; knows = f.place.knows };
+            })
+            (record {
+              same_origin = m.same_origin;
+              parts = All-cons (PartFits h.now.log owner new id) (named_as new v).own v.others (record { after = after; is = own_part.is; alone = λ _. unnamed; owned = λ _. (omega arith, given-at h.now.owner new id) }) (parts_under h.now.log h.now.owner owner h.now.named new id id v.others le (λ c one most is. other_owner c most ∙ is) other_parts);
+              marks = m.marks;
+              place = record {
+                idle = λ z. out;
+                stands = λ z low. h.unnamed new (omega arith) ∙ sym out;
+                stays_out = λ z e. absurd (omega arith);
+                shares = λ e. absurd (omega arith);
+                turns = λ e. absurd (omega arith);
+                knows = λ e. let a = (m.place.knows e).0 in absurd (omega arith);
+              };
+            });
+        few = few;
+        long = h.long;
+        entries = entries_as (named_as new v) (λ x c. c) owner new le other_owner;
+        source = source_as (named_as new v) (λ x c. c) owner new le other_owner h.now.latest h.source;
+      }
 
-    pub given_holds : (b : BookValue) → 0 < length s.homes → v.live ≡ true → b ≡ record { opening = v.origin.opening; log = v.log; latest = v.latest }
-        → Holds origin record { words = set s.words 0 0; homes = set s.homes 0 (some (Some b)); views = set s.views id (giving v) }
-    given_holds b deep live is =
-        let w = giving v in
-        let same : b ≡ shelved origin h.now.log h.now.latest = λ i. record { opening = (ap (λ (x : BookValue). x.opening) is ∙ ap (λ (x : Origin). x.opening) (mine.same_origin live)) i; log = (ap (λ (x : BookValue). x.log) is ∙ my_log) i; latest = (ap (λ (x : BookValue). x.latest) is ∙ my_latest) i } in
-        let now : Now = record { log = h.now.log; owner = h.now.owner; turn = 0; latest = h.now.latest; named = h.now.named } in
-        record {
-          now = now;
-          words = ap (λ ws. set ws 0 0) h.words;
-          home = λ _. subst (λ x. get_elem? (set s.homes 0 (some (Some b))) 0 ≡ some (some (Some x))) same (set_here s.homes 0 (some (Some b)) deep);
-          fits = each_set (Fits origin h.now) (Fits origin now) s.views id w h.fits
-              (λ by u apart f. calm 0 h.now.latest by u (omega arith) (alone by u apart f) f)
-              (record { same_origin = mine.same_origin; parts = mine.parts; marks = mine.marks; turns = λ e. absurd (true≢false (sym e)) });
-          few = h.few;
-          long = h.long;
-          entries = entries_as w (λ x c. c) h.now.owner h.now.named level same_owner;
-          source = source_as w (λ x c. c) h.now.owner h.now.named level same_owner h.now.latest h.source;
-        }
+  -- another seat stands as before, where this one has every share
+  none_other : (now' : Now) → 1 ≤ v.own.number → v.stage ≡ 3 → origin.callers ≤ h.now.gathered → ((c : ℕ) → now'.stage c ≡ h.now.stage c) → (by : ℕ) (u : View) → by ≢ id → Fits origin h.now by u → Stands origin now' u
+  none_other now' one has every same by u other f = record {
+    idle = f.place.idle;
+    stands = λ some_number low. same u.own.number ∙ f.place.stands some_number low;
+    stays_out = λ some_number e. same u.own.number ∙ f.place.stays_out some_number e;
+    shares = λ e. absurd (none_inside every by u f e);
+    turns = λ e. absurd (alone one has by u other f e);
+    knows = λ e. absurd (alone one has by u other f (f.place.knows e).0);
+  }
+
+  -- the latest stamp is known, with every share
+  pub measured_holds : 1 ≤ v.own.number → v.stage ≡ 3 → v.gathered ≡ origin.callers → Holds origin record { words = s.words; homes = s.homes; views = set s.views id (knowing h.now.latest v) }
+  measured_holds one has all =
+      let m = mine in let t = m.place.turns has in let same = t.1 in let every : origin.callers ≤ h.now.gathered = omega arith in
+      let now : Now = record h.now { shelf = h.now.latest } in let w = knowing h.now.latest v in
+      record {
+        now = now;
+        wide = h.wide;
+        turn = h.turn;
+        count = h.count;
+        latest = h.latest;
+        named = h.named;
+        free = h.free;
+        most = h.most;
+        unnamed = h.unnamed;
+        callers = λ c low high. let k = h.callers c low high in record { outside = k.outside; inside = k.inside; home = λ calm late. absurd (omega arith); apart = k.apart };
+        shelf = omega arith;
+        bound = h.bound;
+        fits = each_set (Fits origin h.now) (Fits origin now) s.views id w h.fits
+            (λ by u other f. record { same_origin = f.same_origin; parts = f.parts; marks = f.marks; place = none_other now one has every (λ c. refl) by u other f })
+            (record {
+              same_origin = m.same_origin;
+              parts = m.parts;
+              marks = m.marks;
+              place = record { idle = m.place.idle; stands = m.place.stands; stays_out = m.place.stays_out; shares = λ e. absurd (omega arith); turns = λ e. (t.0, t.1, λ z. ((t.2 z).0, refl)); knows = λ e. (has, every, refl) };
+            });
+        few = h.few;
+        long = h.long;
+        entries = entries_as w (λ x c. c) h.now.owner h.now.named level same_owner;
+        source = source_as w (λ x c. c) h.now.owner h.now.named level same_owner h.now.latest h.source;
+      }
+
+  pub appended_holds : (e : Entry) (log : List Entry) (next : ℕ) → 1 ≤ v.own.number → v.knows ≡ true → 0 < v.gathered → v.others ≡ [] → log ≡ v.log ++ e ∷ [] → e.caller ≡ v.own.number → e.stamp ≡ v.latest → next ≡ length h.now.log + 1
+      → Holds origin record { words = set s.words 1 next; homes = s.homes; views = set s.views id (appending log v) }
+  appended_holds e log next one whole some_share single is caller stamp count =
+      let m = mine in let w = appending log v in let wide = h.wide in
+      let k = m.place.knows whole in let has = k.0 in let every = k.1 in let t = m.place.turns has in
+      let full : log ≡ h.now.log ++ e ∷ [] = is ∙ ap (λ l. l ++ e ∷ []) (t.2 some_share).0 in
+      let owned : (v.own.number ≤ h.now.named) × (h.now.owner v.own.number ≡ id) = own_part.owned one in
+      let owner_is : h.now.owner e.caller ≡ id = ap h.now.owner caller ∙ owned.1 in
+      let stamp_is : e.stamp ≡ h.now.latest = stamp ∙ k.2 in
+      let marks_kept : (u : View) → All (MarkFits h.now.log h.now.latest) u.marks → All (MarkFits (h.now.log ++ e ∷ []) h.now.latest) u.marks = λ u. All-weaker (MarkFits h.now.log h.now.latest) (MarkFits (h.now.log ++ e ∷ []) h.now.latest) (λ m. mark_push h.now.log h.now.latest e m stamp_is) u.marks in
+      let now : Now = record h.now { log = h.now.log ++ e ∷ [] } in
+      record {
+        now = now;
+        wide = length-set s.words 1 next ∙ h.wide;
+        turn = get_or-set_other s.words 1 0 next 0 (λ z. omega arith) ∙ h.turn;
+        count = get_or-set_same s.words 1 next 0 (omega arith) ∙ count ∙ sym (length-append h.now.log (e ∷ []));
+        latest = get_or-set_other s.words 1 2 next 0 (λ z. omega arith) ∙ h.latest;
+        named = get_or-set_other s.words 1 3 next 0 (λ z. omega arith) ∙ h.named;
+        free = h.free;
+        most = h.most;
+        unnamed = h.unnamed;
+        callers = λ c low high. let b = h.callers c low high in record {
+          outside = λ z. get_or-set_other s.words 1 (16 * c) next 0 (λ z. omega arith) ∙ b.outside z;
+          inside = λ z. get_or-set_other s.words 1 (16 * c) next 0 (λ z. omega arith) ∙ b.inside z;
+          home = λ calm late. absurd (omega arith);
+          apart = b.apart;
+        };
+        shelf = h.shelf;
+        bound = h.bound;
+        fits = each_set (Fits origin h.now) (Fits origin now) s.views id w h.fits
+            (λ by u other f. record {
+              same_origin = f.same_origin;
+              parts = All-weaker (PartFits h.now.log h.now.owner h.now.named by) (PartFits (h.now.log ++ e ∷ []) h.now.owner h.now.named by) (λ p. part_push h.now.log h.now.owner h.now.named by id e p owner_is other) (u.own ∷ u.others) f.parts;
+              marks = marks_kept u f.marks;
+              place = none_other now one has every (λ c. refl) by u other f;
+            })
+            (record {
+              same_origin = m.same_origin;
+              parts = subst (λ ps. All (PartFits (h.now.log ++ e ∷ []) h.now.owner h.now.named id) (w.own ∷ ps)) (sym single) (All-cons (PartFits (h.now.log ++ e ∷ []) h.now.owner h.now.named id) w.own [] (record { after = []; is = sym full ∙ sym (append-nil log); alone = λ _. All-nil (λ x. x.caller ≢ v.own.number); owned = own_part.owned }) (All-nil (PartFits (h.now.log ++ e ∷ []) h.now.owner h.now.named id)));
+              marks = marks_kept v m.marks;
+              place = record {
+                idle = m.place.idle;
+                stands = m.place.stands;
+                stays_out = m.place.stays_out;
+                shares = λ z. absurd (omega arith);
+                turns = λ z. (t.0, t.1, λ z. (full, (t.2 some_share).1));
+                knows = m.place.knows;
+              };
+            });
+        few = h.few;
+        long = let a = h.long in omega (arith, length-append h.now.log (e ∷ []));
+        entries = rw (drop-append-le origin.size h.now.log (e ∷ []) h.long) (All-push (EntryFits origin h.now.owner h.now.named (set s.views id w)) (drop origin.size h.now.log) e (entries_as w (λ x c. c) h.now.owner h.now.named level same_owner)
+            (omega (arith, caller, one), let a = owned.0 in omega (arith, caller, a), subst (IsSourced origin h.now.owner h.now.named (set s.views id w)) (sym stamp_is) (source_as w (λ x c. c) h.now.owner h.now.named level same_owner h.now.latest h.source)));
+        source = source_as w (λ x c. c) h.now.owner h.now.named level same_owner h.now.latest h.source;
+      }
+
+  -- the latest stamp is raised to a moment, of which this seat keeps a mark
+  higher_holds : (t shelf : ℕ) (w : View) → t ≤ stamp_limit → 1 ≤ v.own.number → v.log ≡ h.now.log → shelf ≤ max h.now.latest t → w.marks ≡ v.marks ++ (length v.log, t) ∷ [] → (w.live ≡ true → w.origin ≡ origin) → All (PartFits h.now.log h.now.owner h.now.named id) (w.own ∷ w.others)
+      → ((c : ℕ) → 1 ≤ c → c ≤ origin.callers → h.now.stage c < 2 → h.now.gathered < c → shelf ≡ h.now.shelf)
+      → ((by : ℕ) (u : View) → by ≢ id → Fits origin h.now by u → Stands origin (record h.now { latest = max h.now.latest t; shelf = shelf }) u) → Stands origin (record h.now { latest = max h.now.latest t; shelf = shelf }) w
+      → Holds origin record { words = set s.words 2 (max (get_or s.words 2 0) t); homes = s.homes; views = set s.views id w }
+  higher_holds t shelf w low_enough one log shelf_low marks same_origin parts kept others place =
+      let m = mine in let wide = h.wide in
+      let next : ℕ = max (get_or s.words 2 0) t in
+      let latest : ℕ = max h.now.latest t in
+      let now : Now = record h.now { latest = latest; shelf = shelf } in
+      let keep : (x : ℕ × ℕ) → Contains v.marks x → Contains w.marks x = λ x c. subst (λ ms. Contains ms x) (sym marks) (Contains-append_left v.marks ((length v.log, t) ∷ []) x c) in
+      let higher : (u : View) → All (MarkFits h.now.log h.now.latest) u.marks → All (MarkFits h.now.log latest) u.marks = λ u. All-weaker (MarkFits h.now.log h.now.latest) (MarkFits h.now.log latest) (λ k f. record { front = f.front; moment = let a = f.moment in omega arith; above = f.above }) u.marks in
+      record {
+        now = now;
+        wide = length-set s.words 2 next ∙ h.wide;
+        turn = get_or-set_other s.words 2 0 next 0 (λ z. omega arith) ∙ h.turn;
+        count = get_or-set_other s.words 2 1 next 0 (λ z. omega arith) ∙ h.count;
+        latest = get_or-set_same s.words 2 next 0 (omega arith) ∙ ap (λ (k : ℕ). max k t) h.latest;
+        named = get_or-set_other s.words 2 3 next 0 (λ z. omega arith) ∙ h.named;
+        free = h.free;
+        most = h.most;
+        unnamed = h.unnamed;
+        callers = λ c low high. let b = h.callers c low high in record {
+          outside = λ z. get_or-set_other s.words 2 (16 * c) next 0 (λ z. omega arith) ∙ b.outside z;
+          inside = λ z. get_or-set_other s.words 2 (16 * c) next 0 (λ z. omega arith) ∙ b.inside z;
+          home = λ calm late. b.home calm late ∙ ap (λ (k : ℕ). some (some (Some (shelved origin h.now.log k)))) (sym (kept c low high calm late));
+          apart = b.apart;
+        };
+        shelf = shelf_low;
+        bound = let a = h.bound in omega arith;
+        fits = each_set (Fits origin h.now) (Fits origin now) s.views id w h.fits
+            (λ by u other f. record { same_origin = f.same_origin; parts = f.parts; marks = higher u f.marks; place = others by u other f })
+            (record {
+              same_origin = same_origin;
+              parts = parts;
+              marks = subst (All (MarkFits h.now.log latest)) (sym marks) (All-push (MarkFits h.now.log latest) v.marks (length v.log, t) (higher v m.marks)
+                  (record { front = let a = ap length log in omega arith; moment = omega arith; above = subst (λ l. All (λ e. t ≤ e.stamp) (drop (length l) h.now.log)) (sym log) (subst (All (λ e. t ≤ e.stamp)) (sym (drop-all h.now.log)) (All-nil (λ e. t ≤ e.stamp))) }));
+              place = place;
+            });
+        few = h.few;
+        long = h.long;
+        entries = entries_as w keep h.now.owner h.now.named level same_owner;
+        source = larger (λ m. IsSourced origin h.now.owner h.now.named (set s.views id w) m) h.now.latest t (source_as w keep h.now.owner h.now.named level same_owner h.now.latest h.source)
+            (inr (record { caller = v.own.number; one = one; most = (own_part.owned one).0; view = w; there = subst (λ j. get_elem? (set s.views id w) j ≡ some w) (sym (own_part.owned one).1) (at_here s.views id v w at); front = length v.log; mark = subst (λ ms. Contains ms (length v.log, t)) (sym marks) (Contains-push v.marks (length v.log, t)) }));
+      }
+
+  pub raised_holds : (t : ℕ) → t ≤ stamp_limit → 1 ≤ v.own.number → v.stage ≡ 2 → Holds origin record { words = set s.words 2 (max (get_or s.words 2 0) t); homes = s.homes; views = set s.views id (raising t v) }
+  raised_holds t low_enough one inside =
+      let m = mine in
+      let none_knows : (by : ℕ) (u : View) → Fits origin h.now by u → u.knows ≡ true → ⊥ = λ by u f e. let a = (f.place.knows e).1 in let c = number_in one in let k = (my_caller one).apart (m.place.stands one (omega arith) ∙ inside) in omega arith in
+      higher_holds t h.now.shelf (raising t v) low_enough one (m.place.shares inside).0 (let a = h.shelf in omega arith) refl m.same_origin m.parts (λ c low high calm late. refl)
+      (λ by u other f. record { idle = f.place.idle; stands = f.place.stands; stays_out = f.place.stays_out; shares = f.place.shares; turns = f.place.turns; knows = λ e. absurd (none_knows by u f e) })
+      (record { idle = m.place.idle; stands = m.place.stands; stays_out = m.place.stays_out; shares = m.place.shares; turns = m.place.turns; knows = λ e. absurd (none_knows id v m e) })
+
+  -- the same, with every share
+  pub lifted_holds : (t : ℕ) → t ≤ stamp_limit → 1 ≤ v.own.number → v.knows ≡ true → 0 < v.gathered
+      → Holds origin record { words = set s.words 2 (max (get_or s.words 2 0) t); homes = s.homes; views = set s.views id (knowing (max v.latest t) (raising t v)) }
+  lifted_holds t low_enough one whole some_share =
+      let m = mine in let k = m.place.knows whole in let has = k.0 in let every = k.1 in let tu = m.place.turns has in
+      let latest : ℕ = max h.now.latest t in
+      let same : max v.latest t ≡ latest = ap (λ (j : ℕ). max j t) k.2 in
+      higher_holds t latest (knowing (max v.latest t) (raising t v)) low_enough one (tu.2 some_share).0 (omega arith) refl m.same_origin m.parts (λ c low high calm late. absurd (omega arith))
+      (none_other (record h.now { latest = latest; shelf = latest }) one has every (λ c. refl))
+      (record { idle = m.place.idle; stands = m.place.stands; stays_out = m.place.stays_out; shares = λ e. absurd (omega arith); turns = λ e. (tu.0, tu.1, λ z. ((tu.2 some_share).0, same)); knows = λ e. (has, every, same) })

@@ -4,5 +4,8 @@ pub mod Fits
 pub mod Holds
 pub mod Plays
 pub mod SeatLemmas
+pub mod ShareLemmas
+pub mod Founds
+pub mod Laying
 pub mod Desks
 pub mod Shops

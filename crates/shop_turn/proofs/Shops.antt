@@ -29,7 +29,7 @@ opened_more table b callers i ds more d are pushed is =
 -- a step of the first seat leaves the table laid
 pub laid_again : (b : BookValue) (callers : ℕ) (id : TableId) (key : Start) (root root' : Place) → IsLaid b callers id key root → SeatIs root root.me root' → IsLaid b callers id key root'
 laid_again b callers id key root root' laid same = record {
-  at = record { table = same.0 ∙ laid.at.table; words = laid.at.words; slots = laid.at.slots };
+  at = record { table = same.0 ∙ laid.at.table; words = laid.at.words; slots = laid.at.slots; few = laid.at.few };
   me = same.2 ∙ laid.me;
   key_book = laid.key_book;
   key_callers = laid.key_callers;

@@ -1,5 +1,5 @@
 -- What contracts see of a desk, and what it means to its caller.
-use Rattle.std.specs.Prelude.{◌≡◌, ℕ, ◌≤◌, max, List, [], ◌∷◌, map, length, drop, None, Contains}
+use Rattle.std.specs.Prelude.{◌≡◌, ℕ, ◌+◌, ◌*◌, ◌^◌, ◌<◌, ◌≤◌, max, List, [], ◌∷◌, map, length, drop, None, Contains}
 use Rattle.atomic_table.specs.Seated.{TableId}
 use Rattle.shop_log.specs.Histories.{Extends}
 use Rattle.shop_history.specs.declared.acts.Entry.{Entry}
@@ -10,6 +10,7 @@ use Rattle.shop_attempt.specs.Marks.{AreMarks, StillMarked, LeavesMark}
 use Rattle.shop_attempt.specs.Seats.{Seat, IsSeat, Follows, Looked, Rose, RoseOnce}
 use Rattle.shop_attempt.specs.Settles.{SettledAs}
 use Rattle.shop_turn.specs.declared.rule.Origin.{Origin}
+use Rattle.shop_turn.specs.declared.rule.Start.{Start}
 use Rattle.shop_turn.specs.declared.rule.View.{View}
 use Rattle.shop_turn.specs.Plays.{AtTable}
 use Rattle.shop_turn.specs.Seats.{IsReady}
@@ -37,11 +38,13 @@ desk_value table number view = record {
 }
 
 -- what holds of every desk between two calls
-pub record IsDesk (id table : TableId) (number : ℕ) (m : AtTable) : Type 0 where
+pub record IsDesk (id : TableId) (key : Start) (table : TableId) (number callers : ℕ) (m : AtTable) : Type 0 where
   pub same : table ≡ id
-  pub words : id.words ≡ 4
-  pub slots : id.slots ≡ 1
-  pub ready : IsReady number m
+  pub words : id.words ≡ 16 * callers + 16
+  pub slots : id.slots ≡ 8 * callers + 8
+  pub few : callers < 2 ^ 32
+  pub callers_are : callers ≡ key.callers
+  pub ready : IsReady number callers m
   pub single : m.0.others ≡ []
   pub long : m.0.origin.size ≤ length m.0.own.seen
 

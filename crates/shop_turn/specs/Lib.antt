@@ -2,7 +2,9 @@ pub mod Views
 pub mod SpentViews
 pub mod Marks
 pub mod Rule
+pub mod Laid
 pub mod Plays
+pub mod Shared
 pub mod Seats
 pub mod Desks
 pub mod Shops

@@ -1,8 +1,10 @@
 -- The rule that a table of a shop keeps between any two steps.
-use Rattle.std.specs.Prelude.{◌≡◌, ◌≢◌, ◌⊎◌, ℕ, ◌≤◌, List, [], ◌∷◌, ◌++◌, length, drop, Option, Some, true, All, Contains}
+use Rattle.std.specs.Prelude.{◌≡◌, ◌≢◌, ◌⊎◌, ℕ, ◌+◌, ◌*◌, ◌<◌, ◌≤◌, List, ◌∷◌, ◌++◌, length, drop, slice_index, Option, Some, true, All, Contains}
 use mathlib.Core.Option.{some}
+use mathlib.Core.Option as maybe
 use lib.ListN.{get_elem?}
 use Rattle.atomic_table.specs.Table.{State}
+use Rattle.shop_model.specs.rows.Limits.{stamp_limit}
 use Rattle.shop_book.specs.Books.{BookValue}
 use Rattle.shop_history.specs.declared.acts.Entry.{Entry}
 use Rattle.shop_turn.specs.declared.rule.Origin.{Origin}
@@ -19,20 +21,52 @@ pub record PartFits (log : List Entry) (owner : ℕ → ℕ) (named index : ℕ)
   pub owned : 1 ≤ part.number → (part.number ≤ named) × (owner part.number ≡ index)
 
 -- how a shop stands: its log, which seat owns each number, who has the turn, the latest stamp, and the
--- largest number
+-- largest number; how many shares the one with the turn has, how each caller stands, and the latest
+-- stamp of the book that is shared
 pub record Now : Type 0 where
   pub log : List Entry
   pub owner : ℕ → ℕ
   pub turn : ℕ
   pub latest : ℕ
   pub named : ℕ
+  pub gathered : ℕ
+  pub stage : ℕ → ℕ
+  pub shelf : ℕ
 
--- the seat that has the turn is the one that `turn` names, and knows the log and the latest stamp
+-- the book of a shop that began so
+abbrev pub shelved : Origin → List Entry → ℕ → BookValue
+shelved origin log latest = record { opening = origin.opening; log = log; latest = latest }
+
+abbrev pub Homes : Type 0
+Homes = List (maybe.Option (Option BookValue))
+
+-- The share of a caller who is not inside lies in its slot, till the one with the turn takes it, who
+-- cannot while the caller is inside.
+pub record CallerFits (origin : Origin) (now : Now) (words : List ℕ) (homes : Homes) (c : ℕ) : Type 0 where
+  pub outside : now.stage c ≡ 0 → slice_index words (16 * c) ≡ 0
+  pub inside : 0 < now.stage c → slice_index words (16 * c) ≡ 1
+  pub home : now.stage c < 2 → now.gathered < c → get_elem? homes (8 * c) ≡ some (some (Some (shelved origin now.log now.shelf)))
+  pub apart : now.stage c ≡ 2 → now.gathered < c
+
+-- a share is of the log as it is
+abbrev pub HasShare : Now → View → Type 0
+HasShare now view = (view.log ≡ now.log) × (view.latest ≡ now.shelf)
+
+-- how a seat stands, whose number is named: outside, at the door, inside with its share, or with the turn
+pub record Stands (origin : Origin) (now : Now) (view : View) : Type 0 where
+  pub idle : view.own.number ≡ 0 → view.stage ≡ 0
+  pub stands : 1 ≤ view.own.number → view.stage < 3 → now.stage view.own.number ≡ view.stage
+  pub stays_out : 1 ≤ view.own.number → view.stage ≡ 3 → now.stage view.own.number ≡ 0
+  pub shares : view.stage ≡ 2 → HasShare now view
+  pub turns : view.stage ≡ 3 → (now.turn ≡ view.own.number) × (now.gathered ≡ view.gathered) × (0 < view.gathered → HasShare now view)
+  pub knows : view.knows ≡ true → (view.stage ≡ 3) × (origin.callers ≤ now.gathered) × (view.latest ≡ now.latest)
+
+-- the seat by an index knows the shop so far
 pub record Fits (origin : Origin) (now : Now) (index : ℕ) (view : View) : Type 0 where
   pub same_origin : view.live ≡ true → view.origin ≡ origin
   pub parts : All (PartFits now.log now.owner now.named index) (view.own ∷ view.others)
   pub marks : All (MarkFits now.log now.latest) view.marks
-  pub turns : view.has_turn ≡ true → (1 ≤ view.own.number) × (now.turn ≡ view.own.number) × (view.log ≡ now.log) × (view.latest ≡ now.latest)
+  pub place : Stands origin now view
 
 -- this is the moment of a mark of the seat that owns a caller's number
 pub record IsMarked (owner : ℕ → ℕ) (named : ℕ) (views : List View) (moment : ℕ) : Type 0 where
@@ -52,16 +86,22 @@ abbrev pub EntryFits : Origin → (ℕ → ℕ) → ℕ → List View → Entry 
 EntryFits origin owner named views e =
     (1 ≤ e.caller) × (e.caller ≤ named) × IsSourced origin owner named views e.stamp
 
--- the book of a shop that began so
-abbrev pub shelved : Origin → List Entry → ℕ → BookValue
-shelved origin log latest = record { opening = origin.opening; log = log; latest = latest }
-
--- There is one log, which the words count; while nobody has the turn, its book is in the slot; all seats
--- know it so far; and its entries beyond the opening ones are those of callers with numbers.
+-- There is one log, which the words count; shares of its book are with the callers inside, with the one
+-- who has the turn, and in the slots; all seats know it so far; and its entries beyond the opening ones
+-- are those of callers with numbers.
 pub record Holds (origin : Origin) (s : State (Option BookValue) View) : Type 0 where
   pub now : Now
-  pub words : s.words ≡ now.turn ∷ length now.log ∷ now.latest ∷ now.named ∷ []
-  pub home : now.turn ≡ 0 → get_elem? s.homes 0 ≡ some (some (Some (shelved origin now.log now.latest)))
+  pub wide : length s.words ≡ 16 * origin.callers + 16
+  pub turn : slice_index s.words 0 ≡ now.turn
+  pub count : slice_index s.words 1 ≡ length now.log
+  pub latest : slice_index s.words 2 ≡ now.latest
+  pub named : slice_index s.words 3 ≡ now.named
+  pub free : now.turn ≡ 0 → now.gathered ≡ 0
+  pub most : now.gathered ≤ origin.callers
+  pub unnamed : (c : ℕ) → now.named < c → now.stage c ≡ 0
+  pub callers : (c : ℕ) → 1 ≤ c → c ≤ origin.callers → CallerFits origin now s.words s.homes c
+  pub shelf : now.shelf ≤ now.latest
+  pub bound : now.latest ≤ stamp_limit
   pub fits : (index : ℕ) (view : View) → get_elem? s.views index ≡ some view → Fits origin now index view
   pub few : now.named ≤ origin.callers
   pub long : origin.size ≤ length now.log

@@ -19,7 +19,7 @@ most_callers = 64
 
 -- the table of a shop, and a seat that has seen the opening log
 pub record IsLaid (book : BookValue) (callers : ℕ) (id : TableId) (key : Start) (seat : Place) : Type 0 where
-  pub at : IsAt id seat
+  pub at : IsAt id callers seat
   pub me : seat.me ≡ (opening_view book callers, [])
   pub key_book : key.book.value ≡ book
   pub key_callers : key.callers ≡ callers

@@ -13,7 +13,9 @@ spent_view = record {
   marks = [];
   looks = 0;
   settles = 0;
-  has_turn = false;
+  stage = 0;
+  gathered = 0;
   log = [];
   latest = 0;
+  knows = false;
 }

@@ -1,5 +1,5 @@
 -- What a seat knows, at first and after each kind of step.
-use Rattle.std.specs.Prelude.{ℕ, ◌+◌, List, [], ◌∷◌, ◌++◌, length, max, true, false}
+use Rattle.std.specs.Prelude.{ℕ, ◌+◌, ◌-◌, List, [], ◌∷◌, ◌++◌, length, true, false}
 use Rattle.shop_book.specs.Books.{BookValue}
 use Rattle.shop_history.specs.declared.acts.Entry.{Entry}
 use Rattle.shop_turn.specs.declared.rule.View.{View}
@@ -14,20 +14,33 @@ opening_view book callers = record {
   marks = [];
   looks = 0;
   settles = 0;
-  has_turn = false;
+  stage = 0;
+  gathered = 0;
   log = [];
   latest = 0;
+  knows = false;
 }
 
 -- what was seen under no number is seen under this one
 abbrev pub named_as : ℕ → View → View
 named_as number view = record view { own = record { number = number; seen = view.own.seen } }
 
--- the turn, with the book
-abbrev pub taking : BookValue → View → View
-taking book view = record view { has_turn = true; log = book.log; latest = book.latest }
+abbrev pub staged : ℕ → View → View
+staged stage view = record view { stage = stage }
 
--- the book of the seat that has the turn
+-- inside, with a share of this book
+abbrev pub sharing : BookValue → View → View
+sharing book view = record view { stage = 2; log = book.log; latest = book.latest }
+
+-- the turn, with no share yet
+abbrev pub turning : View → View
+turning view = record view { stage = 3; gathered = 0; knows = false }
+
+-- one share more, of this book
+abbrev pub gathering : BookValue → View → View
+gathering book view = record view { gathered = view.gathered + 1; log = book.log; latest = book.latest; knows = false }
+
+-- the book that the shares of this seat are of
 abbrev pub held_book : View → BookValue
 held_book view = record { opening = view.origin.opening; log = view.log; latest = view.latest }
 
@@ -40,20 +53,29 @@ looking settles view = record view {
   settles = view.settles + settles;
 }
 
+-- this is the latest stamp
+abbrev pub knowing : ℕ → View → View
+knowing latest view = record view { latest = latest; knows = true }
+
 -- a mark at the log as it is, for a settle that was accepted at this moment
 abbrev pub raising : ℕ → View → View
-raising moment view = record view {
-  marks = view.marks ++ (length view.log, moment) ∷ [];
-  latest = max view.latest moment;
-}
+raising moment view = record view { marks = view.marks ++ (length view.log, moment) ∷ [] }
 
 -- this is the log now
 abbrev pub appending : List Entry → View → View
 appending log view = record view { own = record { number = view.own.number; seen = log }; log = log }
 
--- without the turn
+-- one share less
+abbrev pub filling : View → View
+filling view = record view { gathered = view.gathered - 1; knows = false }
+
+-- outside, with no share
 abbrev pub giving : View → View
-giving view = record view { has_turn = false }
+giving view = record view { stage = 0; gathered = 0; log = []; latest = 0; knows = false }
+
+-- outside, with a book that was found
+abbrev pub taking : BookValue → View → View
+taking book view = record view { stage = 0; gathered = 0; log = book.log; latest = book.latest; knows = false }
 
 -- a call that looked, and left the book as it was
 abbrev pub read_view : BookValue → View → View
@@ -69,9 +91,11 @@ copy view = record {
   marks = [];
   looks = 0;
   settles = 0;
-  has_turn = false;
+  stage = 0;
+  gathered = 0;
   log = [];
   latest = 0;
+  knows = false;
 }
 
 -- the parts and the marks of both

@@ -14,8 +14,8 @@ use std::alloc::Global;
 use std::marker::Model;
 use std::sync::{Arc, Wait};
 
-/// One caller's store over a book that callers share. No call lends the book, and each may wait for the
-/// turn of another caller.
+/// One caller's store over a book that callers share. No call lends the book. Calls that change nothing go
+/// on beside each other; each call may wait while another caller has the turn.
 #[derive(Drop)]
 pub struct Desk<R: Wait + Drop> {
     pub(crate) rt: R,
@@ -23,6 +23,7 @@ pub struct Desk<R: Wait + Drop> {
     pub(crate) sleepers: Arc<Sleepers, Global>,
     pub(crate) seat: Place,
     pub(crate) number: u32,
+    pub(crate) callers: u32,
 }
 
 impl<R: Wait + Drop> Model for Desk<R> {
@@ -33,7 +34,7 @@ impl<R: Wait + Drop> Model for Desk<R> {
 
     ghost view = { λ d. desk_value d.seat.table_id d.number d.seat.me.0 };
 
-    ghost invariant = { λ d. IsDesk (arc_value d.table).shared.table_id d.seat.table_id d.number d.seat.me };
+    ghost invariant = { λ d. IsDesk (arc_value d.table).shared.table_id (arc_value d.table).shared.key d.seat.table_id d.number d.callers d.seat.me };
 }
 
 impl<R: Wait + Drop> Desk<R> {
@@ -46,7 +47,8 @@ impl<R: Wait + Drop> Desk<R> {
             &self.table.shared,
             &self.sleepers,
             &mut self.seat,
-            u64::from(self.number),
+            self.number as usize,
+            self.callers as usize,
             key,
         )
     }
@@ -62,6 +64,7 @@ impl<R: Wait + Drop> Desk<R> {
             &self.sleepers,
             &mut self.seat,
             self.number,
+            self.callers as usize,
             attempt,
         )
     }
@@ -78,7 +81,7 @@ impl<R: Wait + Drop> Desk<R> {
             &self.sleepers,
             &mut self.seat,
             &mut other.seat,
-            u64::from(self.number),
+            self.number as usize,
         );
     }
 }

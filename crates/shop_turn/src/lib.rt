@@ -1,13 +1,15 @@
-//! A book that several callers share, one turn after another.
+//! A book that several callers share: they read it beside each other, and change it one after another.
 #![tactic(auto)]
 
-mod boxed_book;
 mod desk;
+mod laid;
 mod rule;
 mod seats;
+mod share;
 mod shop;
 mod sleepers;
 mod turns;
+mod visits;
 
 pub use desk::Desk;
 pub use shop::Shop;

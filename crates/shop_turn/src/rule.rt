@@ -1,6 +1,7 @@
-//! The table at which callers share a book: four words, a slot for the book, and the rule that they
-//! keep to between any two steps.
-use crate::boxed_book::BoxedBook;
+//! The table at which callers share a book, and the rule that they keep to between any two steps. Word 16 c
+//! is 1 while caller c is inside, and slot 8 c has the share of caller c. The factors keep the word and the
+//! slot of each caller on a cache line of their own.
+use crate::share::Share;
 use atomic_table::{Join, Play, Seat, Shared, Split, Table, TableRule};
 use shop_book::{Book, Opening};
 use shop_history::Entry;
@@ -48,11 +49,16 @@ pub struct View {
     pub looks: u64,
     /// How many of the looks were those of settles.
     pub settles: u64,
-    pub has_turn: bool,
-    /// With the turn, the log of the book; else of no account.
+    /// 0 outside, 1 at the door, 2 inside with its share, 3 with the turn.
+    pub stage: u64,
+    /// With the turn, the shares of the callers up to this number are with the seat.
+    pub gathered: u64,
+    /// Inside, or with the turn and a share, the log; else of no account.
     pub log: LinkedList<Entry>,
-    /// With the turn, the latest stamp of the book; else of no account.
+    /// The same of the latest stamp of the book that is shared.
     pub latest: u64,
+    /// Whether that is the latest stamp, as only a seat with every share can know.
+    pub knows: bool,
 }
 
 /// What the table is told when it is made.
@@ -64,7 +70,7 @@ pub struct Start {
 
 pub struct Law;
 
-impl TableRule<Option<BoxedBook>, View, Start> for Law {
+impl TableRule<Option<Share>, View, Start> for Law {
     ghost use Rattle.shop_turn.specs.Views.{opening_view};
     ghost use Rattle.shop_turn.specs.Rule.{Holds};
 
@@ -73,35 +79,53 @@ impl TableRule<Option<BoxedBook>, View, Start> for Law {
     ghost first = { λ start. opening_view start.book.value start.callers };
 }
 
-pub type Board = Table<Option<BoxedBook>, View, Start, Law, Global>;
+pub type Board = Table<Option<Share>, View, Start, Law, Global>;
 
 /// What the seats of one table step at.
-pub type Common = Shared<Option<BoxedBook>, View, Start, Law>;
+pub type Common = Shared<Option<Share>, View, Start, Law>;
 
-pub type Place = Seat<Option<BoxedBook>, View>;
+pub type Place = Seat<Option<Share>, View>;
 
 /// A seat without a number gets the next one.
 pub struct Name;
 
-impl Play<Option<BoxedBook>, View> for Name {
+impl Play<Option<Share>, View> for Name {
     ghost use Rattle.shop_turn.specs.Plays.{Names};
 
     ghost then = { Names };
 }
 
-/// A seat takes the turn and the book, where nobody has the turn.
-pub struct Take;
+/// A caller says that it comes.
+pub struct Enter;
 
-impl Play<Option<BoxedBook>, View> for Take {
-    ghost use Rattle.shop_turn.specs.Plays.{Takes};
+impl Play<Option<Share>, View> for Enter {
+    ghost use Rattle.shop_turn.specs.Plays.{Enters};
 
-    ghost then = { Takes };
+    ghost then = { Enters };
 }
 
-/// The seat with the turn counts the log.
+/// A caller at the door takes its share, where nobody has the turn.
+pub struct See;
+
+impl Play<Option<Share>, View> for See {
+    ghost use Rattle.shop_turn.specs.Plays.{Sees};
+
+    ghost then = { Sees };
+}
+
+/// A caller at the door goes.
+pub struct Back;
+
+impl Play<Option<Share>, View> for Back {
+    ghost use Rattle.shop_turn.specs.Plays.{Backs};
+
+    ghost then = { Backs };
+}
+
+/// A caller with a share, or with the turn and every share, counts the log.
 pub struct Look;
 
-impl Play<Option<BoxedBook>, View> for Look {
+impl Play<Option<Share>, View> for Look {
     ghost use Rattle.shop_turn.specs.Plays.{Looks};
 
     ghost then = { Looks 0 };
@@ -110,34 +134,88 @@ impl Play<Option<BoxedBook>, View> for Look {
 /// The same within a settle.
 pub struct LookToSettle;
 
-impl Play<Option<BoxedBook>, View> for LookToSettle {
+impl Play<Option<Share>, View> for LookToSettle {
     ghost use Rattle.shop_turn.specs.Plays.{Looks};
 
     ghost then = { Looks 1 };
 }
 
-/// The seat with the turn raises the latest stamp to the moment of a settle that was accepted.
+/// A caller with a share raises the latest stamp to the moment of a settle that changes nothing and was accepted.
 pub struct Raise;
 
-impl Play<Option<BoxedBook>, View> for Raise {
+impl Play<Option<Share>, View> for Raise {
     ghost use Rattle.shop_turn.specs.Plays.{Raises};
 
     ghost then = { Raises };
 }
 
-/// The seat with the turn counts one entry more, which the book in the slot has.
+/// A caller puts its share back, and goes.
+pub struct Leave;
+
+impl Play<Option<Share>, View> for Leave {
+    ghost use Rattle.shop_turn.specs.Plays.{Leaves};
+
+    ghost then = { Leaves };
+}
+
+/// A caller outside takes the turn, where nobody has it.
+pub struct Take;
+
+impl Play<Option<Share>, View> for Take {
+    ghost use Rattle.shop_turn.specs.Plays.{Takes};
+
+    ghost then = { Takes };
+}
+
+/// The caller with the turn takes the share of the next caller, where that one is outside.
+pub struct Gather;
+
+impl Play<Option<Share>, View> for Gather {
+    ghost use Rattle.shop_turn.specs.Plays.{Gathers};
+
+    ghost then = { Gathers };
+}
+
+/// The caller with the turn and every share reads the latest stamp.
+pub struct Measure;
+
+impl Play<Option<Share>, View> for Measure {
+    ghost use Rattle.shop_turn.specs.Plays.{Measures};
+
+    ghost then = { Measures };
+}
+
+/// The same caller raises it to the moment of a change that was accepted.
+pub struct Lift;
+
+impl Play<Option<Share>, View> for Lift {
+    ghost use Rattle.shop_turn.specs.Plays.{Lifts};
+
+    ghost then = { Lifts };
+}
+
+/// The same caller counts one entry more, which the book in the slot taken last has.
 pub struct Append;
 
-impl Play<Option<BoxedBook>, View> for Append {
+impl Play<Option<Share>, View> for Append {
     ghost use Rattle.shop_turn.specs.Plays.{Appends};
 
     ghost then = { Appends };
 }
 
-/// The seat with the turn gives it up, with the book in the slot.
-pub struct GiveBack;
+/// The caller with the turn gives a share back.
+pub struct Fill;
 
-impl Play<Option<BoxedBook>, View> for GiveBack {
+impl Play<Option<Share>, View> for Fill {
+    ghost use Rattle.shop_turn.specs.Plays.{Fills};
+
+    ghost then = { Fills };
+}
+
+/// The caller with the turn gives it up, when all shares are back.
+pub struct Give;
+
+impl Play<Option<Share>, View> for Give {
     ghost use Rattle.shop_turn.specs.Plays.{Gives};
 
     ghost then = { Gives };

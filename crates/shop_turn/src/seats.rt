@@ -1,23 +1,27 @@
 //! What one seat does at the table.
-ghost use Rattle.std.specs.Prelude.{◌≡◌, ◌≤◌, [], ◌∷◌, None, MatchBool};
+ghost use Rattle.std.specs.Prelude.{◌≡◌, ◌≤◌, [], None, IsSome, MatchBool};
 ghost use Rattle.shop_model.specs.rows.Limits.{stamp_limit};
 ghost use Rattle.shop_attempt.specs.Faithful.{Faithful};
-ghost use Rattle.shop_turn.specs.Views.{named_as, taking, looking, together, copy};
+ghost use Rattle.shop_turn.specs.Views.{named_as, together, copy};
+ghost use Rattle.shop_turn.specs.Shared.{SettledFrom, at_stamp};
 ghost use Rattle.shop_turn.specs.Seats.{IsAt, IsReady, MayBeNamed, SeatIs, Found, Finds, Reads, Settled};
 
-use crate::boxed_book::BoxedBook;
-use crate::rule::{Both, COUNT, Common, Copies, Look, LookToSettle, NAMED, Name, Place};
+use crate::rule::{
+    Both, COUNT, Common, Copies, LATEST, Look, LookToSettle, Measure, NAMED, Name, Place, Raise,
+};
+use crate::share::Share;
 use crate::sleepers::Sleepers;
-use crate::turns::{accept, give_back, take_turn};
+use crate::turns::{count_one, gather_all, give_back};
+use crate::visits::{leave, take_share};
 use shop_attempt::{Attempt, Settle};
 use shop_book::Book;
-use shop_history::{Key, Row};
+use shop_history::{Drawn, Ids, Key, Row};
 use shop_text::Memory;
 use std::sync::Wait;
 
 /// Gives the seat a number, where the callers before have theirs.
 fn try_name(shared: &Common, seat: &mut Place, number: u64) -> bool
-    requires at { IsAt shared.now.table_id seat.old }
+    requires at { IsAt shared.now.table_id shared.now.key.callers seat.old }
     requires named { MayBeNamed shared.now.key number seat.old.me.0 }
     ensures { MatchBool result (SeatIs seat.old (named_as number seat.old.me.0, seat.old.me.1) seat.new) (SeatIs seat.old seat.old.me seat.new) }
 {
@@ -26,7 +30,7 @@ fn try_name(shared: &Common, seat: &mut Place, number: u64) -> bool
 
 /// Waits until the callers before have their numbers, and gives the seat its own.
 fn name_seat<R: Wait>(rt: &R, shared: &Common, seat: &mut Place, number: u64)
-    requires at { IsAt shared.now.table_id seat.old }
+    requires at { IsAt shared.now.table_id shared.now.key.callers seat.old }
     requires named { MayBeNamed shared.now.key number seat.old.me.0 }
     ensures { SeatIs seat.old (named_as number seat.old.me.0, seat.old.me.1) seat.new }
 {
@@ -40,7 +44,7 @@ fn name_seat<R: Wait>(rt: &R, shared: &Common, seat: &mut Place, number: u64)
 
 /// A new seat with a number, which knows what this one has seen.
 pub fn new_seat<R: Wait>(rt: &R, shared: &Common, root: &mut Place, number: u64) -> Place
-    requires at { IsAt shared.now.table_id root.old }
+    requires at { IsAt shared.now.table_id shared.now.key.callers root.old }
     requires named { MayBeNamed shared.now.key number (copy root.old.me.0) }
     ensures root { SeatIs root.old root.old.me root.new }
     ensures table { result.table_id ≡ root.old.table_id }
@@ -51,33 +55,39 @@ pub fn new_seat<R: Wait>(rt: &R, shared: &Common, root: &mut Place, number: u64)
     seat
 }
 
-/// Waits for the turn, takes the book, and looks at its log.
-fn find_book<R: Wait>(
+/// Looks at the log.
+fn look_at<R: Wait>(rt: &R, shared: &Common, sleepers: &Sleepers, seat: &mut Place, number: usize)
+    requires at { IsAt shared.now.table_id shared.now.key.callers seat.old }
+    requires ready { IsReady number shared.now.key.callers seat.old.me }
+    ensures { Finds seat.old.me.0 seat.old seat.new }
+{
+    let share = take_share(rt, shared, sleepers, seat, number);
+    let _size = share.get().size();
+    shared.load::<Look>(seat, COUNT);
+    leave(shared, seat, number, share);
+}
+
+/// What a key shows, and its version, in the log found, where the row of a list has to be made first.
+fn read_alone<R: Wait>(
     rt: &R,
     shared: &Common,
     sleepers: &Sleepers,
     seat: &mut Place,
-    number: u64,
-) -> BoxedBook
-    requires at { IsAt shared.now.table_id seat.old }
-    requires ready { IsReady number seat.old.me }
-    ensures found { Found result seat.old.me.0 }
-    ensures seat { SeatIs seat.old (looking 0 (taking result seat.old.me.0), (0, None) ∷ []) seat.new }
+    number: usize,
+    callers: usize,
+    key: &Key,
+) -> Result<(Row, u64), Memory>
+    requires at { IsAt shared.now.table_id shared.now.key.callers seat.old }
+    requires callers { callers ≡ shared.now.key.callers }
+    requires ready { IsReady number callers seat.old.me }
+    ensures { Reads seat.old seat.new key.now result }
 {
-    let book = take_turn(rt, shared, sleepers, seat, number);
-    let _size = book.get().size();
+    let mut share = gather_all(rt, shared, sleepers, seat, number, callers);
+    let _size = share.get().size();
     shared.load::<Look>(seat, COUNT);
-    book
-}
-
-/// Looks at the log.
-fn look_at<R: Wait>(rt: &R, shared: &Common, sleepers: &Sleepers, seat: &mut Place, number: u64)
-    requires at { IsAt shared.now.table_id seat.old }
-    requires ready { IsReady number seat.old.me }
-    ensures { Finds seat.old.me.0 seat.old seat.new }
-{
-    let book = find_book(rt, shared, sleepers, seat, number);
-    give_back(shared, sleepers, seat, book);
+    let read = share.read(key);
+    give_back(rt, shared, sleepers, seat, callers, share);
+    read
 }
 
 /// What a key shows, and its version, in the log found.
@@ -86,17 +96,142 @@ pub fn read_at<R: Wait>(
     shared: &Common,
     sleepers: &Sleepers,
     seat: &mut Place,
-    number: u64,
+    number: usize,
+    callers: usize,
     key: &Key,
 ) -> Result<(Row, u64), Memory>
-    requires at { IsAt shared.now.table_id seat.old }
-    requires ready { IsReady number seat.old.me }
+    requires at { IsAt shared.now.table_id shared.now.key.callers seat.old }
+    requires callers { callers ≡ shared.now.key.callers }
+    requires ready { IsReady number callers seat.old.me }
     ensures { Reads seat.old seat.new key.now result }
 {
-    let mut book = find_book(rt, shared, sleepers, seat, number);
-    let read = book.get_mut().read(key);
-    give_back(shared, sleepers, seat, book);
-    read
+    let share = take_share(rt, shared, sleepers, seat, number);
+    match share.get().look(key) {
+        Some(read) => {
+            shared.load::<Look>(seat, COUNT);
+            leave(shared, seat, number, share);
+            read
+        }
+        None => {
+            leave(shared, seat, number, share);
+            read_alone(rt, shared, sleepers, seat, number, callers, key)
+        }
+    }
+}
+
+/// Settles an attempt that changes nothing, beside others.
+fn settle_reading<R: Wait>(
+    rt: &R,
+    shared: &Common,
+    sleepers: &Sleepers,
+    seat: &mut Place,
+    number: u32,
+    attempt: Attempt,
+) -> Settle
+    requires at { IsAt shared.now.table_id shared.now.key.callers seat.old }
+    requires ready { IsReady number shared.now.key.callers seat.old.me }
+    requires faithful { Faithful seat.old.me.0.origin.opening.tables seat.old.me.0.own.seen attempt }
+    requires moment { attempt.moment ≤ stamp_limit }
+    requires reads { attempt.act ≡ None }
+    ensures { Settled number attempt seat.old seat.new result }
+{
+    let Attempt {
+        reads,
+        moment,
+        draw: _,
+        writes: _,
+        act: _,
+    } = attempt;
+    let share = take_share(rt, shared, sleepers, seat, number as usize);
+    shared.load::<LookToSettle>(seat, COUNT);
+    let front = share.get().size();
+    match share.get().first_stale(reads) {
+        Some(conflict) => {
+            leave(shared, seat, number as usize, share);
+            Settle::Stale(conflict)
+        }
+        None => {
+            let latest = shared.fetch_max::<Raise>(seat, LATEST, moment);
+            leave(shared, seat, number as usize, share);
+            Settle::Done(Drawn {
+                front,
+                stamp: latest.max(moment),
+                ids: Ids {
+                    cart: None,
+                    customer: None,
+                    address: None,
+                    order: None,
+                },
+            })
+        }
+    }
+}
+
+/// Settles an attempt over the book of the only share that is left.
+fn settle_over<R: Wait>(
+    rt: &R,
+    share: &mut Share,
+    latest: u64,
+    caller: u32,
+    attempt: Attempt,
+) -> Settle
+    requires after { share.old.latest ≤ latest }
+    requires bound { latest ≤ stamp_limit }
+    requires faithful { Faithful share.old.opening.tables share.old.log attempt }
+    requires moment { attempt.moment ≤ stamp_limit }
+    ensures { SettledFrom (at_stamp latest share.old) share.new caller attempt result }
+{
+    let mut left = attempt;
+    for _ in rt.forever() {
+        match share.settle(latest, caller, left) {
+            Ok(answer) => return answer,
+            Err(again) => left = again,
+        }
+    }
+    unreachable!()
+}
+
+/// Settles a change, alone.
+fn settle_change<R: Wait>(
+    rt: &R,
+    shared: &Common,
+    sleepers: &Sleepers,
+    seat: &mut Place,
+    number: u32,
+    callers: usize,
+    attempt: Attempt,
+) -> Settle
+    requires at { IsAt shared.now.table_id shared.now.key.callers seat.old }
+    requires callers { callers ≡ shared.now.key.callers }
+    requires ready { IsReady number callers seat.old.me }
+    requires faithful { Faithful seat.old.me.0.origin.opening.tables seat.old.me.0.own.seen attempt }
+    requires moment { attempt.moment ≤ stamp_limit }
+    requires changes { IsSome attempt.act }
+    ensures { Settled number attempt seat.old seat.new result }
+{
+    let mut share = gather_all(rt, shared, sleepers, seat, number as usize, callers);
+    let latest = shared.load::<Measure>(seat, LATEST);
+    shared.load::<LookToSettle>(seat, COUNT);
+    let moment = attempt.moment;
+    match settle_over(rt, &mut share, latest, number, attempt) {
+        Settle::Done(drawn) => {
+            count_one(rt, shared, seat, callers, &share, moment);
+            give_back(rt, shared, sleepers, seat, callers, share);
+            Settle::Done(drawn)
+        }
+        Settle::Stale(conflict) => {
+            give_back(rt, shared, sleepers, seat, callers, share);
+            Settle::Stale(conflict)
+        }
+        Settle::Full(size) => {
+            give_back(rt, shared, sleepers, seat, callers, share);
+            Settle::Full(size)
+        }
+        Settle::Memory => {
+            give_back(rt, shared, sleepers, seat, callers, share);
+            Settle::Memory
+        }
+    }
 }
 
 /// Settles an attempt over the log found.
@@ -106,37 +241,20 @@ pub fn settle_at<R: Wait>(
     sleepers: &Sleepers,
     seat: &mut Place,
     number: u32,
+    callers: usize,
     attempt: Attempt,
 ) -> Settle
-    requires at { IsAt shared.now.table_id seat.old }
-    requires ready { IsReady number seat.old.me }
+    requires at { IsAt shared.now.table_id shared.now.key.callers seat.old }
+    requires callers { callers ≡ shared.now.key.callers }
+    requires ready { IsReady number callers seat.old.me }
     requires faithful { Faithful seat.old.me.0.origin.opening.tables seat.old.me.0.own.seen attempt }
     requires moment { attempt.moment ≤ stamp_limit }
     ensures { Settled number attempt seat.old seat.new result }
 {
-    let mut book = take_turn(rt, shared, sleepers, seat, u64::from(number));
-    shared.load::<LookToSettle>(seat, COUNT);
-    let next = book.get().count_of(number) + 1;
-    let moment = attempt.moment;
-    let changes = attempt.act.is_some();
-    let answer = book.get_mut().settle(number, next, attempt);
-    match answer {
-        Settle::Done(drawn) => {
-            accept(shared, sleepers, seat, book, moment, changes);
-            Settle::Done(drawn)
-        }
-        Settle::Stale(conflict) => {
-            give_back(shared, sleepers, seat, book);
-            Settle::Stale(conflict)
-        }
-        Settle::Full(size) => {
-            give_back(shared, sleepers, seat, book);
-            Settle::Full(size)
-        }
-        Settle::Memory => {
-            give_back(shared, sleepers, seat, book);
-            Settle::Memory
-        }
+    if attempt.act.is_some() {
+        settle_change(rt, shared, sleepers, seat, number, callers, attempt)
+    } else {
+        settle_reading(rt, shared, sleepers, seat, number, attempt)
     }
 }
 
@@ -147,11 +265,11 @@ pub fn meet_at<R: Wait>(
     sleepers: &Sleepers,
     seat: &mut Place,
     other: &mut Place,
-    number: u64,
+    number: usize,
 )
-    requires at { IsAt shared.now.table_id seat.old }
-    requires ready { IsReady number seat.old.me }
-    requires other { IsAt shared.now.table_id other.old }
+    requires at { IsAt shared.now.table_id shared.now.key.callers seat.old }
+    requires ready { IsReady number shared.now.key.callers seat.old.me }
+    requires other { IsAt shared.now.table_id shared.now.key.callers other.old }
     ensures found { Finds (together seat.old.me.0 (copy other.old.me.0)) seat.old seat.new }
     ensures same { SeatIs other.old other.old.me other.new }
 {
@@ -162,12 +280,26 @@ pub fn meet_at<R: Wait>(
 
 /// Takes in all that the other seat has.
 pub fn join_at(shared: &Common, seat: &mut Place, other: Place)
-    requires at { IsAt shared.now.table_id seat.old }
-    requires other { IsAt shared.now.table_id other }
+    requires at { IsAt shared.now.table_id shared.now.key.callers seat.old }
+    requires other { IsAt shared.now.table_id shared.now.key.callers other }
     requires empty { other.me.1 ≡ [] }
     ensures { SeatIs seat.old (together seat.old.me.0 other.me.0, seat.old.me.1) seat.new }
 {
     shared.join_seat::<Both>(seat, other);
+}
+
+/// The book of the only share that is left.
+fn book_of<R: Wait>(rt: &R, share: Share) -> Book
+    ensures { result ≡ share }
+{
+    let mut left = share;
+    for _ in rt.forever() {
+        match left.into_book() {
+            Ok(book) => return book,
+            Err(share) => left = share,
+        }
+    }
+    unreachable!()
 }
 
 /// Takes the book for good.
@@ -176,11 +308,18 @@ pub fn close_at<R: Wait>(
     shared: &Common,
     sleepers: &Sleepers,
     seat: &mut Place,
-    number: u64,
+    number: usize,
+    callers: usize,
 ) -> Book
-    requires at { IsAt shared.now.table_id seat.old }
-    requires ready { IsReady number seat.old.me }
+    requires at { IsAt shared.now.table_id shared.now.key.callers seat.old }
+    requires callers { callers ≡ shared.now.key.callers }
+    requires ready { IsReady number callers seat.old.me }
     ensures { Found result seat.old.me.0 }
 {
-    find_book(rt, shared, sleepers, seat, number).into_inner()
+    let share = gather_all(rt, shared, sleepers, seat, number, callers);
+    let latest = shared.load::<Measure>(seat, LATEST);
+    shared.load::<Look>(seat, COUNT);
+    let mut book = book_of(rt, share);
+    book.raise(latest);
+    book
 }

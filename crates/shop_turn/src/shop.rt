@@ -4,9 +4,10 @@ ghost use Rattle.shop_turn.specs.Desks.{IsOneShop};
 ghost use Rattle.shop_turn.specs.Shops.{most_callers, IsLaid, Opens, Closes};
 
 use crate::Desk;
-use crate::boxed_book::BoxedBook;
+use crate::laid::{shares_of, words_of};
 use crate::rule::{Board, Place, Start};
 use crate::seats::{close_at, join_at, new_seat};
+use crate::share::Share;
 use crate::sleepers::Sleepers;
 use atomic_table::{Refused, Table};
 use shop_book::Book;
@@ -23,11 +24,10 @@ fn lay(alloc: Global, book: Book, callers: u32) -> Result<(Arc<Board, Global>, P
         book: Snapshot::of(&book),
         callers: u64::from(callers),
     };
-    let words = [0, book.size(), book.latest(), 0];
-    let boxed = BoxedBook::new(alloc, book)?;
-    let mut slots = Vec::with_capacity(alloc, 1)?;
-    slots.push_reserved(Some(boxed));
-    let (table, root) = match Table::new(alloc, &words, slots, &start) {
+    let words = words_of(alloc, &book, callers as usize)?;
+    let share = Share::new(alloc, book)?;
+    let slots = shares_of(alloc, &share, callers as usize)?;
+    let (table, root) = match Table::new(alloc, words.as_slice(), slots, &start) {
         Ok(made) => made,
         Err(Refused { slots: _ }) => return Err(Memory),
     };
@@ -59,6 +59,7 @@ impl Shop {
                 sleepers: Arc::try_clone(&sleepers)?,
                 seat,
                 number: i + 1,
+                callers,
             })?;
         }
         Ok(desks)
@@ -75,6 +76,7 @@ impl Shop {
             sleepers,
             mut seat,
             number,
+            callers,
         } = first;
         for desk in others {
             let Desk {
@@ -83,9 +85,17 @@ impl Shop {
                 sleepers: _,
                 seat: other,
                 number: _,
+                callers: _,
             } = desk;
             join_at(&table.shared, &mut seat, other);
         }
-        close_at(&rt, &table.shared, &sleepers, &mut seat, u64::from(number))
+        close_at(
+            &rt,
+            &table.shared,
+            &sleepers,
+            &mut seat,
+            number as usize,
+            callers as usize,
+        )
     }
 }

@@ -48,12 +48,14 @@ impl Sleepers {
         self.count.fetch_sub(1, Ordering::SeqCst);
     }
 
-    /// Wakes one who sleeps, where there is one; for a caller who has given the turn back.
-    pub fn wake_one(&self, shared: &Common)
+    /// Wakes all who sleep, where there is one; for a caller who has given the turn back. All, since those who
+    /// only read need no turn and wake nobody. Who sleeps saw a turn after it was counted, so the count that
+    /// the caller who gave back that turn reads has it.
+    pub fn wake(&self, shared: &Common)
         requires { TURN < shared.now.table_id.words }
     {
         if self.count.load(Ordering::SeqCst) != 0 {
-            shared.wake_one(TURN);
+            shared.wake_all(TURN);
         }
     }
 }

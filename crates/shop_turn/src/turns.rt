@@ -1,92 +1,183 @@
-//! A seat's turn: it takes the book, alone has it, and gives it back.
-ghost use Rattle.std.specs.Prelude.{◌≡◌, ◌<◌, ◌+◌, ◌^◌, [], length, None, IfSome};
-ghost use Rattle.shop_turn.specs.Views.{held_book, giving, raising, appending};
-ghost use Rattle.shop_turn.specs.Seats.{IsAt, IsReady, HasTurn, SeatIs, TakesBook, IsLonger, IsAccepted};
+//! A seat's turn: it takes the turn, and the share of each caller who is outside or once it is; alone has
+//! the book; and gives the shares back, and the turn.
+ghost use Rattle.std.specs.Prelude.{◌≡◌, ◌≤◌, ◌+◌, [], None, IfSome, MatchBool};
+ghost use Rattle.shop_turn.specs.Views.{turning, giving, raising, appending};
+ghost use Rattle.shop_turn.specs.Seats.{IsAt, IsReady, HasTurn, HasShares, SeatIs, Keeps, Gathered, TakesAll, IsCounted};
 
-use crate::boxed_book::BoxedBook;
-use crate::rule::{Append, COUNT, Common, GiveBack, LATEST, Place, Raise, TURN, Take};
+use crate::rule::{Append, COUNT, Common, Fill, Gather, Give, LATEST, Lift, Place, TURN, Take};
+use crate::share::Share;
 use crate::sleepers::Sleepers;
+use std::hint::spin_loop;
 use std::sync::Wait;
 
-/// Takes the book, where nobody has the turn.
-fn try_turn(shared: &Common, seat: &mut Place, number: u64) -> Option<BoxedBook>
-    requires at { IsAt shared.now.table_id seat.old }
-    requires ready { IsReady number seat.old.me }
-    ensures took { IfSome result (λ book. TakesBook seat.old book seat.new) }
-    ensures not { result ≡ None → SeatIs seat.old seat.old.me seat.new }
+/// Takes the turn, where nobody has it.
+fn try_turn(shared: &Common, seat: &mut Place, number: usize) -> bool
+    requires at { IsAt shared.now.table_id shared.now.key.callers seat.old }
+    requires ready { IsReady number shared.now.key.callers seat.old.me }
+    ensures { MatchBool result (SeatIs seat.old (turning seat.old.me.0, []) seat.new) (SeatIs seat.old seat.old.me seat.new) }
 {
-    if shared.compare_exchange::<Take>(seat, TURN, 0, number) != 0 {
-        return None;
-    }
-    shared.exchange(seat, 0, None)
+    shared.compare_exchange::<Take>(seat, TURN, 0, number as u64) == 0
 }
 
-/// Waits for the turn, and takes the book.
-pub fn take_turn<R: Wait>(
-    rt: &R,
-    shared: &Common,
-    sleepers: &Sleepers,
-    seat: &mut Place,
-    number: u64,
-) -> BoxedBook
-    requires at { IsAt shared.now.table_id seat.old }
-    requires ready { IsReady number seat.old.me }
-    ensures { TakesBook seat.old result seat.new }
+/// Waits for the turn.
+fn take_turn<R: Wait>(rt: &R, shared: &Common, sleepers: &Sleepers, seat: &mut Place, number: usize)
+    requires at { IsAt shared.now.table_id shared.now.key.callers seat.old }
+    requires ready { IsReady number shared.now.key.callers seat.old.me }
+    ensures { SeatIs seat.old (turning seat.old.me.0, []) seat.new }
 {
     for _ in rt.forever() {
-        if let Some(book) = try_turn(shared, seat, number) {
-            return book;
+        if try_turn(shared, seat, number) {
+            return;
         }
         sleepers.wait(rt, shared);
     }
     unreachable!()
 }
 
-/// Gives the book back, and the turn.
-pub fn give_back(shared: &Common, sleepers: &Sleepers, seat: &mut Place, book: BoxedBook)
-    requires at { IsAt shared.now.table_id seat.old }
-    requires turn { HasTurn seat.old.me }
-    requires book { book ≡ held_book seat.old.me.0 }
-    ensures { SeatIs seat.old (giving seat.old.me.0, []) seat.new }
+/// Takes the share of the next caller, where that one is outside.
+fn try_gather(shared: &Common, seat: &mut Place, next: usize) -> Option<Share>
+    requires at { IsAt shared.now.table_id shared.now.key.callers seat.old }
+    requires turn { HasTurn next shared.now.key.callers seat.old.me }
+    ensures took { IfSome result (λ share. Gathered next share seat.old seat.new) }
+    ensures not { result ≡ None → SeatIs seat.old seat.old.me seat.new }
 {
-    drop(shared.exchange(seat, 0, Some(book)));
-    shared.store::<GiveBack>(seat, TURN, 0);
-    sleepers.wake_one(shared);
+    if shared.load::<Gather>(seat, 16 * next) != 0 {
+        return None;
+    }
+    shared.exchange(seat, 8 * next, None)
 }
 
-/// Gives back a book that has one entry more. It lies in the slot before the entry counts.
-fn give_back_longer(shared: &Common, sleepers: &Sleepers, seat: &mut Place, book: BoxedBook)
-    requires at { IsAt shared.now.table_id seat.old }
-    requires turn { HasTurn seat.old.me }
-    requires single { seat.old.me.0.others ≡ [] }
-    requires book { IsLonger seat.old.me.0 book }
-    requires room { length seat.old.me.0.log + 1 < 2 ^ 64 }
-    ensures { SeatIs seat.old (giving (appending book.log seat.old.me.0), []) seat.new }
+/// Waits until the next caller is outside, and takes its share.
+fn gather_one<R: Wait>(rt: &R, shared: &Common, seat: &mut Place, next: usize) -> Share
+    requires at { IsAt shared.now.table_id shared.now.key.callers seat.old }
+    requires turn { HasTurn next shared.now.key.callers seat.old.me }
+    ensures { Gathered next result seat.old seat.new }
 {
-    drop(shared.exchange(seat, 0, Some(book)));
-    shared.fetch_add::<Append>(seat, COUNT, 1);
-    shared.store::<GiveBack>(seat, TURN, 0);
-    sleepers.wake_one(shared);
+    for _ in rt.forever() {
+        if let Some(share) = try_gather(shared, seat, next) {
+            return share;
+        }
+        spin_loop();
+    }
+    unreachable!()
 }
 
-/// Leaves a mark, and gives back the book of a settle that was accepted.
-pub fn accept(
+/// Waits for the turn, and takes the first share. Others who came before still read.
+fn gather_first<R: Wait>(
+    rt: &R,
     shared: &Common,
     sleepers: &Sleepers,
     seat: &mut Place,
-    book: BoxedBook,
-    moment: u64,
-    changes: bool,
-)
-    requires at { IsAt shared.now.table_id seat.old }
-    requires turn { HasTurn seat.old.me }
-    requires book { IsAccepted moment changes seat.old.me.0 book }
-    ensures { SeatIs seat.old (giving (appending book.log (raising moment seat.old.me.0)), []) seat.new }
+    number: usize,
+) -> Share
+    requires at { IsAt shared.now.table_id shared.now.key.callers seat.old }
+    requires ready { IsReady number shared.now.key.callers seat.old.me }
+    ensures { TakesAll seat.old 1 result seat.new }
 {
-    shared.fetch_max::<Raise>(seat, LATEST, moment);
-    if changes {
-        give_back_longer(shared, sleepers, seat, book);
-    } else {
-        give_back(shared, sleepers, seat, book);
+    take_turn(rt, shared, sleepers, seat, number);
+    gather_one(rt, shared, seat, 1)
+}
+
+/// Takes the other shares, each once its caller is outside.
+fn gather_others<R: Wait>(rt: &R, shared: &Common, seat: &mut Place, callers: usize, share: &Share)
+    requires at { IsAt shared.now.table_id shared.now.key.callers seat.old }
+    requires callers { callers ≡ shared.now.key.callers }
+    requires some { 1 ≤ callers }
+    requires first { HasShares 1 share.now seat.old.me }
+    ensures { TakesAll seat.old callers share.now seat.new }
+{
+    for gathered in 1..callers {
+        drop(gather_one(rt, shared, seat, gathered + 1));
     }
+}
+
+/// Waits for the turn, and takes all shares: no other caller reads from then on.
+pub fn gather_all<R: Wait>(
+    rt: &R,
+    shared: &Common,
+    sleepers: &Sleepers,
+    seat: &mut Place,
+    number: usize,
+    callers: usize,
+) -> Share
+    requires at { IsAt shared.now.table_id shared.now.key.callers seat.old }
+    requires callers { callers ≡ shared.now.key.callers }
+    requires ready { IsReady number callers seat.old.me }
+    ensures { TakesAll seat.old callers result seat.new }
+{
+    let share = gather_first(rt, shared, sleepers, seat, number);
+    gather_others(rt, shared, seat, callers, &share);
+    share
+}
+
+/// Another share, which is only refused where there are as many as can be counted.
+fn another<R: Wait>(rt: &R, share: &Share) -> Share
+    ensures { result ≡ share.now }
+{
+    for _ in rt.forever() {
+        if let Ok(another) = share.again() {
+            return another;
+        }
+    }
+    unreachable!()
+}
+
+/// Gives each caller a share again.
+fn fill_all<R: Wait>(rt: &R, shared: &Common, seat: &mut Place, callers: usize, share: &Share)
+    requires at { IsAt shared.now.table_id shared.now.key.callers seat.old }
+    requires callers { callers ≡ shared.now.key.callers }
+    requires all { HasShares callers share.now seat.old.me }
+    ensures { TakesAll seat.old 0 share.now seat.new }
+{
+    let mut left = callers;
+    while left > 0 {
+        drop(shared.exchange(seat, 8 * left, Some(another(rt, share))));
+        shared.load::<Fill>(seat, TURN);
+        left -= 1;
+    }
+}
+
+/// Gives each caller a share again, and gives the turn back.
+pub fn give_back<R: Wait>(
+    rt: &R,
+    shared: &Common,
+    sleepers: &Sleepers,
+    seat: &mut Place,
+    callers: usize,
+    share: Share,
+)
+    requires at { IsAt shared.now.table_id shared.now.key.callers seat.old }
+    requires callers { callers ≡ shared.now.key.callers }
+    requires all { HasShares callers share seat.old.me }
+    ensures { SeatIs seat.old (giving seat.old.me.0, []) seat.new }
+{
+    fill_all(rt, shared, seat, callers, &share);
+    // Before the turn: who takes that next must find no share beside those that it gathers.
+    drop(share);
+    shared.store::<Give>(seat, TURN, 0);
+    sleepers.wake(shared);
+}
+
+/// Leaves a mark, and counts the entry that the book has more. The longer book lies in the slot that was
+/// taken last while it does.
+pub fn count_one<R: Wait>(
+    rt: &R,
+    shared: &Common,
+    seat: &mut Place,
+    callers: usize,
+    share: &Share,
+    moment: u64,
+)
+    requires at { IsAt shared.now.table_id shared.now.key.callers seat.old }
+    requires callers { callers ≡ shared.now.key.callers }
+    requires some { 1 ≤ callers }
+    requires longer { IsCounted callers moment share.now seat.old.me }
+    ensures all { HasShares callers share.now seat.new.me }
+    ensures keeps { Keeps seat.old (appending share.now.log (raising moment seat.old.me.0)) seat.new }
+{
+    let top = another(rt, share);
+    shared.fetch_max::<Lift>(seat, LATEST, moment);
+    drop(shared.exchange(seat, 8 * callers, Some(top)));
+    shared.fetch_add::<Append>(seat, COUNT, 1);
+    drop(shared.exchange(seat, 8 * callers, None));
 }

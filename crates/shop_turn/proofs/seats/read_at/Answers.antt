@@ -1,5 +1,38 @@
-use Rattle.std.proofs.Common.{rules}
+use Rattle.std.proofs.Common.{[], ap, ◌∙◌, arith, subst, IfOk}
+use Rattle.shop_book.specs.Books.{BookValue, IsBook}
+use Rattle.shop_turn.specs.declared.rule.View.{View}
+use Rattle.shop_turn.specs.Views.{giving}
+use Rattle.shop_turn.specs.Plays.{AtTable, book_at}
+use Rattle.shop_turn.specs.Shared.{IsReadIn}
+use Rattle.shop_turn.specs.Seats.{IsReady}
+use Rattle.shop_turn.proofs.SeatLemmas.{looks_inside}
+use Rattle.shop_turn.proofs.Founds.{found_by, looked_as, read_as, read_in, inside_keeps, inside_book, inside_after, inside_before, ready_again}
 use Rattle.shop_turn.proofs.seats.read_at.Goals as goal
 
-pub returns : goal.returns
-returns g c = search rules
+pub load-requires : goal.load-requires
+load-requires g c = let at = c.requires.at in let r = c.requires.ready in let e = c.take_share-share.ensures in
+    (e.0.0 ∙ at.table, (let a = at.words in omega arith), looks_inside _ _ _ _ 0 c.args.number c.take_share-share.result c.args.seat.now.me.0 _ e.0.2 r.live r.number_is r.one)
+
+pub returns-in-Some : goal.returns-in-Some
+returns-in-Some g c =
+    let e = c.take_share-share.ensures in let l = c.load.ensures in let a = c.leave.ensures in
+    let v = c.args.seat.now.me.0 in let share = c.take_share-share.result in let x = c.take_share-share.new.seat.me.0 in
+    let kept = inside_keeps share v c.take_share-share.new.seat.me _ e.0.2 in let is = inside_book share v c.take_share-share.new.seat.me _ e.0.2 e.1 in
+    let s = c.in-Some.ensures in let k = subst IsBook c.get.ensures s.kept in let t = l.2.1 in
+    let read = subst (λ (b : BookValue). IfOk c.in-Some.read (IsReadIn b c.args.key.now)) c.get.ensures (read_in c.get.result.now c.args.key.now c.in-Some.read s.row s.version) in (
+      book_at t.0 x,
+      found_by v x share kept is k t.0 t.1 t.2,
+      (a.0 ∙ l.0 ∙ e.0.0, a.1 ∙ l.1 ∙ e.0.1, a.2 ∙ ap (λ (m : AtTable). (giving m.0, [])) l.2.2 ∙ ap (λ (w : View). (w, [])) (looked_as v x share kept is k 0 t.0)),
+      read_as v x share kept is k c.args.key.now c.in-Some.read t.0 read,
+    )
+
+pub leave-requires-clause-inside : goal.leave-requires-clause-inside
+leave-requires-clause-inside g c = let e = c.take_share-share.ensures in let r = subst (λ n. IsReady c.args.number n c.args.seat.now.me) c.requires.callers c.requires.ready in
+    inside_after c.args.number _ 0 c.take_share-share.result c.args.seat.now.me _ _ r e.0.2 e.1 c.load.ensures.2.2
+
+pub leave-requires-in-None-clause-inside : goal.leave-requires-in-None-clause-inside
+leave-requires-in-None-clause-inside g c = let e = c.take_share-share.ensures in let r = subst (λ n. IsReady c.args.number n c.args.seat.now.me) c.requires.callers c.requires.ready in
+    inside_before c.args.number _ c.take_share-share.result c.args.seat.now.me _ r e.0.2 e.1
+
+pub read_alone-requires-clause-ready : goal.read_alone-requires-clause-ready
+read_alone-requires-clause-ready g c = let e = c.take_share-share.ensures in ready_again c.args.number _ c.take_share-share.result c.args.seat.now.me c.take_share-share.new.seat.me _ _ c.requires.ready e.0.2 c.leave-in-None.ensures.2

@@ -18,30 +18,23 @@ use Rattle.shop_book.specs.Stored as versioned
 use Rattle.shop_book.specs.Stored.{stored}
 use Rattle.shop_book.specs.Openings.{most_entries}
 use Rattle.shop_book.specs.Summaries.{charge_limit, cents_in}
-use Rattle.shop_book.proofs.ChangesLemmas.{with_entry, next, may_come, book_after, are_fit, kept_roomy, ready, is_change, kept_after}
+use Rattle.shop_book.proofs.ChangesLemmas.{with_entry, next, book_after, kept_roomy, ready, is_change, kept_after}
 use Rattle.shop_book.proofs.NewOrders.{count_within, few_charged, charges_within, cents_few, cents_more}
 use Rattle.shop_book.proofs.book.Book.change.Goals as goal
 use Rattle.shop_book.proofs.book.Book.change.Goals.{After-make_room, After-deref}
-
-pub of-requires : goal.of-requires
-of-requires c = may_come _ _ c.self.invariant.is_book _ _ c.self.view_is c.requires c.self.inside.rows c.self.invariant.rows_are
-
-pub puts_of-requires : goal.puts_of-requires
-puts_of-requires c =
-    are_fit _ _ c.self.invariant.is_book _ _ c.self.view_is c.requires c.in-Ok.ensures.form c.self.inside.rows c.self.inside.versions c.self.inside.counts c.self.inside.lists c.self.inside.cents c.self.invariant
 
 kept_now : (c : After-make_room) → IsKept (book_of c.self.inside) c.make_room.new.rows c.make_room.new.versions c.make_room.new.counts c.make_room.new.lists c.self.inside.cents
 kept_now c =
     kept_roomy (book_of c.self.inside) c.self.inside.rows c.make_room.new.rows c.self.inside.versions c.make_room.new.versions c.self.inside.counts c.make_room.new.counts c.self.inside.lists c.make_room.new.lists c.self.inside.cents
     c.self.invariant c.make_room.ensures.rows c.make_room.ensures.versions c.make_room.ensures.places c.make_room.ensures.counts c.make_room.ensures.lists
 
-changes : (c : After-make_room) → IsChange (tables_of (book_of c.self.inside)) c.args.entry.act c.make_room.new.rows c.make_room.new.lists c.in-Ok.plan c.args.entry.stamp c.in-Ok-puts_of.puts.items
+changes : (c : After-make_room) → IsChange (tables_of (book_of c.self.inside)) c.args.entry.act c.make_room.new.rows c.make_room.new.lists c.args.plan c.args.entry.stamp c.args.puts.items
 changes c =
-    is_change _ _ c.self.invariant.is_book _ _ c.self.view_is c.requires c.in-Ok.ensures.form c.self.inside.rows c.self.inside.versions c.self.inside.counts c.self.inside.lists c.self.inside.cents c.self.invariant
-    c.make_room.new.rows c.make_room.ensures.rows c.make_room.new.lists c.make_room.ensures.lists c.in-Ok.plan c.in-Ok.ensures.plan c.in-Ok-puts_of.puts.items c.in-Ok-puts_of.ensures.made
+    is_change _ _ c.self.invariant.is_book _ _ _ c.self.view_is c.requires c.self.inside.rows c.self.inside.versions c.self.inside.counts c.self.inside.lists c.self.inside.cents c.self.invariant
+    c.make_room.new.rows c.make_room.ensures.rows c.make_room.new.lists c.make_room.ensures.lists
 
 -- the orders after the change, of which so many were there before
-module _ (c : After-deref) (change : IsChange (tables_of (book_of c.self.inside)) c.args.entry.act c.make_room.new.rows c.make_room.new.lists c.in-Ok.plan c.args.entry.stamp c.in-Ok-puts_of.puts.items) where
+module _ (c : After-deref) (change : IsChange (tables_of (book_of c.self.inside)) c.args.entry.act c.make_room.new.rows c.make_room.new.lists c.args.plan c.args.entry.stamp c.args.puts.items) where
   abbrev now : Tables
   now = tables_of (book_of c.self.inside)
 
@@ -64,7 +57,7 @@ module _ (c : After-deref) (change : IsChange (tables_of (book_of c.self.inside)
   charged_few : cents_in (after now c.args.entry.stamp c.args.entry.act) ≤ most_entries * charge_limit
   charged_few =
       subst (λ (u : Tables). cents_in u ≤ most_entries * charge_limit) (tables_push c.self.inside.opening.tables c.self.inside.log.items c.args.entry)
-      (cents_few (with_entry (book_of c.self.inside) c.args.entry) (book_after _ _ c.self.invariant.is_book _ _ c.self.view_is c.requires c.in-Ok.ensures.form))
+      (cents_few (with_entry (book_of c.self.inside) c.args.entry) (book_after _ _ c.self.invariant.is_book _ _ _ c.self.view_is c.requires))
 
 pub slice_bounds-cents_of-count : goal.slice_bounds-cents_of-count
 slice_bounds-cents_of-count c =
@@ -111,9 +104,9 @@ change_rows-ids-requires-clause-change c =
 
 pub change_rows-ids-requires-clause-ready : goal.change_rows-ids-requires-clause-ready
 change_rows-ids-requires-clause-ready c =
-    ready _ _ c.self.invariant.is_book _ _ c.self.view_is c.requires c.in-Ok.ensures.form c.self.inside.rows c.self.inside.versions c.self.inside.counts c.self.inside.lists c.self.inside.cents c.self.invariant
-    c.make_room.new.rows c.make_room.ensures.rows c.make_room.new.lists c.make_room.ensures.lists c.in-Ok.plan c.in-Ok.ensures.plan c.in-Ok-puts_of.puts.items c.in-Ok-puts_of.ensures.made
-    (subst (λ (puts : List Put). HasRoom c.make_room.new.rows (length puts)) c.as_slice-added.ensures.value c.if-not-make_room.ensures.rows_room) c.in-Ok-puts_of.ensures.whole
+    ready _ _ c.self.invariant.is_book _ _ _ c.self.view_is c.requires c.self.inside.rows c.self.inside.versions c.self.inside.counts c.self.inside.lists c.self.inside.cents c.self.invariant
+    c.make_room.new.rows c.make_room.ensures.rows c.make_room.new.lists c.make_room.ensures.lists
+    (subst (λ (puts : List Put). HasRoom c.make_room.new.rows (length puts)) c.as_slice-added.ensures.value c.if-not-make_room.ensures.rows_room)
 
 pub change_rows-ids-requires-clause-room : goal.change_rows-ids-requires-clause-room
 change_rows-ids-requires-clause-room c =
@@ -129,8 +122,8 @@ invariant_of-self-2 c =
     = subst (λ n. RaisedFor t (after t c.args.entry.stamp c.args.entry.act) n (may_change t c.args.entry.act) (stored c.make_room.new.versions) (stored c.change_rows-ids.new.versions)) size
     (c.change_rows-ids.ensures.raised t c.args.entry.act (changes at)) in
     subst (λ (l : List Entry). IsKept (record { opening = c.self.inside.opening; log = l; latest = c.args.entry.stamp }) c.change_rows-ids.new.rows c.change_rows-ids.new.versions c.set.new.self c.change_rows-ids.new.lists (c.self.inside.cents + c.cents_of.result)) (sym log)
-    (kept_after _ _ c.self.invariant.is_book _ _ c.self.view_is c.requires c.in-Ok.ensures.form c.self.inside.rows c.self.inside.versions c.self.inside.counts c.self.inside.lists c.self.inside.cents c.self.invariant
-    c.make_room.new.rows c.make_room.ensures.rows c.make_room.new.lists c.make_room.ensures.lists c.in-Ok.plan c.in-Ok.ensures.plan c.in-Ok-puts_of.puts.items c.in-Ok-puts_of.ensures.made
+    (kept_after _ _ c.self.invariant.is_book _ _ _ c.self.view_is c.requires c.self.inside.rows c.self.inside.versions c.self.inside.counts c.self.inside.lists c.self.inside.cents c.self.invariant
+    c.make_room.new.rows c.make_room.ensures.rows c.make_room.new.lists c.make_room.ensures.lists
     c.change_rows-ids.new.rows c.make_room.new.versions c.change_rows-ids.new.versions c.set.new.self c.change_rows-ids.new.lists (c.self.inside.cents + c.cents_of.result)
     (c.change_rows-ids.ensures.made t c.args.entry.act (changes at)) c.change_rows-ids.ensures.places c.make_room.ensures.versions rises
     (λ caller. c.set.ensures caller ∙ ap (λ (count : ℕ). if c.args.entry.caller == caller then c.args.entry.number else count) (c.make_room.ensures.counts caller))
@@ -144,7 +137,7 @@ returns-clause-taken c =
     let log : c.push_reserved.new.self.items ≡ c.self.inside.log.items ++ c.args.entry ∷ [] = c.push_reserved.ensures.items ∙ ap (λ (l : List Entry). l ++ c.args.entry ∷ []) c.make_room.ensures.log in
     rw (← c.self.view_is)
     (record {
-      room = λ some. (next _ _ c.self.invariant.is_book _ _ c.self.view_is c.requires).left;
+      room = λ some. (next _ _ c.self.invariant.is_book _ _ _ c.self.view_is c.requires).left;
       stamp_is = refl;
       book = ap (λ (l : List Entry). record { opening = c.self.inside.opening; log = l; latest = c.args.entry.stamp }) log;
       front = omega (arith, c.len.ensures, c.make_room.new.log.ok.0, ap length c.make_room.ensures.log, ap length log, length-append c.self.inside.log.items (c.args.entry ∷ []));

@@ -1,31 +1,8 @@
-use Rattle.std.proofs.Common.{sym, ◌∙◌, ap, subst}
-use Rattle.shop_model.specs.declared.tables.Tables.{Tables}
-use Rattle.shop_history.specs.Keys.{row_of}
-use Rattle.shop_book.specs.BookView.{book_of}
-use Rattle.shop_book.specs.Laws.{IsGoodThroughout}
-use Rattle.shop_book.specs.KeptLists.{AreLists}
-use Rattle.shop_book.proofs.Keeping.{sound_now}
-use Rattle.shop_book.proofs.Laws.{version_shortest, good_throughout}
+use Rattle.std.proofs.Common.{◌∙◌}
+use Rattle.shop_book.proofs.Laws.{version_shortest}
 use Rattle.shop_book.proofs.book.Book.read.Goals as goal
 
-pub shown-requires-clause-sound : goal.shown-requires-clause-sound
-shown-requires-clause-sound c = sound_now (book_of c.self.inside) c.self.inside.rows c.self.invariant.is_book c.self.invariant.rows_are
-
-pub shown-requires-clause-lists : goal.shown-requires-clause-lists
-shown-requires-clause-lists c = subst (λ t. AreLists t c.self.inside.lists) (sym c.self.invariant.rows_are) c.self.invariant.lists_are
-
-pub returns-in_err-row-clause-sound : goal.returns-in_err-row-clause-sound
-returns-in_err-row-clause-sound c = subst IsGoodThroughout c.self.view_is (good_throughout (book_of c.self.inside) c.self.invariant.is_book)
-
-pub returns-clause-row : goal.returns-clause-row
-returns-clause-row c =
-    rw (← c.self.view_is) (c.in_ok-row.ensures.row ∙ ap (λ (t : Tables). row_of t c.args.key.now) c.self.invariant.rows_are)
-
-pub returns-clause-version : goal.returns-clause-version
-returns-clause-version c = rw (← c.self.view_is) (c.of.ensures ∙ c.self.invariant.versions_are c.args.key.now)
-
 pub returns-clause-shortest : goal.returns-clause-shortest
-returns-clause-shortest c = version_shortest c.args.self.now.opening.tables c.args.self.now.log c.args.key.now c.of.result (returns-clause-version c)
-
-pub returns-clause-sound : goal.returns-clause-sound
-returns-clause-sound c = subst IsGoodThroughout c.self.view_is (good_throughout (book_of c.self.inside) c.self.invariant.is_book)
+returns-clause-shortest c =
+    version_shortest c.args.self.now.opening.tables c.args.self.now.log c.args.key.now c.of.result
+    (rw (← c.self.view_is) (c.of.ensures ∙ c.self.invariant.versions_are c.args.key.now))

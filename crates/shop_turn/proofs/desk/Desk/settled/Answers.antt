@@ -11,4 +11,4 @@ pub returns : goal.returns
 returns g c =
     let e = c.settle_at.ensures in
     let i = c.self.invariant in
-    settle_means _ _ _ _ i.ready i.long e.seat.0 c.args.self.now _ c.args.attempt c.settle_at.result e.before e.after c.self.view_is e.found e.kept e.settles e.seat.2
+    settle_means _ _ _ _ _ i.ready i.long e.seat.0 c.args.self.now _ c.args.attempt c.settle_at.result e.before e.after c.self.view_is e.found e.kept e.settles e.seat.2

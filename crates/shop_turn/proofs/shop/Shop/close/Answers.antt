@@ -1,4 +1,4 @@
-use Rattle.std.proofs.Common.{◌≡◌, ◌∷◌, [], List, length, sym, ap, ◌∙◌, append_assoc, arith}
+use Rattle.std.proofs.Common.{◌≡◌, ◌∷◌, [], length, sym, ap, ◌∙◌, append_assoc, arith}
 use Rattle.std.proofs.lemmas.List.{append-nil, nil_from_length}
 use Rattle.std.specs.Vec.Iter.{into_iter_items}
 use Rattle.std.proofs.lemmas.List.Elements.{All-push}
@@ -17,7 +17,7 @@ loop-desk-preserved g c =
       tt,
       append_assoc at.yielded (x ∷ []) _ ∙ rw (← steps) at.invariant.2,
       (let was = at.invariant.3 in let gone = c.in-Some.ensures.steps.1 in let short = ap length steps in omega arith),
-      record { table = j.0 ∙ at.invariant.4.table; words = at.invariant.4.words; slots = at.invariant.4.slots },
+      record { table = j.0 ∙ at.invariant.4.table; words = at.invariant.4.words; slots = at.invariant.4.slots; few = at.invariant.4.few },
       joined_seat _ _ c.first.inside.seat.me.0 c.desk.inside.seat.me.0 at.yielded x _ _ at.invariant.5 j.2 c.desk.view_is i.ready.number_is i.single,
       All-push IsSeated at.yielded x at.invariant.6 (seated _ _ c.desk.inside.seat.me.0 x c.desk.view_is i.ready.one i.long),
     )

@@ -12,6 +12,6 @@ invariant-loop-desk g l =
     × (goal.iterator-loop-desk g).is_finite l.desk-iterator
     × (l.yielded ++ into_iter_items l.desk-iterator ≡ into_iter_items l.initial.desk-iterator)
     × (into_iter_len l.desk-iterator ≡ length (into_iter_items l.desk-iterator))
-    × IsAt (arc_value l.table).shared.table_id l.seat
+    × IsAt (arc_value l.table).shared.table_id (arc_value l.table).shared.key.callers l.seat
     × (l.seat.me ≡ (joined l.initial.seat.me.0 l.yielded, []))
     × All IsSeated l.yielded

@@ -1,0 +1,96 @@
+ghost use Rattle.std.specs.Prelude.{◌≡◌, ◌≤◌, IfOk, IfErr};
+ghost use Rattle.shop_model.specs.rows.Limits.{stamp_limit};
+ghost use Rattle.shop_attempt.specs.Faithful.{Faithful};
+ghost use Rattle.shop_book.specs.Books.{IsBook};
+ghost use Rattle.shop_turn.specs.Shared.{IsReadIn, SettledFrom, at_stamp};
+
+use shop_attempt::{Attempt, Settle};
+use shop_book::Book;
+use shop_history::{Key, Row};
+use shop_text::Memory;
+use std::alloc::{AllocError, Global};
+use std::marker::Model;
+use std::sync::Arc;
+
+/// A share of a book. A contract sees the book.
+#[derive(Drop)]
+pub struct Share {
+    book: Arc<Book, Global>,
+}
+
+impl Model for Share {
+    ghost use Rattle.std.specs.Arc.{arc_value};
+    ghost use Rattle.shop_book.specs.Books.{BookValue};
+
+    ghost Value = { BookValue };
+
+    ghost view = { λ s. arc_value s.book };
+}
+
+impl Share {
+    /// A refusal drops the book.
+    pub fn new(alloc: Global, book: Book) -> Result<Share, Memory>
+        ensures { IfOk result (λ share. share ≡ book) }
+    {
+        Ok(Share {
+            book: Arc::new(alloc, book)?,
+        })
+    }
+
+    pub fn get(&self) -> &Book
+        ensures { result.now ≡ self.now }
+    {
+        &self.book
+    }
+
+    /// Another share of the same book.
+    pub fn again(&self) -> Result<Share, AllocError>
+        ensures { IfOk result (λ share. share ≡ self.now) }
+    {
+        Ok(Share {
+            book: Arc::try_clone(&self.book)?,
+        })
+    }
+
+    /// What a key shows, and its version, where the book has no other share; else Memory.
+    pub fn read(&mut self, key: &Key) -> Result<(Row, u64), Memory>
+        ensures row { IfOk result (IsReadIn self.old key.now) }
+        ensures same { self.new ≡ self.old }
+    {
+        let Some(book) = Arc::get_mut(&mut self.book) else {
+            return Err(Memory);
+        };
+        book.read(key)
+    }
+
+    /// Settles an attempt over the book as it is at the shop's latest stamp, where the book has no other
+    /// share; else hands the attempt back.
+    pub fn settle(&mut self, latest: u64, caller: u32, attempt: Attempt) -> Result<Settle, Attempt>
+        requires after { self.old.latest ≤ latest }
+        requires bound { latest ≤ stamp_limit }
+        requires faithful { Faithful self.old.opening.tables self.old.log attempt }
+        requires moment { attempt.moment ≤ stamp_limit }
+        ensures settled { IfOk result (SettledFrom (at_stamp latest self.old) self.new caller attempt) }
+        ensures again { IfErr result (λ again. again ≡ attempt) }
+        ensures same { IfErr result (λ again. self.new ≡ self.old) }
+    {
+        let Some(book) = Arc::get_mut(&mut self.book) else {
+            return Err(attempt);
+        };
+        book.raise(latest);
+        let next = book.count_of(caller) + 1;
+        Ok(book.settle(caller, next, attempt))
+    }
+
+    /// The book, where it has no other share; else the share.
+    pub fn into_book(self) -> Result<Book, Share>
+        ensures ok { IfOk result (λ book. book ≡ self) }
+        ensures err { IfErr result (λ share. share ≡ self) }
+    {
+        let Share { book } = self;
+        match Arc::try_unwrap(book) {
+            Ok(book) => Ok(book),
+            Err(book) => Err(Share { book }),
+        }
+    }
+}
