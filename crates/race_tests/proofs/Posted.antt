@@ -7,7 +7,7 @@ use Rattle.shop_model.specs.population.Scales.{ScaleRow}
 use Rattle.shop_model.specs.declared.tables.Tables.{Tables}
 use Rattle.shop_attempt.specs.Seats.{IsSeat}
 use Rattle.shop_book.specs.Books.{BookValue}
-use Rattle.shop_engine.specs.Workers.{IsPosted}
+use Rattle.shop_engine.specs.Posts.{IsPosted}
 use Rattle.shop_turn.specs.Desks.{DeskValue, seat_of}
 use Rattle.shop_turn.specs.Shops.{Opens, new_desk}
 

@@ -5,6 +5,7 @@ ghost use Rattle.shop_turn.specs.Desks.{seat_of};
 use crate::interrupted::{Clash, Parted, Place};
 use crate::opened::open_interrupted;
 use crate::serving::serve;
+use shop_app::authorised_only;
 use shop_attempt::Store;
 use shop_book::Book;
 use shop_edges::{Answer, Verdict};
@@ -120,13 +121,32 @@ struct Told {
     /// What both callers see in the end.
     carts: (Option<Seen>, Option<Seen>),
     charges: [Option<Charge>; 3],
+    /// How many approvals no order has.
+    unused: u64,
     /// The first two that were made.
     orders: [Option<Sale>; 2],
     /// How many changes there are, of caller 1 and of caller 2.
     counts: (u64, u64, u64),
 }
 
+fn copy_of(answer: &Answer) -> Answer {
+    Answer {
+        charge: answer.charge.copy(),
+        verdict: answer.verdict,
+    }
+}
+
+/// How many of these answers are approvals that no order has.
+fn unused_of(alloc: Global, answers: &[Shared<Answer>], book: &Book) -> Result<u64, Memory> {
+    let mut copies = Vec::new(alloc);
+    for answer in answers {
+        copies.push(copy_of(answer.get()))?;
+    }
+    Ok(authorised_only(&copies, book))
+}
+
 fn told_by(
+    alloc: Global,
     report: Result<Report, Memory>,
     clash: Option<Clash>,
     carts: (Option<Seen>, Option<Seen>),
@@ -134,6 +154,7 @@ fn told_by(
     book: &mut Book,
 ) -> Result<Told, Memory> {
     let report = report?;
+    let unused = unused_of(alloc, answers, book)?;
     Ok(Told {
         changes: [change_at(&report, 0), change_at(&report, 1)],
         clash,
@@ -143,6 +164,7 @@ fn told_by(
             charge_at(answers, 1, book),
             charge_at(answers, 2, book),
         ],
+        unused,
         orders: [order_of(book, 37), order_of(book, 38)],
         counts: (book.size(), book.count_of(1), book.count_of(2)),
     })
@@ -170,7 +192,7 @@ fn ask_both<R: Wait + Clone + Drop>(
     let carts = (cart_at(&mut desk), cart_at(&mut other));
     others.push_reserved(other);
     let mut book = Shop::close(desk, others);
-    told_by(report, clash, carts, gateway.answers(), &mut book)
+    told_by(alloc, report, clash, carts, gateway.answers(), &mut book)
 }
 
 /// The cart has one line, and the other caller has asked for nothing before they meet.
@@ -214,6 +236,6 @@ fn a_charge_for_a_cost_that_another_caller_changed_is_authorised_only(
     let charges = [Some(unsold), Some(sold), None];
     let orders = [Some((10, 1_547, 3)), None];
     assert!(rt; told.changes == changes && told.clash == Some(clash) && told.counts == (3, 2, 1));
-    assert!(rt; told.charges == charges && told.orders == orders);
+    assert!(rt; told.charges == charges && told.orders == orders && told.unused == 1);
     Ok(())
 }

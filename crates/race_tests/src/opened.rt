@@ -4,7 +4,7 @@ ghost use Rattle.std.specs.Prelude.{◌≡◌, IfOk};
 ghost use Rattle.std.specs.Arc.{arc_value};
 ghost use Rattle.shop_model.specs.lists.Catalogues.{catalogue};
 ghost use Rattle.shop_model.specs.population.Population.{populated};
-ghost use Rattle.shop_engine.specs.Workers.{IsPosted};
+ghost use Rattle.shop_engine.specs.Posts.{IsPosted};
 ghost use Rattle.shop_turn.specs.Desks.{IsOneShop, seat_of};
 
 use crate::interrupted::Interrupted;
@@ -38,7 +38,7 @@ pub(crate) struct Caller<R: Wait + Drop> {
 
 impl<R: Wait + Drop> Model for Caller<R> {
     ghost use Rattle.std.specs.Arc.{arc_value};
-    ghost use Rattle.shop_engine.specs.Workers.{IsPosted};
+    ghost use Rattle.shop_engine.specs.Posts.{IsPosted};
     ghost use Rattle.shop_turn.specs.Desks.{DeskValue, seat_of};
 
     ghost Value = { DeskValue };

@@ -139,22 +139,39 @@ fn two_workers_race_where_no_number_is_given(rt: HostRuntime) -> Result<(), Fail
     Ok(())
 }
 
-/// Whether a race at once prints what it is to print.
+/// What is printed where these browsers are run one after another.
+const LINES: &str = "entries 176\norders 40\ncents 126412\n\
+caller 1 44\ncaller 2 44\ncaller 3 44\ncaller 4 44\n";
+
+/// The same browsers over a log that may have twenty changes.
+const ORDERING_OF_20: &str = "race --workers 4 --steps 100 --mix ordering --limit 20";
+
+/// The first browser makes all of these changes.
+const LINES_OF_20: &str = "entries 20\norders 0\ncents 0\n\
+caller 1 20\ncaller 2 0\ncaller 3 0\ncaller 4 0\n";
+
+/// Whether a race of four at once prints these lines.
 fn is_printed<R: Threads + Wait + Clone + Drop + Send + 'static>(
     rt: &R,
     alloc: Global,
+    line: &str,
+    lines: &str,
 ) -> Result<bool, Memory> {
-    let lines = "entries 176\norders 40\ncents 126412\n\
-caller 1 44\ncaller 2 44\ncaller 3 44\ncaller 4 44\n";
-    let outcome = run(rt, alloc, ORDERING, Way::AtOnce)?;
+    let outcome = run(rt, alloc, line, Way::AtOnce)?;
     Ok(is_told(&outcome, Status::Done, (4, 0), lines, ""))
 }
 
 #[test]
 fn a_race_at_once_prints_the_same_lines_each_time(rt: HostRuntime) -> Result<(), Fail> {
-    let first = is_printed(&rt, rt.alloc())?;
-    let second = is_printed(&rt, rt.alloc())?;
+    let first = is_printed(&rt, rt.alloc(), ORDERING, LINES)?;
+    let second = is_printed(&rt, rt.alloc(), ORDERING, LINES)?;
     assert!(rt; first && second);
+    Ok(())
+}
+
+#[test]
+fn a_race_goes_on_behind_the_last_change_of_its_log(rt: HostRuntime) -> Result<(), Fail> {
+    assert!(rt; is_printed(&rt, rt.alloc(), ORDERING_OF_20, LINES_OF_20)?);
     Ok(())
 }
 
@@ -181,6 +198,7 @@ fn is_refused<R: Threads + Wait + Clone + Drop + Send + 'static>(
 fn words_that_ask_for_no_race_start_nothing(rt: HostRuntime) -> Result<(), Fail> {
     let alloc = rt.alloc();
     assert!(rt; is_refused(&rt, alloc, "race --workers 17")?);
+    assert!(rt; is_refused(&rt, alloc, "race --limit 0")?);
     assert!(rt; is_refused(&rt, alloc, "session")?);
     assert!(rt; is_refused(&rt, alloc, "")?);
     Ok(())

@@ -1,5 +1,6 @@
 //! What caller 2 does at a book that caller 1 has too.
 ghost use Rattle.std.specs.Prelude.{◌≡◌, ◌≤◌, IfOk, IfSome};
+ghost use Rattle.shop_model.specs.asked.AdminAsked.{IsCost};
 ghost use Rattle.shop_model.specs.asked.CustomersAsked.{IsFilled};
 ghost use Rattle.shop_model.specs.rows.Limits.{stamp_limit};
 ghost use Rattle.shop_attempt.specs.Faithful.{Faithful};
@@ -32,11 +33,14 @@ pub(crate) enum Deed {
     Buy(u32),
     /// It lets item 1 cost 20.00, where caller 1 is about to buy, or shows the newest items of a subject.
     Reprice,
+    /// From caller 1's settle of this number on, counted from 1, it lets item 1 cost 20.00, and a cent more each time: a
+    /// cost that stays is no change of the item.
+    Raise(u32),
 }
 
 impl Deed {
-    /// Whether its time is before a settle of this attempt.
-    pub(crate) fn is_before(self, attempt: &Attempt) -> bool {
+    /// Whether its time is before a settle of this attempt, which is caller 1's of this number.
+    pub(crate) fn is_before(self, attempt: &Attempt, settle: u32) -> bool {
         match self {
             Deed::AddUnit => true,
             Deed::Buy(_) => matches!(
@@ -46,6 +50,7 @@ impl Deed {
             Deed::Reprice => {
                 matches!(attempt.act, Some(Act::Confirm(_, _, _))) || reads_newest(attempt)
             }
+            Deed::Raise(from) => from <= settle,
         }
     }
 }
@@ -58,12 +63,19 @@ fn reads_newest(attempt: &Attempt) -> bool {
     }
 }
 
-/// The deed of whoever has the seat; whether it was done.
+/// A cent more than 20.00 for each settle behind the first that has its change.
+fn raised(settle: u32, first: u32) -> u64
+    ensures { IsCost result }
+{
+    2_000 + u64::from(settle.saturating_sub(first).min(1_000))
+}
+
+/// The deed of whoever has the seat, before a settle of this number of caller 1; whether it was done.
 pub(crate) fn does<St: Store>(
     alloc: Global,
     store: &mut St,
     ask: &Ask,
-    deed: Deed,
+    timed: (Deed, u32),
     draft: &mut Draft,
 ) -> bool
     requires suits { Suits ask.now (St.seat store.old) }
@@ -72,10 +84,12 @@ pub(crate) fn does<St: Store>(
     ensures others { LeavesOthers (St.seat store.old) (St.seat store.new) }
     ensures marks { KeepsMarks (St.marked store.old) (St.marked store.new) (St.seat store.old) (St.seat store.new) }
 {
+    let (deed, settle) = timed;
     match deed {
         Deed::AddUnit => add_unit(alloc, store, ask, draft),
         Deed::Buy(item) => buy_item(alloc, store, ask, item, draft),
-        Deed::Reprice => reprice(alloc, store, ask, draft),
+        Deed::Reprice => reprice(alloc, store, ask, 2_000, draft),
+        Deed::Raise(from) => reprice(alloc, store, ask, raised(settle, from), draft),
     }
 }
 
@@ -158,14 +172,21 @@ fn buy<St: Store>(alloc: Global, store: &mut St, ask: &Ask, cart: u32, draft: &m
 
 /// Item 1 at another cost; whether that was done.
 #[tactic(auto, using(shop_attempt::proofs::cited::Looks::follows_trans))]
-fn reprice<St: Store>(alloc: Global, store: &mut St, ask: &Ask, draft: &mut Draft) -> bool
+fn reprice<St: Store>(
+    alloc: Global,
+    store: &mut St,
+    ask: &Ask,
+    cost: u64,
+    draft: &mut Draft,
+) -> bool
+    requires cost { IsCost cost }
     requires suits { Suits ask.now (St.seat store.old) }
     requires moment { ask.now.moment ≤ stamp_limit }
     ensures follows { Follows (St.seat store.old) (St.seat store.new) }
     ensures others { LeavesOthers (St.seat store.old) (St.seat store.new) }
     ensures marks { KeepsMarks (St.marked store.old) (St.marked store.new) (St.seat store.old) (St.seat store.new) }
 {
-    match repricing(alloc, store, ask, draft) {
+    match repricing(alloc, store, ask, cost, draft) {
         Some(attempt) => settles(store, attempt).is_some(),
         None => false,
     }
@@ -223,11 +244,13 @@ pub(crate) fn filled(alloc: Global, text: &[u8]) -> Result<Text, Memory>
     Text::copy(alloc, text)
 }
 
-/// That item 1 is to cost 20.00.
-fn repriced(alloc: Global) -> Result<Shared<AdminConfirm>, Memory> {
+/// What item 1 is to cost.
+fn repriced(alloc: Global, cost: u64) -> Result<Shared<AdminConfirm>, Memory>
+    requires { IsCost cost }
+{
     let asked = AdminConfirm {
         item: 1,
-        cost: 2_000,
+        cost,
         image: filled(alloc, b"/i.gif")?,
         thumb: filled(alloc, b"/t.gif")?,
         ids: IdsAsked {
@@ -238,19 +261,21 @@ fn repriced(alloc: Global) -> Result<Shared<AdminConfirm>, Memory> {
     Shared::new(alloc, asked)
 }
 
-/// The attempt to let item 1 cost 20.00.
+/// The attempt to let item 1 cost this.
 fn repricing<St: Store>(
     alloc: Global,
     store: &mut St,
     ask: &Ask,
+    cost: u64,
     draft: &mut Draft,
 ) -> Option<Attempt>
+    requires cost { IsCost cost }
     requires suits { Suits ask.now (St.seat store.old) }
     ensures looks { Looks St.seat St.marked store.old store.new }
     ensures faithful { IfSome result (Faithful (St.seat store.new).opening (St.seat store.new).seen) }
     ensures moment { IfSome result (λ attempt. attempt.moment ≡ ask.now.moment) }
 {
-    let Ok(asked) = repriced(alloc) else {
+    let Ok(asked) = repriced(alloc, cost) else {
         return None;
     };
     match admin_confirm(alloc, store, ask, &asked, draft) {

@@ -1,5 +1,5 @@
-//! A book at which a second caller changes a cart or buys an item before the first one's settles; and
-//! tests of what the first one is then told, and its gateway asked, of the lists that it keeps, of settles
+//! A book at which a second caller changes a cart or a cost, or buys an item, before the first one's settles;
+//! and tests of what the first one is then told, and its gateway asked, of the lists that it keeps, of settles
 //! with writes that cancel, and of two callers who buy as newcomers.
 #![tactic(auto)]
 

@@ -30,6 +30,8 @@ pub(crate) struct Rivalled {
     scale: Scale,
     deed: Deed,
     changes: u32,
+    /// How often caller 1 has settled.
+    settles: u32,
     /// The page of caller 2's change.
     draft: Draft,
 }
@@ -69,6 +71,7 @@ impl Rivalled {
             scale,
             deed,
             changes,
+            settles: 0,
             draft,
         }
     }
@@ -84,6 +87,7 @@ impl Rivalled {
             scale: _,
             deed: _,
             changes: _,
+            settles: _,
             draft: _,
         } = self;
         solo.into_book()
@@ -95,14 +99,16 @@ impl Rivalled {
         ensures looked { Looked (among (seat_of self.old.solo)) (among (seat_of self.new.solo)) }
         ensures marks { KeepsMarks (marks_of self.old.solo) (marks_of self.new.solo) (among (seat_of self.old.solo)) (among (seat_of self.new.solo)) }
     {
-        if self.changes > 0 && self.deed.is_before(attempt) {
+        self.settles = self.settles.saturating_add(1);
+        if self.changes > 0 && self.deed.is_before(attempt, self.settles) {
             let ask = Ask {
                 scale: &self.scale,
                 index: &self.index,
                 moment: attempt.moment,
                 draw: 0,
             };
-            self.changes -= rival(self.alloc, &mut self.solo, &ask, self.deed, &mut self.draft);
+            let deed = (self.deed, self.settles);
+            self.changes -= rival(self.alloc, &mut self.solo, &ask, deed, &mut self.draft);
         }
     }
 }
@@ -125,8 +131,8 @@ impl Store for Rivalled {
     }
 }
 
-/// Caller 2's try at its deed, at the seat of caller 1; how often it was done.
-fn rival(alloc: Global, solo: &mut Solo, ask: &Ask, deed: Deed, draft: &mut Draft) -> u32
+/// Caller 2's try at its deed before a settle of this number, at the seat of caller 1; how often it was done.
+fn rival(alloc: Global, solo: &mut Solo, ask: &Ask, deed: (Deed, u32), draft: &mut Draft) -> u32
     requires caller { solo.old.visitor.caller ≡ 1 }
     requires index { ask.now.index.now ≡ catalogue solo.old.book.opening.tables }
     requires scale { ask.now.scale.now.items ≡ length solo.old.book.opening.tables.items }

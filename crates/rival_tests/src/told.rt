@@ -20,8 +20,9 @@ pub(crate) enum Decided {
     Change(u64, u32),
     At(u64, u32),
     List(u64, u32),
-    /// And how many conflicts there were, each of cart 1 with the change behind the one before.
-    Busy(u64, u32, usize),
+    /// And how many conflicts there were, each of cart 1 or of item 1 with the change behind the one before, and the
+    /// version that was read first.
+    Busy(u64, u32, usize, u64),
     Other,
 }
 
@@ -32,9 +33,7 @@ impl Decided {
             PointKind::Change => Decided::Change(*front, *tries),
             PointKind::At => Decided::At(*front, *tries),
             PointKind::List => Decided::List(*front, *tries),
-            PointKind::Busy(conflicts) if are_rising(conflicts.as_slice()) => {
-                Decided::Busy(*front, *tries, conflicts.as_slice().len())
-            }
+            PointKind::Busy(conflicts) => busy_by(*front, *tries, conflicts.as_slice()),
             _ => Decided::Other,
         }
     }
@@ -60,12 +59,13 @@ pub(crate) struct Sold {
 }
 
 /// What a session shows: its end, the first answers, how many pages there are and how many that tell of rows that kept
-/// changing.
+/// changing, and how many show the costs of item 1: at first, and as caller 2 lets it cost at first and at last.
 #[derive(Clone, Copy)]
 pub(crate) struct Shown {
     pub(crate) end: Ended,
     pub(crate) answers: [Option<Decided>; 4],
     pub(crate) pages: (usize, usize),
+    pub(crate) costs: (usize, usize, usize),
 }
 
 /// What is told of a session: what it shows, and what was sold.
@@ -96,6 +96,11 @@ impl Shown {
                 Decided::at(points, 3),
             ],
             pages: (count_of(reply, b"HTTP/1.1 200 OK"), count_of(reply, BUSY)),
+            costs: (
+                count_of(reply, b"our price 41.42"),
+                count_of(reply, b"our price 20.00"),
+                count_of(reply, b"our price 20.06"),
+            ),
         }
     }
 }
@@ -134,17 +139,29 @@ fn order_of(book: &mut Book, order: u32) -> Option<Sale> {
     }
 }
 
-/// Whether conflicts are those of cart 1 with one change after another.
-fn are_rising(conflicts: &[Conflict]) -> bool {
-    for (before, conflict) in conflicts.iter().enumerate() {
-        let read = before as u64 + 1;
-        if !matches!(conflict.key, Key::Cart(1))
-            || (conflict.read, conflict.found) != (read, read + 1)
+/// The version that the first of the conflicts read, where they are those of cart 1 or of item 1 with one change after
+/// another.
+fn first_read(conflicts: &[Conflict]) -> Option<u64> {
+    let first = conflicts.first()?.read;
+    let mut read = first;
+    for conflict in conflicts {
+        let found = read.saturating_add(1);
+        if !matches!(conflict.key, Key::Cart(1) | Key::Item(1))
+            || (conflict.read, conflict.found) != (read, found)
         {
-            return false;
+            return None;
         }
+        read = found;
     }
-    true
+    Some(first)
+}
+
+/// What decided an answer behind these conflicts.
+fn busy_by(front: u64, tries: u32, conflicts: &[Conflict]) -> Decided {
+    match first_read(conflicts) {
+        Some(first) => Decided::Busy(front, tries, conflicts.len(), first),
+        None => Decided::Other,
+    }
 }
 
 /// How often these bytes stand in others.

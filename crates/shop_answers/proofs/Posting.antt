@@ -6,7 +6,7 @@ use Rattle.shop_model.specs.population.Scales.{ScaleRow, desk}
 use Rattle.shop_attempt.specs.Seats.{IsSeat}
 use Rattle.shop_book.specs.Books.{BookValue}
 use Rattle.shop_book.specs.Solos.{SoloValue, seat_of, seated}
-use Rattle.shop_engine.specs.Workers.{IsPosted}
+use Rattle.shop_engine.specs.Posts.{IsPosted}
 
 pub posted : (scale : ScaleRow) (t : Tables) (index : Catalogue) (book : BookValue) (solo : SoloValue) → scale ≡ desk → length t.items ≡ desk.items → index ≡ catalogue t
     → book.opening.tables ≡ t → solo ≡ seated book 1 → IsSeat (seat_of solo) → IsPosted (seat_of solo) index (record { number = 1; seed = 0; scale = scale })

@@ -84,7 +84,12 @@ pub fn worker(alloc: Global, limit: u8) -> Result<Box<Worker<Solo>>, Memory> {
 
 /// A worker of a shop of this scale. Its callers need none of what is promised of it.
 pub fn worker_of(alloc: Global, scale: Scale) -> Result<Worker<Solo>, Memory> {
-    first_worker(alloc, Session { scale, seed: 0 })
+    let session = Session {
+        scale,
+        seed: 0,
+        limit: 1_000_000,
+    };
+    first_worker(alloc, session)
 }
 
 /// A book without a change.

@@ -1,10 +1,10 @@
 -- What a race comes to, by its tasks and the close of their shop.
-use Rattle.std.proofs.Common.{◌≡◌, ⊎_elim, ◌⊎◌, ℕ, zero, suc, ◌+◌, ◌-◌, ◌≤◌, ◌<◌, Bool, true, false, List, [], ◌∷◌, ◌++◌, map, length, drop, get_or, slice_get, ◌==◌, Option, Some, None, inl, inr, refl, sym, ap, ◌∙◌, subst, arith, length-append, append_assoc, append-nil}
-use Rattle.std.specs.Prelude.{flat_map, nat_le, ◌&&◌, if◌then◌else◌}
+use Rattle.std.proofs.Common.{◌≡◌, ⊎_elim, ◌⊎◌, ℕ, zero, suc, ◌+◌, ◌-◌, ◌≤◌, ◌<◌, Bool, true, false, List, [], ◌∷◌, ◌++◌, map, length, drop, get_or, slice_get, ◌==◌, Option, Some, refl, sym, ap, ◌∙◌, subst, arith, length-append, append_assoc, append-nil}
+use Rattle.std.specs.Prelude.{flat_map}
 use Rattle.std.specs.List.{All, AllZip, Contains, concat, range_with_len}
 use Rattle.std.proofs.lemmas.List.Folds.{concat-append}
 use Rattle.std.proofs.lemmas.List.FromFn.{map-range_with_len_more}
-use Rattle.std.proofs.lemmas.Bool.{cases_lt, eq-eqb, leb-true, false≢true}
+use Rattle.std.proofs.lemmas.Bool.{cases_lt, eq-eqb, false≢true}
 use Rattle.std.proofs.lemmas.List.{get_or_append_left, get_or-append_right}
 use Rattle.std.proofs.lemmas.List.Elements.{All-cons, All-nil, All-contains}
 use Rattle.std.proofs.lemmas.Option.{get_or_from_slice_get, slice_get_within}
@@ -31,8 +31,10 @@ use Rattle.shop_turn.specs.Views.{opening_view}
 use Rattle.shop_turn.specs.Desks.{DeskValue, IsOneShop, marks_of, moments_of, seat_of, shop_name}
 use Rattle.shop_turn.specs.Shops.{IsAll, Opens, IsMomentOf, Outlasts, new_desk}
 use Rattle.shop_turn.proofs.cited.Desks.{moment_within, new_at, new_size}
-use Rattle.shop_engine.specs.Lists.{IsFreshIn, IsFreshPoint}
-use Rattle.shop_engine.specs.Workers.{IsPosted, at_first}
+use Rattle.shop_engine.specs.Lists.{IsFreshPoint}
+use Rattle.shop_engine.specs.Fresh.{IsFreshIn}
+use Rattle.shop_engine.specs.Workers.{at_first}
+use Rattle.shop_engine.specs.Posts.{IsPosted}
 use Rattle.shop_engine.proofs.KeptLemmas.{points_fresh}
 use Rattle.shop_engine.proofs.Steps.{lawful}
 use Rattle.shop_engine.proofs.cited.Fresh.{all_fresh}
@@ -44,13 +46,9 @@ use Rattle.shop_drive.proofs.cited.Moments.{last_of, turns_count}
 use Rattle.shop_tasks.specs.TaskValues.{RacedValue, TaskValue}
 use Rattle.shop_tasks.specs.Tasks.{AreDone, Races, first_stage}
 use Rattle.shop_browsers.specs.Browsers.{new_browser}
-use Rattle.shop_text.specs.Numbers.{number_of}
 use Rattle.shop_words.specs.declared.command.Race.{Race}
 use Rattle.shop_words.specs.declared.command.Session.{Session}
-use Rattle.shop_words.specs.Commands.{IsRace}
-use Rattle.shop_words.specs.Options.{IsChosen}
-use Rattle.shop_words.specs.Values.{steps_of, within, workers_of}
-use Rattle.shop_app.specs.Racing.{AreNewDesks, IsFirstTask, IsWithin, OpensRace, RacedBy, RacedTo, caller_of, first_seat_at, first_stage_at, new_book}
+use Rattle.shop_app.specs.Racing.{AreNewDesks, IsFirstTask, OpensRace, RacedBy, RacedTo, caller_of, first_seat_at, first_stage_at, new_book}
 use Rattle.shop_app.specs.Summaries.{race_lines}
 
 -- lists, place by place
@@ -346,40 +344,13 @@ module _ {C : Type 0} (readings : C → Option (List ℕ)) (race : Race) (clock 
           printed = printed;
         }
 
--- what words may ask for
-
-within_is : (low high : ℕ) (o : Option ℕ) (n : ℕ) → within low high o ≡ Some n → (low ≤ n) × (n ≤ high)
-within_is low high None n is = absurd cc
-within_is low high (Some m) n is = by (nat_le low m) (nat_le m high) refl refl is
-  where
-    by : (least most : Bool) → nat_le low m ≡ least → nat_le m high ≡ most → (if least && most then Some m else None) ≡ Some n → (low ≤ n) × (n ≤ high)
-    by true true one few is = let same : m ≡ n = cc in (omega (arith, leb-true low m one, same), omega (arith, leb-true m high few, same))
-    by true false one few is = absurd cc
-    by false most one few is = absurd cc
-
-chosen_is : (form : List ℕ → Option ℕ) (fallback : ℕ) (o : Option (List ℕ)) (n : ℕ) → IsChosen form fallback o n → (n ≡ fallback) ⊎ ((text : List ℕ) × (form text ≡ Some n))
-chosen_is form fallback None n is = inl is
-chosen_is form fallback (Some text) n is = inr (text, is)
-
-pub within_words : (words : List (List ℕ)) (race : Race) → IsRace words race → IsWithin race
-within_words words race is =
-    let workers : (1 ≤ race.workers) × (race.workers ≤ 16) = ⊎_elim
-    (λ (two : race.workers ≡ 2). (omega (arith, two), omega (arith, two)))
-    (λ (given : (text : List ℕ) × (workers_of text ≡ Some race.workers)). within_is 1 16 (number_of given.0) race.workers given.1)
-    (chosen_is workers_of 2 _ race.workers is.chooses.workers) in
-    let steps : race.steps ≤ 100_000 = ⊎_elim
-    (λ (hundred : race.steps ≡ 100). omega (arith, hundred))
-    (λ (given : (text : List ℕ) × (steps_of text ≡ Some race.steps)). (within_is 1 100_000 (number_of given.0) race.steps given.1).1)
-    (chosen_is steps_of 100 _ race.steps is.chooses.workload.steps) in
-    record { one = workers.0; workers = workers.1; steps = steps }
-
 -- a new shop, and a task at each of its desks
 
-pub opens_new : (session : Session) (book : BookValue) (t : Tables) (callers : ℕ) (desks : List DeskValue) → book ≡ record { opening = record { tables = t; limit = 1_000_000 }; log = []; latest = 0 }
+pub opens_new : (session : Session) (book : BookValue) (t : Tables) (callers : ℕ) (desks : List DeskValue) → book ≡ record { opening = record { tables = t; limit = session.limit }; log = []; latest = 0 }
     → t ≡ populated session.seed session.scale → Opens book callers desks → Opens (new_book session) callers desks
 unfolding new_book
 opens_new session book t callers desks is drawn =
-    subst (λ (b : BookValue). Opens b callers desks) (is ∙ ap (λ (u : Tables). record { opening = record { tables = u; limit = 1_000_000 }; log = []; latest = 0 }) drawn)
+    subst (λ (b : BookValue). Opens b callers desks) (is ∙ ap (λ (u : Tables). record { opening = record { tables = u; limit = session.limit }; log = []; latest = 0 }) drawn)
 
 -- the desk that comes next in a list of new ones
 pub next_desk : (session : Session) (callers : ℕ) (before : List DeskValue) (desk : DeskValue) (behind desks : List DeskValue) (is : AreNewDesks session callers desks) → before ++ desk ∷ behind ≡ desks

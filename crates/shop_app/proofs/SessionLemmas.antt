@@ -16,10 +16,11 @@ use Rattle.shop_engine.specs.declared.report.Ended.{Ended}
 use Rattle.shop_engine.specs.declared.report.Ended.TheVariants as ended
 use Rattle.shop_engine.specs.declared.report.Point.{Point}
 use Rattle.shop_engine.specs.Failures.{RoseBy, failures}
-use Rattle.shop_engine.specs.Lists.{IsFreshIn}
+use Rattle.shop_engine.specs.Fresh.{IsFreshIn}
 use Rattle.shop_engine.specs.Served.{Served}
 use Rattle.shop_engine.specs.Steps.{Step}
-use Rattle.shop_engine.specs.Workers.{IsPosted, Standing, WorkerState, at_first, standing}
+use Rattle.shop_engine.specs.Workers.{Standing, WorkerState, at_first, standing}
+use Rattle.shop_engine.specs.Posts.{IsPosted}
 use Rattle.shop_words.specs.declared.command.Session.{Session}
 use Rattle.shop_app.specs.Outside.{Run}
 use Rattle.shop_app.specs.Session.{IsFirst, IsSession, ServedTo, first_caller, first_seat, first_standing}
@@ -71,9 +72,9 @@ module _ (session : Session) (before after : Standing) (old new : Run) (points :
 
 -- a new seat over a new book of the session's shop is the first seat, and its caller is posted there
 module _ (session : Session) (t : Tables) (solo : SoloValue) (book : BookValue) (is_solo : solo ≡ seated book 1)
-    (is_book : book ≡ record { opening = record { tables = t; limit = 1_000_000 }; log = []; latest = 0 }) (is_drawn : t ≡ populated session.seed session.scale) where
-  solo_is : solo ≡ seated (record { opening = record { tables = populated session.seed session.scale; limit = 1_000_000 }; log = []; latest = 0 }) 1
-  solo_is = is_solo ∙ ap (λ (b : BookValue). seated b 1) (is_book ∙ ap (λ (u : Tables). record { opening = record { tables = u; limit = 1_000_000 }; log = []; latest = 0 }) is_drawn)
+    (is_book : book ≡ record { opening = record { tables = t; limit = session.limit }; log = []; latest = 0 }) (is_drawn : t ≡ populated session.seed session.scale) where
+  solo_is : solo ≡ seated (record { opening = record { tables = populated session.seed session.scale; limit = session.limit }; log = []; latest = 0 }) 1
+  solo_is = is_solo ∙ ap (λ (b : BookValue). seated b 1) (is_book ∙ ap (λ (u : Tables). record { opening = record { tables = u; limit = session.limit }; log = []; latest = 0 }) is_drawn)
 
   pub posted : (index : Catalogue) → index ≡ catalogue t → IsSeat (seat_of solo) → IsPosted (seat_of solo) index (record { number = 1; seed = session.seed; scale = session.scale })
   posted index is_index valid =

@@ -11,7 +11,7 @@ use Rattle.shop_model.specs.population.Population.{populated}
 use Rattle.shop_history.specs.Lawful.{IsLawful}
 use Rattle.shop_book.specs.Books.{BookValue}
 use Rattle.shop_browsers.specs.Browsers.{BrowserState, new_browser}
-use Rattle.shop_engine.specs.Lists.{IsFreshIn}
+use Rattle.shop_engine.specs.Fresh.{IsFreshIn}
 use Rattle.shop_engine.specs.Steps.{plain_point}
 use Rattle.shop_drive.specs.declared.tally.Tally.{Tally}
 use Rattle.shop_drive.specs.Drives.{Drove, StoppedAmid, points_of}

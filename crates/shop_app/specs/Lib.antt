@@ -4,6 +4,7 @@ pub mod Session
 pub mod Summaries
 pub mod Driving
 pub mod Noted
+pub mod Meanings
 pub mod Racing
 pub mod RaceEnds
 pub mod Runs

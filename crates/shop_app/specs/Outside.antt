@@ -23,8 +23,12 @@ pub record Run : Type 0 where
   pub reads : ℕ
   pub writes : ℕ
 
-abbrev pub run_of : {S K C G : Type 0} → source.Ghosts S → sink.Ghosts K → clock.Ghosts C → gateway.Ghosts G → S × K × C × G → Run
-run_of s k c g (source, sink, clock, gateway) = record {
+-- the meanings of a source, a sink, a clock and a gateway
+abbrev pub Meanings : Type 0 → Type 0 → Type 0 → Type 0 → Type 1
+Meanings S K C G = source.Ghosts S × sink.Ghosts K × clock.Ghosts C × gateway.Ghosts G
+
+abbrev pub run_of : {S K C G : Type 0} → Meanings S K C G → S × K × C × G → Run
+run_of (s, k, c, g) (source, sink, clock, gateway) = record {
   streams = record { left = s.left source; held = k.held sink };
   outside = outside c g clock gateway;
   reads = s.faults source;

@@ -15,11 +15,12 @@ use Rattle.shop_history.specs.Lawful.{IsLawful}
 use Rattle.shop_history.specs.Logs.{entries_of}
 use Rattle.shop_attempt.specs.Seats.{Seat, IsSeat}
 use Rattle.shop_book.specs.Books.{BookValue}
+use Rattle.shop_book.specs.Openings.{most_entries}
 use Rattle.shop_turn.specs.Desks.{DeskValue, seat_of}
 use Rattle.shop_turn.specs.Shops.{Opens, new_desk}
 use Rattle.shop_browsers.specs.Browsers.{new_browser}
 use Rattle.shop_engine.specs.Failures.{failures}
-use Rattle.shop_engine.specs.Lists.{IsFreshIn}
+use Rattle.shop_engine.specs.Fresh.{IsFreshIn}
 use Rattle.shop_engine.specs.Workers.{Caller, at_first}
 use Rattle.shop_drive.specs.declared.tally.Tally.{Tally}
 use Rattle.shop_drive.specs.Drives.{Drove, greatest_moment, points_of}
@@ -35,25 +36,26 @@ use Rattle.shop_app.specs.Summaries.{race_lines}
 
 -- the book of a shop that nobody has used
 unfoldable pub new_book : Session → BookValue
-new_book session = record { opening = record { tables = populated session.seed session.scale; limit = 1_000_000 }; log = []; latest = 0 }
+new_book session = record { opening = record { tables = populated session.seed session.scale; limit = session.limit }; log = []; latest = 0 }
 
--- as many workers and steps as words may ask for
+-- as many workers, steps and changes as words may ask for
 pub record IsWithin (race : Race) : Type 0 where
   pub one : 1 ≤ race.workers
   pub workers : race.workers ≤ 16
   pub steps : race.steps ≤ 100_000
+  pub limit : race.shop.limit ≤ most_entries
 
 -- a caller of the shop that the words choose
 abbrev pub caller_of : Session → ℕ → Caller
 caller_of session number = record { number = number; seed = session.seed; scale = session.scale }
 
--- the seat of a caller, at a desk that it has not used: over the population, with a log that is empty and may have so
--- many entries; others may come at any time, so that no latest stamp is known
+-- the seat of a caller, at a desk that it has not used: over the population, with a log that is empty and may have as
+-- many entries as the words say; others may come at any time, so that no latest stamp is known
 unfoldable pub first_seat_at : List ℕ → Session → ℕ → Seat
 first_seat_at shop session number = record {
   shop = shop;
   opening = populated session.seed session.scale;
-  limit = 1_000_000;
+  limit = session.limit;
   caller = number;
   seen = [];
   own = [];
@@ -150,3 +152,7 @@ IsRaced race clock old new _ = ⊥
 abbrev pub IsSharedRun : List (List ℕ) → Option (List ℕ) → Shared → Shared → Status → Type 0
 IsSharedRun words clock old new outcome =
     ((outcome ≡ status.Memory) × (new ≡ old)) ⊎ ((race : Race) × IsRace words race × IsRaced race clock old new outcome)
+
+-- a run of several callers: all was served, or memory ran out
+abbrev pub IsDone : Status → Type 0
+IsDone outcome = (outcome ≡ status.Done) ⊎ (outcome ≡ status.Memory)

@@ -1,15 +1,16 @@
 -- What a whole run does, by its words and its status.
-use Rattle.std.specs.Prelude.{◌≡◌, ◌⊎◌, ℕ, List, Option, Some, codes, slice_get}
+use Rattle.std.specs.Prelude.{◌≡◌, ◌≢◌, ◌⊎◌, ℕ, List, Option, Some, codes, slice_get}
 use Rattle.std.specs.Io.KnownBytes.{Appends}
 use Rattle.shop_edges.specs.Causes.{Rose}
 use Rattle.shop_edges.specs.Streams.{AppendsFront}
 use Rattle.shop_words.specs.declared.command.Command.{Command}
 use Rattle.shop_words.specs.declared.command.Command.TheVariants as command
+use Rattle.shop_words.specs.declared.command.Session.{Session}
 use Rattle.shop_words.specs.Commands.{IsCommand}
 use Rattle.shop_app.specs.declared.status.Status.{Status}
 use Rattle.shop_app.specs.declared.status.Status.TheVariants as status
 use Rattle.shop_app.specs.Driving.{IsDriven}
-use Rattle.shop_app.specs.Outside.{Run}
+use Rattle.shop_app.specs.Outside.{Meanings, Run, run_of}
 use Rattle.shop_app.specs.Session.{IsSession}
 use Rattle.shop_app.specs.Statuses.{fault_line}
 
@@ -32,6 +33,14 @@ Obeys (command.Race race) old new outcome = ⊥
 abbrev pub IsRun : List (List ℕ) → Run → Run → Status → Type 0
 IsRun words old new outcome =
     ((outcome ≡ status.Memory) × (new ≡ old)) ⊎ ((given : Command) × IsCommand words given × Obeys given old new outcome)
+
+-- the same by the meanings of what is outside, where the words were good
+abbrev pub RunsBy : {S K C G : Type 0} → Meanings S K C G → List (List ℕ) → S × K × C × G → S × K × C × G → Status → Type 0
+RunsBy by words old new outcome = outcome ≢ status.BadWords → IsRun words (run_of by old) (run_of by new) outcome
+
+-- so a session
+abbrev pub SessionBy : {S K C G : Type 0} → Meanings S K C G → Session → S × K × C × G → S × K × C × G → Status → Type 0
+SessionBy by session old new outcome = IsSession session (run_of by old) (run_of by new) outcome
 
 -- the line of a status stands on the faults sink, or that sink failed, and a front of the line stands there
 abbrev pub IsTold : Option (List ℕ) → Option (List ℕ) → ℕ → ℕ → Status → Type 0

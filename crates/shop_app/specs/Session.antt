@@ -14,7 +14,7 @@ use Rattle.shop_engine.specs.declared.report.PointKind.{PointKind}
 use Rattle.shop_engine.specs.declared.report.PointKind.TheVariants.{Plain, Change, Busy}
 use Rattle.shop_engine.specs.Decided.{tries_alone}
 use Rattle.shop_engine.specs.Failures.{RoseBy, failures}
-use Rattle.shop_engine.specs.Lists.{IsFreshIn}
+use Rattle.shop_engine.specs.Fresh.{IsFreshIn}
 use Rattle.shop_engine.specs.Served.{Served}
 use Rattle.shop_engine.specs.Steps.{plain_point}
 use Rattle.shop_engine.specs.Workers.{Caller, Standing, WorkerState, at_first}
@@ -28,12 +28,12 @@ unfoldable pub first_caller : Session → Caller
 first_caller session = record { number = 1; seed = session.seed; scale = session.scale }
 
 -- its seat before the session: alone, over the population of its seed and scale, with a log that is empty
--- and may have so many entries
+-- and may have as many entries as they say
 unfoldable pub first_seat : Session → Seat
 first_seat session = record {
   shop = [];
   opening = populated session.seed session.scale;
-  limit = 1_000_000;
+  limit = session.limit;
   caller = 1;
   seen = [];
   own = [];

@@ -1,5 +1,5 @@
 -- The statuses of a run, this project's own.
-use Rattle.std.specs.Prelude.{ℕ, List, [], codes}
+use Rattle.std.specs.Prelude.{◌≡◌, ◌⊎◌, ℕ, List, [], codes}
 use Rattle.shop_engine.specs.declared.report.Ended.{Ended}
 use Rattle.shop_engine.specs.declared.report.Ended.TheVariants as ended
 use Rattle.shop_app.specs.declared.status.Status.{Status}
@@ -34,3 +34,7 @@ status_of ended.Spent = status.Unserved
 status_of ended.ReadFault = status.ReadFault
 status_of ended.WriteFault = status.WriteFault
 status_of ended.Memory = status.Memory
+
+-- a run of one caller tells no fault: all was served, or the input was cut or refused, or memory ran out
+abbrev pub IsFaultless : Status → Type 0
+IsFaultless outcome = (outcome ≡ status.Done) ⊎ (outcome ≡ status.Unserved) ⊎ (outcome ≡ status.Memory)

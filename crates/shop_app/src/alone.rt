@@ -1,12 +1,14 @@
 ghost use Rattle.std.specs.Prelude.{◌≡◌, ◌≢◌, ◌≤◌, IfOk};
 ghost use Rattle.std.specs.Arc.{arc_value};
+ghost use Rattle.shop_book.specs.Openings.{most_entries};
+ghost use Rattle.shop_edges.specs.Causes.{Rose};
 ghost use Rattle.shop_model.specs.lists.Catalogues.{catalogue};
 ghost use Rattle.shop_words.specs.declared.command.Command.{Command};
 ghost use Rattle.shop_words.specs.Commands.{IsCommand};
 ghost use Rattle.shop_app.specs.Statuses as spec;
-ghost use Rattle.shop_app.specs.Runs.{IsForSeveral, IsRun, IsTold};
-ghost use Rattle.shop_app.specs.Outside.{run_of};
-ghost use Rattle.shop_app.specs.Session.{IsFirst, IsSession};
+ghost use Rattle.shop_app.specs.Statuses.{IsFaultless};
+ghost use Rattle.shop_app.specs.Runs.{IsForSeveral, IsTold, RunsBy, SessionBy};
+ghost use Rattle.shop_app.specs.Session.{IsFirst};
 
 use crate::Status;
 use crate::driven::drive_browsers;
@@ -24,9 +26,6 @@ use std::sync::Arc;
 /// The caller of a session.
 const CALLER: u32 = 1;
 
-/// How many changes the log of a shop holds.
-pub(crate) const LIMIT: u64 = 1_000_000;
-
 /// Does what the words say, for one caller, over the shop that the options choose, whose payments the gateway takes:
 /// `session` serves one connection from the source to the sink, and `drive` has browsers ask, and prints a summary to
 /// the sink. Where that doesn't end well, a line on the faults sink tells it; a fault of that sink changes no status.
@@ -41,10 +40,11 @@ pub fn run_alone<S: Source, K: Sink, C: Clock, G: Gateway>(
 ) -> Status
     ensures bad_words { result ≡ Status.BadWords → (command : Command) → IsCommand words.now command → IsForSeveral command }
     ensures untouched { result ≡ Status.BadWords → (source.new ≡ source.old) × (sink.new ≡ sink.old) × (clock.new ≡ clock.old) × (gateway.new ≡ gateway.old) }
-    ensures run { result ≢ Status.BadWords → IsRun words.now
-        (run_of S.Source K.Sink C.Clock G.Gateway (source.old, sink.old, clock.old, gateway.old))
-        (run_of S.Source K.Sink C.Clock G.Gateway (source.new, sink.new, clock.new, gateway.new))
-        result }
+    ensures run { RunsBy (S.Source, K.Sink, C.Clock, G.Gateway) words.now
+        (source.old, sink.old, clock.old, gateway.old) (source.new, sink.new, clock.new, gateway.new) result }
+    ensures reads { S.faults source.old ≤ S.faults source.new }
+    ensures writes { K.faults sink.old ≤ K.faults sink.new }
+    ensures complete { result ≢ Status.BadWords → ¬ (Rose (S.faults source.old) (S.faults source.new)) → ¬ (Rose (K.faults sink.old) (K.faults sink.new)) → IsFaultless result }
     ensures told { IsTold (K.held faults.old) (K.held faults.new) (K.faults faults.old) (K.faults faults.new) result }
     ensures later { K.faults faults.old ≤ K.faults faults.new }
 {
@@ -64,10 +64,10 @@ fn run<S: Source, K: Sink, C: Clock, G: Gateway>(
 ) -> Status
     ensures bad_words { result ≡ Status.BadWords → (command : Command) → IsCommand words.now command → IsForSeveral command }
     ensures untouched { result ≡ Status.BadWords → (source.new ≡ source.old) × (sink.new ≡ sink.old) × (clock.new ≡ clock.old) × (gateway.new ≡ gateway.old) }
-    ensures run { result ≢ Status.BadWords → IsRun words.now
-        (run_of S.Source K.Sink C.Clock G.Gateway (source.old, sink.old, clock.old, gateway.old))
-        (run_of S.Source K.Sink C.Clock G.Gateway (source.new, sink.new, clock.new, gateway.new))
-        result }
+    ensures run { RunsBy (S.Source, K.Sink, C.Clock, G.Gateway) words.now
+        (source.old, sink.old, clock.old, gateway.old) (source.new, sink.new, clock.new, gateway.new) result }
+    ensures reads { S.faults source.old ≤ S.faults source.new }
+    ensures writes { K.faults sink.old ≤ K.faults sink.new }
 {
     match command_of(alloc, words) {
         Parsed::Good(Command::Session(asked)) => {
@@ -90,11 +90,12 @@ pub(crate) fn index_of(alloc: Global, tables: &Tables) -> Result<Arc<Index, Glob
 
 /// A worker of caller 1, who has the shop of a session alone, that has served no request.
 pub fn first_worker(alloc: Global, asked: Session) -> Result<Worker<Solo>, Memory>
+    requires { asked.limit ≤ most_entries }
     ensures { IfOk result (IsFirst asked) }
 {
     let tables = populate(alloc, asked.seed, &asked.scale)?;
     let index = index_of(alloc, &tables)?;
-    let book = Book::open(alloc, tables, LIMIT)?;
+    let book = Book::open(alloc, tables, asked.limit)?;
     Worker::new(
         alloc,
         Solo::new(book),
@@ -114,10 +115,11 @@ fn session<S: Source, K: Sink, C: Clock, G: Gateway>(
     clock: &mut C,
     gateway: &mut G,
 ) -> Status
-    ensures { IsSession asked
-        (run_of S.Source K.Sink C.Clock G.Gateway (source.old, sink.old, clock.old, gateway.old))
-        (run_of S.Source K.Sink C.Clock G.Gateway (source.new, sink.new, clock.new, gateway.new))
-        result }
+    requires { asked.limit ≤ most_entries }
+    ensures session { SessionBy (S.Source, K.Sink, C.Clock, G.Gateway) asked
+        (source.old, sink.old, clock.old, gateway.old) (source.new, sink.new, clock.new, gateway.new) result }
+    ensures reads { S.faults source.old ≤ S.faults source.new }
+    ensures writes { K.faults sink.old ≤ K.faults sink.new }
 {
     let Ok(mut worker) = first_worker(alloc, asked) else {
         return Status::Memory;

@@ -1,14 +1,12 @@
 //! The command `drive`.
-ghost use Rattle.std.specs.Prelude.{◌≡◌, ◌≢◌, ◌≤◌, ℕ, List, Option, Some, [], IfOk, OnErr, MatchResult, Ok, IsErr};
-ghost use Rattle.shop_edges.specs.Gateways.{Answered};
-ghost use Rattle.shop_edges.specs.declared.gateway.Answer.{Answer as AnswerValue};
+ghost use Rattle.std.specs.Prelude.{◌≡◌, ◌≢◌, ◌≤◌, IfOk, OnErr, MatchResult, Ok, IsErr};
 ghost use Rattle.shop_history.specs.Lawful.{IsLawful};
-ghost use Rattle.shop_book.specs.Solos.{marks_of, seat_of};
-ghost use Rattle.shop_engine.specs.Workers.{standing};
-ghost use Rattle.shop_drive.specs.Drives.{Drives};
+ghost use Rattle.shop_book.specs.Openings.{most_entries};
+ghost use Rattle.shop_book.specs.Solos.{seat_of};
 ghost use Rattle.shop_app.specs.Driving as spec;
 ghost use Rattle.shop_app.specs.Driving.{DroveTo, Unfinished};
-ghost use Rattle.shop_app.specs.Noted.{NotedAs, TellsOf, run_with};
+ghost use Rattle.shop_app.specs.Meanings.{DrivenBy, NotedBy};
+ghost use Rattle.shop_app.specs.Noted.{TellsOf};
 ghost use Rattle.shop_app.specs.Outside.{outside};
 ghost use Rattle.shop_app.specs.Session.{IsFirst};
 ghost use Rattle.shop_app.specs.Summaries.{drive_lines};
@@ -67,11 +65,8 @@ fn drive_and_give_back<'a, C: Clock, G: Gateway, T: Told>(
     requires name { gateway.ghost_name ≡ T.name }
     requires told { G.answers gateway.old ≡ T.told }
     ensures name { result.gateway.ghost_name ≡ gateway.entry.ghost_name }
-    ensures driven { (all : List AnswerValue) × Answered (G.answers gateway.old) (G.answers result.gateway.now) all
-        × NotedAs (marks_of worker.new.store) all
-        (record { worker = standing seat_of worker.old (C.readings clock.old) (Some []); browsers = browsers.old; failures = G.faults gateway.old })
-        (record { worker = standing seat_of worker.new (C.readings clock.new) (Some all); browsers = browsers.new; failures = G.faults result.gateway.now })
-        steps result.outcome }
+    ensures driven { NotedBy (C.Clock, G.Gateway) (worker.old, browsers.old, clock.old, gateway.old)
+        (worker.new, browsers.new, clock.new, result.gateway.now) steps result.outcome }
     ensures lawful { IsLawful (seat_of worker.new.store).opening (seat_of worker.new.store).seen }
     ensures later { G.faults gateway.old ≤ G.faults result.gateway.now }
 {
@@ -96,11 +91,8 @@ fn drive_with_notes<C: Clock, G: Gateway>(
     browsers: &mut [Browser],
     steps: u32,
 ) -> Result<Driven, Memory>
-    ensures driven { (all : List AnswerValue) × Answered (G.answers gateway.old) (G.answers gateway.new) all
-        × NotedAs (marks_of worker.new.store) all
-        (record { worker = standing seat_of worker.old (C.readings clock.old) (Some []); browsers = browsers.old; failures = G.faults gateway.old })
-        (record { worker = standing seat_of worker.new (C.readings clock.new) (Some all); browsers = browsers.new; failures = G.faults gateway.new })
-        steps result }
+    ensures driven { NotedBy (C.Clock, G.Gateway)
+        (worker.old, browsers.old, clock.old, gateway.old) (worker.new, browsers.new, clock.new, gateway.new) steps result }
     ensures lawful { IsLawful (seat_of worker.new.store).opening (seat_of worker.new.store).seen }
     ensures later { G.faults gateway.old ≤ G.faults gateway.new }
 {
@@ -164,6 +156,7 @@ fn drive_new_shop<C: Clock, G: Gateway>(
     clock: &mut C,
     gateway: &mut G,
 ) -> Result<Text, Memory>
+    requires { asked.now.shop.limit ≤ most_entries }
     ensures ok { IfOk result (DroveTo asked.now (outside C.Clock G.Gateway clock.old gateway.old) (outside C.Clock G.Gateway clock.new gateway.new)) }
     ensures err { OnErr result (Unfinished asked.now (outside C.Clock G.Gateway clock.old gateway.old) (outside C.Clock G.Gateway clock.new gateway.new)) }
 {
@@ -180,11 +173,11 @@ pub(crate) fn drive_browsers<K: Sink, C: Clock, G: Gateway>(
     clock: &mut C,
     gateway: &mut G,
 ) -> Status
-    ensures driven { (left : Option (List ℕ)) (reads : ℕ) → spec.IsDriven asked
-        (run_with K.Sink C.Clock G.Gateway (left, reads) (sink.old, clock.old, gateway.old))
-        (run_with K.Sink C.Clock G.Gateway (left, reads) (sink.new, clock.new, gateway.new))
-        result }
+    requires { asked.shop.limit ≤ most_entries }
+    ensures driven { DrivenBy (K.Sink, C.Clock, G.Gateway) asked
+        (sink.old, clock.old, gateway.old) (sink.new, clock.new, gateway.new) result }
     ensures good_words { result ≢ Status.BadWords }
+    ensures writes { K.faults sink.old ≤ K.faults sink.new }
 {
     match drive_new_shop(alloc, &asked, clock, gateway) {
         Ok(lines) => {

@@ -1,7 +1,8 @@
 //! The command `race`.
 ghost use Rattle.std.specs.Prelude.{◌≡◌, ◌≢◌, ◌+◌, ◌≤◌, length, IfOk, OnOk, IfErr};
 ghost use Rattle.std.specs.Arc.{arc_value};
-ghost use Rattle.shop_engine.specs.Workers.{IsPosted};
+ghost use Rattle.shop_book.specs.Openings.{most_entries};
+ghost use Rattle.shop_engine.specs.Posts.{IsPosted};
 ghost use Rattle.shop_model.specs.lists.Catalogues.{catalogue};
 ghost use Rattle.shop_model.specs.population.Population.{populated};
 ghost use Rattle.shop_tasks.specs.Counts.{counted};
@@ -11,7 +12,7 @@ ghost use Rattle.shop_app.specs.RaceEnds.{TellsOfRan};
 ghost use Rattle.shop_app.specs.Racing as spec;
 
 use crate::Status;
-use crate::alone::{LIMIT, index_of};
+use crate::alone::index_of;
 use crate::summary::race_lines;
 use shop_book::Book;
 use shop_edges::{Clock, Sink, Spawner, write_all};
@@ -32,13 +33,14 @@ fn open_shop<R: Wait + Clone + Drop>(
     asked: Session,
     callers: u32,
 ) -> Result<(Vec<Desk<R>>, Arc<Index, Global>), Memory>
-    requires { (1 ≤ callers) × (callers ≤ most_callers) }
+    requires callers { (1 ≤ callers) × (callers ≤ most_callers) }
+    requires limit { asked.limit ≤ most_entries }
     ensures desks { IfOk result (λ opened. Opens (spec.new_book asked) callers opened.0.items) }
     ensures index { IfOk result (λ opened. arc_value opened.1 ≡ catalogue (populated asked.seed asked.scale)) }
 {
     let tables = populate(alloc, asked.seed, &asked.scale)?;
     let index = index_of(alloc, &tables)?;
-    let book = Book::open(alloc, tables, LIMIT)?;
+    let book = Book::open(alloc, tables, asked.limit)?;
     let desks = Shop::open(rt, alloc, book, callers)?;
     Ok((desks, index))
 }
@@ -55,7 +57,11 @@ fn task_of<R: Wait + Drop, C: Clock + Drop>(
     requires { IsPosted (seat_of desk) (arc_value index) (spec.caller_of asked.now.shop number) }
     ensures { result ≡ record { desk = desk; clock = clock; caller = spec.caller_of asked.now.shop number; mix = asked.now.mix; steps = asked.now.steps } }
 {
-    let Session { scale, seed } = asked.shop;
+    let Session {
+        scale,
+        seed,
+        limit: _,
+    } = asked.shop;
     let errand = Errand {
         number,
         seed,

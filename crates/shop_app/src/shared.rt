@@ -1,8 +1,9 @@
 //! The calls of several callers.
 ghost use Rattle.std.specs.Prelude.{◌≡◌, ◌≢◌, ◌≤◌, ◌↔◌, IsTrue};
+ghost use Rattle.shop_edges.specs.Causes.{Rose};
 ghost use Rattle.shop_words.specs.declared.command.Command.{Command};
 ghost use Rattle.shop_words.specs.Commands.{IsCommand};
-ghost use Rattle.shop_app.specs.Racing.{IsSharedRun, shared};
+ghost use Rattle.shop_app.specs.Racing.{IsDone, IsSharedRun, shared};
 ghost use Rattle.shop_app.specs.Runs.{IsForSeveral, IsShared, IsTold};
 
 use crate::Status;
@@ -44,6 +45,7 @@ pub fn run_shared<
     ensures untouched { result ≡ Status.BadWords → (spawner.new ≡ spawner.old) × (sink.new ≡ sink.old) }
     ensures run { result ≢ Status.BadWords → IsSharedRun words.now (C.readings clock.now)
         (shared K.Sink sink.old spawner.old) (shared K.Sink sink.new spawner.new) result }
+    ensures complete { result ≢ Status.BadWords → ¬ (Rose spawner.old.faults spawner.new.faults) → ¬ (Rose (K.faults sink.old) (K.faults sink.new)) → IsDone result }
     ensures told { IsTold (K.held faults.old) (K.held faults.new) (K.faults faults.old) (K.faults faults.new) result }
     ensures later { K.faults faults.old ≤ K.faults faults.new }
 {

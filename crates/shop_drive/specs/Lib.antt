@@ -1,3 +1,4 @@
 pub mod Turns
 pub mod Tallies
 pub mod Drives
+pub mod Meanings

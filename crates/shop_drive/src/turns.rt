@@ -1,11 +1,9 @@
 ghost use Rattle.std.specs.Prelude.{◌≡◌, ◌≤◌};
 ghost use Rattle.shop_attempt.specs.Seats.{Follows};
 ghost use Rattle.shop_engine.specs.Stores.{Keeps};
-ghost use Rattle.shop_engine.specs.Workers.{standing};
 ghost use Rattle.shop_history.specs.Lawful.{IsLawful};
-ghost use Rattle.shop_drive.specs.Drives.{Drives};
+ghost use Rattle.shop_drive.specs.Meanings.{DrivesBy, TurnBy};
 ghost use Rattle.shop_drive.specs.Turns as spec;
-ghost use Rattle.shop_drive.specs.Turns.{TurnAs};
 
 use crate::Tally;
 use shop_attempt::Store;
@@ -26,10 +24,8 @@ pub fn drive<St: Store, C: Clock, G: Gateway>(
     browsers: &mut [Browser],
     steps: u32,
 ) -> Result<Tally, Memory>
-    ensures drives { Drives (St.marked worker.new.store)
-        (record { worker = standing St.seat worker.old (C.readings clock.old) (G.answers gateway.old); browsers = browsers.old; failures = G.faults gateway.old })
-        (record { worker = standing St.seat worker.new (C.readings clock.new) (G.answers gateway.new); browsers = browsers.new; failures = G.faults gateway.new })
-        steps result }
+    ensures drives { DrivesBy (St.Store, C.Clock, G.Gateway)
+        (worker.old, browsers.old, clock.old, gateway.old) (worker.new, browsers.new, clock.new, gateway.new) steps result }
     ensures caller { worker.new.caller ≡ worker.old.caller }
     ensures follows { Follows (St.seat worker.old.store) (St.seat worker.new.store) }
     ensures lawful { IsLawful (St.seat worker.new.store).opening (St.seat worker.new.store).seen }
@@ -51,10 +47,8 @@ fn take_turns<St: Store, C: Clock, G: Gateway>(
     browsers: &mut [Browser],
     steps: u32,
 ) -> Result<Tally, Memory>
-    ensures drives { Drives (St.marked worker.new.store)
-        (record { worker = standing St.seat worker.old (C.readings clock.old) (G.answers gateway.old); browsers = browsers.old; failures = G.faults gateway.old })
-        (record { worker = standing St.seat worker.new (C.readings clock.new) (G.answers gateway.new); browsers = browsers.new; failures = G.faults gateway.new })
-        steps result }
+    ensures drives { DrivesBy (St.Store, C.Clock, G.Gateway)
+        (worker.old, browsers.old, clock.old, gateway.old) (worker.new, browsers.new, clock.new, gateway.new) steps result }
     ensures caller { worker.new.caller ≡ worker.old.caller }
     ensures marks { Keeps St.Store worker.old.store worker.new.store }
     ensures later { G.faults gateway.old ≤ G.faults gateway.new }
@@ -80,10 +74,8 @@ fn take_turn<St: Store, C: Clock, G: Gateway>(
     browser: &mut Browser,
     message: &mut Message,
 ) -> Result<bool, Memory>
-    ensures turn { TurnAs (St.marked worker.new.store)
-        (record { worker = standing St.seat worker.old (C.readings clock.old) (G.answers gateway.old); browser = browser.old; failures = G.faults gateway.old })
-        (record { worker = standing St.seat worker.new (C.readings clock.new) (G.answers gateway.new); browser = browser.new; failures = G.faults gateway.new })
-        result }
+    ensures turn { TurnBy (St.Store, C.Clock, G.Gateway)
+        (worker.old, browser.old, clock.old, gateway.old) (worker.new, browser.new, clock.new, gateway.new) result }
     ensures caller { worker.new.caller ≡ worker.old.caller }
     ensures marks { Keeps St.Store worker.old.store worker.new.store }
     ensures later { G.faults gateway.old ≤ G.faults gateway.new }

@@ -33,7 +33,7 @@ same_place (first ∷ log) rest (suc i) within = same_place log rest i (omega (a
 
 -- a conflict stays one
 
-conflict_later : (old new : Seat) (conflict : Conflict) → Follows old new → IsConflict old.opening old.seen old.caller conflict → IsConflict new.opening new.seen new.caller conflict
+pub conflict_later : (old new : Seat) (conflict : Conflict) → Follows old new → IsConflict old.opening old.seen old.caller conflict → IsConflict new.opening new.seen new.caller conflict
 conflict_later old new conflict follows was =
     let changed : ChangedAt history new.opening old.seen conflict.key conflict.found = subst (λ t. ChangedAt history t old.seen conflict.key conflict.found) (sym follows.opening) was.overtaken.changed in
     record {

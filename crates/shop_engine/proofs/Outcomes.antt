@@ -104,7 +104,9 @@ cause_from start old new job made answers outcome count tries kind.Change one st
 )
 cause_from start old new job made answers outcome count tries kind.List one stays lines cause = absurd lines
 cause_from start old new job made answers outcome count tries (kind.Busy conflicts) one stays lines cause = absurd (omega (arith, one, cause.0.tries))
-cause_from start old new job made answers outcome count tries kind.Full one stays lines cause = cause
+cause_from start old new job made answers outcome count tries kind.Full one stays lines cause =
+    let full = cause.0 in
+    (record { limit = full.limit; changes = full.changes; passes = full.passes; paid = full.paid }, cause.1)
 cause_from start old new job made answers outcome count tries (kind.Denied charge reason) one stays lines cause = cause
 cause_from start old new job made answers outcome count tries kind.GatewayFailed one stays lines cause = (
   record {

@@ -225,6 +225,7 @@ full_is start old new job answers draft attempt size bytes looked follows seat r
     = agrees_found old new new.seen attempt follows seat settled.0.refused.found.grows (extends_self new.seen) ready.attempts.faithful settled.0.fresh in
     let makes : MakesAct old.opening attempt.reads (Some some.0) attempt.writes = subst (λ o. MakesAct old.opening attempt.reads o attempt.writes) some.1 ready.attempts.faithful.makes in
     let drafts : IsDraftOf old.opening asking attempt.reads draft (Some some.0) = subst (IsDraftOf old.opening asking attempt.reads draft) some.1 ready.drafts in
+    let paid : IsPaid t job.call answers some.0 = subst (λ o. IsPaidFor o t job.call answers) some.1 (may.paid t agrees) in
     record {
       made = [];
       page = page_of FullLog;
@@ -239,6 +240,7 @@ full_is start old new job answers draft attempt size bytes looked follows seat r
             limit = sym settled.1 ∙ settled.2;
             changes = ap is_changing (sym drafts.0.does) ∙ act_changes some.0;
             passes = ap (check t) (sym drafts.0.does) ∙ passes_there old.opening attempt.reads some.0 attempt.writes t 0 makes agrees (omega arith);
+            paid = (some.0, drafts.0, paid_there new.opening new.seen new.seen job.call.caller new.caller job.call.number answers some.0 refl (follows.caller ∙ may.caller) paid);
           },
           (refl, settled.1),
         );

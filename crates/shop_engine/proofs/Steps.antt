@@ -34,7 +34,8 @@ use Rattle.shop_engine.specs.Payments.{AreFor}
 use Rattle.shop_engine.specs.Seats.{Stays}
 use Rattle.shop_engine.specs.Steps.{Accepts, Answers, AnswersRequest, BeginsOn, GivesUp, IsAnswered, IsStepFor, KeepsAs, Step, form_of, draw_of, plain_point}
 use Rattle.shop_engine.specs.Tries.{IsOutcome, IsGivenUp, point_of}
-use Rattle.shop_engine.specs.Workers.{Caller, Progress, Standing, WorkerState, IsPosted, standing}
+use Rattle.shop_engine.specs.Workers.{Caller, Progress, Standing, WorkerState, standing}
+use Rattle.shop_engine.specs.Posts.{IsPosted}
 use Rattle.shop_engine.proofs.KeptLemmas.{IsReadAlone, keeps_as, point_again, read_alone, shown_again}
 use Rattle.shop_engine.proofs.Payments.{asked_none}
 use Rattle.shop_engine.proofs.Seats.{stays_same}

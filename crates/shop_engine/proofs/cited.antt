@@ -1,2 +1,4 @@
 pub mod Stepping
 pub mod Fresh
+pub mod SoFar
+pub mod Served

@@ -2,7 +2,7 @@ use Rattle.std.specs.Prelude.{◌≡◌, ℕ, ◌+◌}
 use Rattle.shop_model.specs.population.Words.{Drawing, to_come, word}
 use Rattle.shop_engine.specs.declared.calls.Calls.TheInside.{Inside}
 use Rattle.shop_engine.specs.Steps.{WORKERS}
-use Rattle.shop_engine.specs.Workers.{CallsState}
+use Rattle.shop_engine.specs.Posts.{CallsState}
 
 abbrev pub calls_of : Inside → CallsState
 calls_of i = record { caller = record { number = i.caller; seed = i.seed; scale = i.scale }; made = i.made }

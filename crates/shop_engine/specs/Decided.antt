@@ -8,6 +8,7 @@ use Rattle.shop_model.specs.asked.Refusals.{page_of}
 use Rattle.shop_edges.specs.declared.charge.Call.{Call}
 use Rattle.shop_edges.specs.declared.gateway.Answer.{Answer}
 use Rattle.shop_edges.specs.Charges.{denial}
+use Rattle.shop_history.specs.declared.acts.Act.{Act}
 use Rattle.shop_history.specs.declared.acts.Entry.{Entry}
 use Rattle.shop_history.specs.Acts.{IsActOf}
 use Rattle.shop_history.specs.Logs.{tables, page_at}
@@ -63,11 +64,12 @@ pub record IsBusy (old new : Seat) (request : Request) (point : Point) (conflict
   pub rise : AllPairs (λ first later. first.found < later.found) conflicts
   pub again : AllPairs (λ first later. later.key ≡ first.key → first.found ≤ later.read) conflicts
 
--- the log has as many entries as it may have, and nothing else refuses the change
-pub record IsFull (new : Seat) (request : Request) : Type 0 where
+-- the log has as many entries as it may have, and nothing else refuses the change; a purchase was paid
+pub record IsFull (new : Seat) (request : Request) (decision : Decision) : Type 0 where
   pub limit : length new.seen ≡ new.limit
   pub changes : is_changing request ≡ true
   pub passes : check (tables new.opening new.seen) request ≡ None
+  pub paid : (act : Act) × IsActOf request decision.point.draw act × IsPaid (tables new.opening new.seen) (call_of new decision.point) decision.answers act
 
 -- a list that is kept is shown: nothing is asked of the store, and nothing made; it is fresh of the log seen
 pub record IsShownAgain (old new : Seat) (request : Request) (decision : Decision) : Type 0 where
@@ -88,7 +90,7 @@ CauseAs old new request decision At = MadeNothing decision (length new.seen)
 CauseAs old new request decision Change = IsChanged old new request decision × (decision.point.front ≡ length new.seen)
 CauseAs old new request decision kind.List = IsShownAgain old new request decision
 CauseAs old new request decision (Busy conflicts) = IsBusy old new request decision.point conflicts × MadeNothing decision 0
-CauseAs old new request decision Full = IsFull new request × MadeNothing decision (length new.seen)
+CauseAs old new request decision Full = IsFull new request decision × MadeNothing decision (length new.seen)
 CauseAs old new request decision (Denied charge reason) =
     IsDenied (tables new.opening new.seen) request (call_of new decision.point) decision.answers charge reason
     × MadeNothing decision (length new.seen)

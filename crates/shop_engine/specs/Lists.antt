@@ -31,14 +31,6 @@ IsFreshAs marked log point _ = Unit {0}
 abbrev pub IsFreshPoint : (ℕ → ℕ → Type 0) → List Entry → Point → Type 0
 IsFreshPoint marked log point = IsFreshAs marked log point point.kind
 
-abbrev pub IsFreshInAs : List Entry → Point → PointKind → Type 0
-IsFreshInAs log point kind.List = IsFresh log point.front point.moment
-IsFreshInAs log point _ = Unit {0}
-
--- so without the store
-abbrev pub IsFreshIn : List Entry → Point → Type 0
-IsFreshIn log point = IsFreshInAs log point point.kind
-
 -- by what became of a message
 abbrev pub AnswersFresh : (ℕ → ℕ → Type 0) → List Entry → Answered → Type 0
 AnswersFresh marked log (answered.Reply text point) = IsFreshPoint marked log point

@@ -1,21 +1,15 @@
 -- What contracts see of a worker.
-use Rattle.std.specs.Prelude.{◌≡◌, ℕ, List, [], length, Option}
+use Rattle.std.specs.Prelude.{ℕ, List, Option}
 use Rattle.shop_edges.specs.declared.gateway.Answer.{Answer}
 use Rattle.shop_cache.specs.Caches.{Entries}
-use Rattle.shop_model.specs.lists.Catalogues.{Catalogue, catalogue}
 use Rattle.shop_model.specs.population.Scales.{ScaleRow}
-use Rattle.shop_attempt.specs.Seats.{Seat, IsSeat}
+use Rattle.shop_attempt.specs.Seats.{Seat}
 
 -- whose requests it serves, and what their words are drawn by
 pub record Caller : Type 0 where
   pub number : ℕ
   pub seed : ℕ
   pub scale : ScaleRow
-
--- a caller, and how many calls it has made
-pub record CallsState : Type 0 where
-  pub caller : Caller
-  pub made : ℕ
 
 -- how many requests were accepted, and the last moment, 0 at first
 pub record Progress : Type 0 where
@@ -32,17 +26,6 @@ pub record WorkerState (St : Type 0) : Type 0 where
 
 abbrev pub at_first : Progress
 at_first = record { accepted = 0; last = 0 }
-
--- a worker that has served no request
-abbrev pub first_state : {St : Type 0} → St → Caller → WorkerState St
-first_state store caller = record { store = store; caller = caller; progress = at_first; kept = []; reply = [] }
-
--- the seat is one, and the caller's, and the index and the scale are those of its opening tables
-pub record IsPosted (seat : Seat) (index : Catalogue) (caller : Caller) : Type 0 where
-  pub valid : IsSeat seat
-  pub number : seat.caller ≡ caller.number
-  pub named : index ≡ catalogue seat.opening
-  pub scaled : caller.scale.items ≡ length seat.opening.items
 
 -- where a worker stands between two messages: its caller and progress, the lists that it keeps, its seat, and, where
 -- they are known, what the clock will read, and what the gateway answered so far

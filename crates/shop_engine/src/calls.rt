@@ -21,7 +21,7 @@ pub(crate) struct Calls {
 }
 
 impl Model for Calls {
-    ghost use Rattle.shop_engine.specs.Workers.{CallsState};
+    ghost use Rattle.shop_engine.specs.Posts.{CallsState};
     ghost use Rattle.shop_engine.specs.CallsView.{calls_of, AreToCome};
 
     ghost Value = { CallsState };

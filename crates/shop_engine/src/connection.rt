@@ -1,8 +1,10 @@
 //! The messages of one connection, one after another, to its end.
-ghost use Rattle.std.specs.Prelude.{◌≡◌, ℕ, ◌+◌, ◌≤◌, ◌<◌, [], ◌∷◌, ◌++◌, Some};
+ghost use Rattle.std.specs.Prelude.{◌≡◌, ℕ, ◌≤◌, ◌<◌, [], ◌∷◌, ◌++◌, Some, OnOk, OnErr};
 ghost use Rattle.std.specs.Vec.{vec_len, vec_capacity};
 ghost use Rattle.shop_edges.specs.Causes.{Rose};
-ghost use Rattle.shop_engine.specs.Connections.{MessageAs, RefusalAs};
+ghost use Rattle.shop_http.specs.Requests.{asked};
+ghost use Rattle.shop_engine.specs.Answering.{GivesUpBy, Makes};
+ghost use Rattle.shop_engine.specs.Connections.{MakesRefusal, MessageAs, RefusalAs, turn_behind};
 ghost use Rattle.shop_engine.specs.Failures.{RoseBy, failures};
 ghost use Rattle.shop_engine.specs.Served.{Served};
 ghost use Rattle.shop_engine.specs.Stores.{AreFreshBy, Keeps};
@@ -12,9 +14,10 @@ use crate::report::{Ended, Point, plain_point};
 use crate::worker::Worker;
 use shop_attempt::Store;
 use shop_edges::{Clock, Gateway, Sink, Source, write_all};
-use shop_http::{Buffer, Message, Next, next_message};
+use shop_http::{Gather, Message, Next, next_message};
 use shop_model::Refusal;
 use shop_pages::Form;
+use shop_text::Memory;
 
 /// The most answers of a connection.
 const ANSWERS: usize = 1_000;
@@ -24,13 +27,6 @@ const CLOSING: Form = Form {
     close: true,
     bodiless: false,
 };
-
-/// A message, and whether its answer is the last one that a connection may have.
-#[derive(Clone, Copy)]
-struct Turn<'a> {
-    message: &'a Message,
-    last: bool,
-}
 
 /// Answers one message after another, until there is an end.
 pub(crate) fn serve_all<St: Store, S: Source, K: Sink, C: Clock, G: Gateway>(
@@ -57,12 +53,11 @@ pub(crate) fn serve_all<St: Store, S: Source, K: Sink, C: Clock, G: Gateway>(
     ensures failures { RoseBy (G.faults gateway.old) (failures points.new.items) (G.faults gateway.new) }
     ensures asks { G.faults gateway.old ≤ G.faults gateway.new }
 {
-    let alloc = worker.alloc();
-    let Ok(mut buffer) = Buffer::new(alloc) else {
+    let Ok(mut gather) = Gather::new(worker.alloc()) else {
         return Ended::Memory;
     };
     while points.len() < ANSWERS {
-        let message = match next_message(alloc, source, &mut buffer) {
+        let message = match next_message(source, &mut gather) {
             Next::Message(message) => message,
             Next::End => return Ended::Closed,
             Next::Cut => return Ended::Cut,
@@ -70,15 +65,11 @@ pub(crate) fn serve_all<St: Store, S: Source, K: Sink, C: Clock, G: Gateway>(
             Next::ReadFault => return Ended::ReadFault,
             Next::Memory => return Ended::Memory,
         };
-        let turn = Turn {
-            message: &message,
-            last: points.len() + 1 == ANSWERS,
-        };
-        let ended = serve_one(worker, sink, clock, gateway, points, &turn);
+        let ended = serve_one(worker, sink, clock, gateway, points, &message);
         if let Some(end) = ended {
             return end;
         }
-        buffer.reuse(message);
+        gather.reuse(message);
     }
     Ended::Spent
 }
@@ -90,9 +81,9 @@ fn serve_one<St: Store, K: Sink, C: Clock, G: Gateway>(
     clock: &mut C,
     gateway: &mut G,
     points: &mut Vec<Point>,
-    turn: &Turn,
+    message: &Message,
 ) -> Option<Ended>
-    ensures message { MessageAs (record { message = turn.now.message.now; last = turn.now.last })
+    ensures message { MessageAs (turn_behind points.old.items message.now)
         (standing St.seat worker.old (C.readings clock.old) (G.answers gateway.old))
         (standing St.seat worker.new (C.readings clock.new) (G.answers gateway.new))
         (record { points = points.old.items; held = K.held sink.old })
@@ -107,15 +98,9 @@ fn serve_one<St: Store, K: Sink, C: Clock, G: Gateway>(
         → RoseBy before (failures points.new.items) (G.faults gateway.new) }
     ensures asks { G.faults gateway.old ≤ G.faults gateway.new }
 {
-    // Room for the point, so that no answer is without one.
-    let Ok(()) = points.reserve(1) else {
+    let Ok(()) = answer_next(worker, points, message, clock, gateway) else {
         return Some(Ended::Memory);
     };
-    let message = turn.message;
-    let Some(point) = worker.answer(message, turn.last, clock, gateway) else {
-        return Some(Ended::Memory);
-    };
-    add_point(points, point);
     if write_all(sink, worker.reply()) {
         if message.close {
             return Some(Ended::Asked);
@@ -123,6 +108,39 @@ fn serve_one<St: Store, K: Sink, C: Clock, G: Gateway>(
         return None;
     }
     Some(Ended::WriteFault)
+}
+
+/// Answers the message behind those that have points: makes the reply, which the worker holds, and adds the
+/// point of it. Nothing is written.
+pub fn answer_next<St: Store, C: Clock, G: Gateway>(
+    worker: &mut Worker<St>,
+    points: &mut Vec<Point>,
+    message: &Message,
+    clock: &mut C,
+    gateway: &mut G,
+) -> Result<(), Memory>
+    ensures answered { OnOk result (Makes (St.Store, C.Clock, G.Gateway) message.now
+        (worker.old, clock.old, gateway.old, points.old) (worker.new, clock.new, gateway.new, points.new)) }
+    ensures memory { OnErr result (GivesUpBy (St.Store, C.Clock, G.Gateway) (asked message.now)
+        (worker.old, clock.old, gateway.old) (worker.new, clock.new, gateway.new)) }
+    ensures unanswered { OnErr result (points.new.items ≡ points.old.items) }
+    ensures caller { worker.new.caller ≡ worker.old.caller }
+    ensures marks { Keeps St.Store worker.old.store worker.new.store }
+    ensures fresh { AreFreshBy St.Store worker.old.store points.old.items → AreFreshBy St.Store worker.new.store points.new.items }
+    ensures failures { (before : ℕ) → RoseBy before (failures points.old.items) (G.faults gateway.old)
+        → RoseBy before (failures points.new.items) (G.faults gateway.new) }
+    ensures asks { G.faults gateway.old ≤ G.faults gateway.new }
+{
+    let last = points.len() + 1 == ANSWERS;
+    // Room for the point, so that no answer is without one.
+    let Ok(()) = points.reserve(1) else {
+        return Err(Memory);
+    };
+    let Some(point) = worker.answer(message, last, clock, gateway) else {
+        return Err(Memory);
+    };
+    add_point(points, point);
+    Ok(())
 }
 
 /// Adds a point, for which there is room.
@@ -149,14 +167,28 @@ fn refuse<St: Store, K: Sink>(
     ensures fresh { AreFreshBy St.Store worker.old.store points.old.items → AreFreshBy St.Store worker.new.store points.new.items }
     ensures worker { worker.new ≡ record worker.old { reply = worker.new.reply } }
 {
-    let Ok(()) = worker.refuse(refusal, CLOSING) else {
-        return Ended::Memory;
-    };
-    let Ok(()) = points.push(plain_point()) else {
+    let Ok(()) = refuse_next(worker, points, refusal) else {
         return Ended::Memory;
     };
     if write_all(sink, worker.reply()) {
         return Ended::Refused(refusal.status());
     }
     Ended::WriteFault
+}
+
+/// Refuses the message behind those that have points: makes the page, which the worker holds, and adds a plain
+/// point. Nothing is written.
+pub fn refuse_next<St: Store>(
+    worker: &mut Worker<St>,
+    points: &mut Vec<Point>,
+    refusal: Refusal,
+) -> Result<(), Memory>
+    ensures refused { OnOk result (MakesRefusal refusal points.old.items (record { points = points.new.items; reply = worker.new.reply })) }
+    ensures memory { OnErr result (points.new.items ≡ points.old.items) }
+    ensures fresh { AreFreshBy St.Store worker.old.store points.old.items → AreFreshBy St.Store worker.new.store points.new.items }
+    ensures worker { worker.new ≡ record worker.old { reply = worker.new.reply } }
+{
+    worker.refuse(refusal, CLOSING)?;
+    points.push(plain_point())?;
+    Ok(())
 }

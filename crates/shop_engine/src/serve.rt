@@ -3,9 +3,10 @@ ghost use Rattle.shop_edges.specs.Causes.{Rose};
 ghost use Rattle.shop_history.specs.Lawful.{IsLawful};
 ghost use Rattle.shop_engine.specs.Failures.{RoseBy, failures, failures_of};
 ghost use Rattle.shop_engine.specs.Lists.{AnswersFresh};
+ghost use Rattle.shop_engine.specs.Meanings.{AnsweredBy};
 ghost use Rattle.shop_engine.specs.Served.{Served};
-ghost use Rattle.shop_engine.specs.Steps.{AnsweredAs};
 ghost use Rattle.shop_engine.specs.Stores.{AreFreshBy, Keeps};
+ghost use Rattle.shop_engine.specs.Undisturbed.{AreWhole, IsUndisturbed};
 ghost use Rattle.shop_engine.specs.Workers.{standing};
 
 use crate::connection::serve_all;
@@ -28,8 +29,8 @@ pub fn serve_message<St: Store, C: Clock, G: Gateway>(
     clock: &mut C,
     gateway: &mut G,
 ) -> Answered
-    ensures answered { AnsweredAs last (standing St.seat worker.old (C.readings clock.old) (G.answers gateway.old))
-        (standing St.seat worker.new (C.readings clock.new) (G.answers gateway.new)) message.now result }
+    ensures answered { AnsweredBy (St.Store, C.Clock, G.Gateway) last
+        (worker.old, clock.old, gateway.old) (worker.new, clock.new, gateway.new) message.now result }
     ensures caller { worker.new.caller ≡ worker.old.caller }
     ensures lawful { IsLawful (St.seat worker.new.store).opening (St.seat worker.new.store).seen }
     ensures marks { Keeps St.Store worker.old.store worker.new.store }
@@ -52,8 +53,8 @@ fn reply_to<St: Store, C: Clock, G: Gateway>(
     clock: &mut C,
     gateway: &mut G,
 ) -> Answered
-    ensures answered { AnsweredAs last (standing St.seat worker.old (C.readings clock.old) (G.answers gateway.old))
-        (standing St.seat worker.new (C.readings clock.new) (G.answers gateway.new)) message.now result }
+    ensures answered { AnsweredBy (St.Store, C.Clock, G.Gateway) last
+        (worker.old, clock.old, gateway.old) (worker.new, clock.new, gateway.new) message.now result }
     ensures caller { worker.new.caller ≡ worker.old.caller }
     ensures marks { Keeps St.Store worker.old.store worker.new.store }
     ensures fresh { AnswersFresh (St.marked worker.new.store) (St.seat worker.new.store).seen result }
@@ -85,6 +86,8 @@ pub fn serve_connection<St: Store, S: Source, K: Sink, C: Clock, G: Gateway>(
         (record { left = S.left source.old; held = K.held sink.old })
         (record { left = S.left source.new; held = K.held sink.new })
         result.end result.points }
+    ensures complete { IsUndisturbed (St.seat worker.old.store) (St.seat worker.new.store)
+        → ¬ (Rose (G.faults gateway.old) (G.faults gateway.new)) → AreWhole result.points }
     ensures caller { worker.new.caller ≡ worker.old.caller }
     ensures lawful { IsLawful (St.seat worker.new.store).opening (St.seat worker.new.store).seen }
     ensures marks { Keeps St.Store worker.old.store worker.new.store }

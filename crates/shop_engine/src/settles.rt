@@ -1,16 +1,10 @@
 //! Settles of attempts whose pages are written.
-ghost use Rattle.std.specs.Prelude.{◌≡◌, ◌≤◌, List, Option, None};
+ghost use Rattle.std.specs.Prelude.{◌≡◌, ◌≤◌, None};
 ghost use Rattle.shop_model.specs.rows.Limits.{stamp_limit};
-ghost use Rattle.shop_model.specs.declared.requests.Request.TheVariants as request_kinds;
-ghost use Rattle.shop_model.specs.asked.PurchaseAsked.{PurchaseAsked};
 ghost use Rattle.shop_attempt.specs.Faithful.{Faithful};
-ghost use Rattle.shop_attempt.specs.Seats.{Seat, Looked};
-ghost use Rattle.shop_edges.specs.declared.gateway.Answer.{Answer};
-ghost use Rattle.shop_pages.specs.ReplyStates.{bytes_of};
-ghost use Rattle.shop_order.specs.Payments.{IsDenied};
-ghost use Rattle.shop_browse.specs.Attempts.{IsList};
+ghost use Rattle.shop_engine.specs.Settling.{SettlesPage, SettlesList, SettlesDenied};
 ghost use Rattle.shop_engine.specs.Stores.{Keeps};
-ghost use Rattle.shop_engine.specs.Tries.{TriedAs, MaySettle, HasAsked, LeavesListMark, asking_for};
+ghost use Rattle.shop_engine.specs.Tries.{LeavesListMark};
 
 use crate::replies::refusal_reply;
 use crate::report::PointKind;
@@ -31,9 +25,7 @@ pub(crate) fn settle_page<St: Store>(
 ) -> Tried
     requires faithful { Faithful (St.seat store.old).opening (St.seat store.old).seen attempt }
     requires moment { attempt.moment ≤ stamp_limit }
-    ensures tried { (start : Seat) (answers : List Answer) → Looked start (St.seat store.old)
-        → MaySettle start (St.seat store.old) job.now answers reply.old.draft attempt
-        → TriedAs start (St.seat store.new) job.now answers (bytes_of reply.new) result }
+    ensures tried { SettlesPage St.Store job.now attempt (store.old, reply.old) (store.new, reply.new) result }
     ensures never { ¬ (result ≡ Tried.Failed) }
     ensures marks { Keeps St.Store store.old store.new }
     ensures mark { LeavesListMark (St.marked store.new) (St.seat store.new).seen job.now.ask.moment result }
@@ -72,9 +64,7 @@ pub(crate) fn settle_list<St: Store>(
     requires moment { attempt.moment ≤ stamp_limit }
     requires reading { attempt.act ≡ None }
     requires caller { (St.seat store.old).caller ≡ job.now.call.caller }
-    ensures tried { (start : Seat) (kept : Option Answer) (answers : List Answer) → Looked start (St.seat store.old)
-        → HasAsked job.now answers kept → IsList start (St.seat store.old) (asking_for job.now) reply.old.draft attempt lines
-        → TriedAs start (St.seat store.new) job.now answers (bytes_of reply.new) result }
+    ensures tried { SettlesList St.Store job.now (attempt, lines) (store.old, reply.old) (store.new, reply.new) result }
     ensures never { ¬ (result ≡ Tried.Failed) }
     ensures marks { Keeps St.Store store.old store.new }
     ensures mark { LeavesListMark (St.marked store.new) (St.seat store.new).seen attempt.moment result }
@@ -105,10 +95,7 @@ pub(crate) fn settle_denied<St: Store>(
     requires moment { attempt.moment ≤ stamp_limit }
     requires reading { attempt.act ≡ None }
     requires caller { (St.seat store.old).caller ≡ job.now.call.caller }
-    ensures tried { (start : Seat) (asked : PurchaseAsked) (kept : Option Answer) (answers : List Answer) → Looked start (St.seat store.old)
-        → job.now.request.now ≡ request_kinds.BuyConfirm asked → HasAsked job.now answers kept
-        → IsDenied start (St.seat store.old) (asking_for job.now) asked job.now.call reply.old.draft kept attempt reason
-        → TriedAs start (St.seat store.new) job.now answers (bytes_of reply.new) result }
+    ensures tried { SettlesDenied St.Store job.now (attempt, reason) (store.old, reply.old) (store.new, reply.new) result }
     ensures never { ¬ (result ≡ Tried.Failed) }
     ensures marks { Keeps St.Store store.old store.new }
     ensures mark { LeavesListMark (St.marked store.new) (St.seat store.new).seen job.now.ask.moment result }

@@ -2,13 +2,12 @@ ghost use Rattle.std.specs.Prelude.{◌≡◌, ◌≤◌, None, Some, IfSome, Is
 ghost use Rattle.shop_model.specs.rows.Limits.{stamp_limit};
 ghost use Rattle.shop_edges.specs.Causes.{Rose};
 ghost use Rattle.shop_edges.specs.declared.gateway.Answer.{Answer as AnswerValue};
-ghost use Rattle.shop_attempt.specs.Seats.{Seat, IsSeat};
+ghost use Rattle.shop_attempt.specs.Seats.{IsSeat};
 ghost use Rattle.shop_browse.specs.Attempts.{Suits};
-ghost use Rattle.shop_pages.specs.ReplyStates.{bytes_of};
 ghost use Rattle.shop_engine.specs.Failures.{RoseBy, failures_as};
+ghost use Rattle.shop_engine.specs.Settling.{TriesBy, TriesOnBy, DecidesBy, GivesUpBy};
 ghost use Rattle.shop_engine.specs.Stores.{Keeps};
-ghost use Rattle.shop_engine.specs.Tries.{IsTried, IsOutcome, IsGivenUp, LeavesListMark, LeavesMarkOf, MayTry, WasAttempted};
-ghost use Rattle.shop_engine.specs.Tries.{asking_for, denial, trying};
+ghost use Rattle.shop_engine.specs.Tries.{LeavesListMark, LeavesMarkOf, WasAttempted, asking_for, denial};
 
 use crate::replies::refusal_reply;
 use crate::report::PointKind;
@@ -76,8 +75,8 @@ fn try_once<St: Store, G: Gateway>(
     requires caller { (St.seat store.old).caller ≡ job.now.call.caller }
     requires suits { Suits job.now.ask (St.seat store.old) }
     requires moment { job.now.ask.moment ≤ stamp_limit }
-    ensures tried { IsTried (trying (St.seat store.old) kept.old (G.answers gateway.old))
-        (trying (St.seat store.new) kept.new (G.answers gateway.new)) job.now (bytes_of reply.new) result }
+    ensures tried { TriesBy (St.Store, G.Gateway) job.now
+        (store.old, reply.old, kept.old, gateway.old) (store.new, reply.new, kept.new, gateway.new) result }
     ensures marks { Keeps St.Store store.old store.new }
     ensures mark { LeavesListMark (St.marked store.new) (St.seat store.new).seen job.now.ask.moment result }
     ensures failed { result ≡ Tried.Failed → Rose (G.faults gateway.old) (G.faults gateway.new) }
@@ -104,9 +103,8 @@ fn try_other<St: Store, G: Gateway>(
     requires suits { Suits job.now.ask (St.seat store.old) }
     requires caller { (St.seat store.old).caller ≡ job.now.call.caller }
     requires moment { job.now.ask.moment ≤ stamp_limit }
-    ensures tried { (start : Seat) → MayTry start (St.seat store.old) job.now reply.old.draft attempted
-        → IsTried (trying start kept.old (G.answers gateway.old))
-        (trying (St.seat store.new) kept.new (G.answers gateway.new)) job.now (bytes_of reply.new) result }
+    ensures tried { TriesOnBy (St.Store, G.Gateway) job.now attempted
+        (store.old, reply.old, kept.old, gateway.old) (store.new, reply.new, kept.new, gateway.new) result }
     ensures marks { Keeps St.Store store.old store.new }
     ensures mark { LeavesListMark (St.marked store.new) (St.seat store.new).seen job.now.ask.moment result }
     ensures failed { result ≡ Tried.Failed → Rose (G.faults gateway.old) (G.faults gateway.new) }
@@ -178,10 +176,10 @@ pub(crate) fn try_all<St: Store, G: Gateway>(
     requires caller { (St.seat store.old).caller ≡ job.now.call.caller }
     requires suits { Suits job.now.ask (St.seat store.old) }
     requires moment { job.now.ask.moment ≤ stamp_limit }
-    ensures answer { IfSome result (IsOutcome (trying (St.seat store.old) None (G.answers gateway.old))
-        (trying (St.seat store.new) None (G.answers gateway.new)) job.now (bytes_of reply.new)) }
-    ensures memory { IsNone result → IsGivenUp (trying (St.seat store.old) None (G.answers gateway.old))
-        (trying (St.seat store.new) None (G.answers gateway.new)) job.now }
+    ensures answer { IfSome result (DecidesBy (St.Store, G.Gateway) job.now
+        (store.old, reply.old, None, gateway.old) (store.new, reply.new, None, gateway.new)) }
+    ensures memory { IsNone result → GivesUpBy (St.Store, G.Gateway) job.now
+        (store.old, reply.old, None, gateway.old) (store.new, reply.new, None, gateway.new) }
     ensures marks { Keeps St.Store store.old store.new }
     ensures mark { IfSome result (LeavesMarkOf (St.marked store.new) (St.seat store.new).seen job.now.ask.moment) }
     ensures failures { IfSome result (λ outcome. RoseBy (G.faults gateway.old) (failures_as outcome.kind) (G.faults gateway.new)) }

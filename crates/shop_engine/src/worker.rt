@@ -2,7 +2,7 @@ ghost use Rattle.std.specs.Prelude.{◌≡◌, IfOk, is_some};
 ghost use Rattle.shop_cache.specs.Keys.{key_asked};
 ghost use Rattle.std.specs.Arc.{arc_value};
 ghost use Rattle.shop_engine.specs.Steps as spec;
-ghost use Rattle.shop_engine.specs.Workers.{IsPosted};
+ghost use Rattle.shop_engine.specs.Posts.{IsPosted};
 
 use crate::calls::Calls;
 use crate::replies::{list_reply, refusal_reply};
@@ -41,7 +41,8 @@ impl<St: Store> Model for Worker<St> {
     ghost use Rattle.std.specs.Prelude.{◌≤◌};
     ghost use Rattle.shop_model.specs.rows.Limits.{stamp_limit};
     ghost use Rattle.shop_engine.specs.Keeping.{AreKept};
-    ghost use Rattle.shop_engine.specs.Workers.{WorkerState, IsPosted};
+    ghost use Rattle.shop_engine.specs.Workers.{WorkerState};
+    ghost use Rattle.shop_engine.specs.Posts.{IsPosted};
 
     ghost Value = { WorkerState St };
 
@@ -110,9 +111,10 @@ impl<St: Store> Worker<St> {
     ghost use Rattle.shop_engine.specs.Keeping.{IsAnsweredBy, IsLookedOnce, KeepsLines, kept_now};
     ghost use Rattle.shop_engine.specs.Lists.{looked_for};
     ghost use Rattle.shop_engine.specs.Failures.{RoseBy, failures_as};
-    ghost use Rattle.shop_engine.specs.Steps.{Answers, AnswersRequest, GivesUp, draw_of};
+    ghost use Rattle.shop_engine.specs.Answering.{AnswersBy, AnswersRequestBy, GivesUpBy};
+    ghost use Rattle.shop_engine.specs.Steps.{draw_of};
     ghost use Rattle.shop_engine.specs.Stores.{IsFreshBy, Keeps};
-    ghost use Rattle.shop_engine.specs.Workers.{IsPosted, first_state, standing};
+    ghost use Rattle.shop_engine.specs.Posts.{IsPosted, first_state};
 
     /// A worker that has served no request. Its words are drawn by this seed and scale.
     pub fn new(
@@ -186,12 +188,10 @@ impl<St: Store> Worker<St> {
         clock: &mut C,
         gateway: &mut G,
     ) -> Option<Point>
-        ensures answers { let from = standing St.seat self.old (C.readings clock.old) (G.answers gateway.old) in
-            let to = standing St.seat self.new (C.readings clock.new) (G.answers gateway.new) in
-            IfSome result (λ point. Answers last from to message.now point self.new.reply) }
-        ensures memory { let from = standing St.seat self.old (C.readings clock.old) (G.answers gateway.old) in
-            let to = standing St.seat self.new (C.readings clock.new) (G.answers gateway.new) in
-            IsNone result → GivesUp (asked message.now) from to }
+        ensures answers { IfSome result (AnswersBy (St.Store, C.Clock, G.Gateway) last
+            (self.old, clock.old, gateway.old) (self.new, clock.new, gateway.new) message.now) }
+        ensures memory { IsNone result → GivesUpBy (St.Store, C.Clock, G.Gateway) (asked message.now)
+            (self.old, clock.old, gateway.old) (self.new, clock.new, gateway.new) }
         ensures caller { self.new.caller ≡ self.old.caller }
         ensures marks { Keeps St.Store self.old.store self.new.store }
         ensures fresh { IfSome result (IsFreshBy St.Store self.new.store) }
@@ -217,12 +217,10 @@ impl<St: Store> Worker<St> {
         clock: &mut C,
         gateway: &mut G,
     ) -> Option<Point>
-        ensures answers { let from = standing St.seat self.old (C.readings clock.old) (G.answers gateway.old) in
-            let to = standing St.seat self.new (C.readings clock.new) (G.answers gateway.new) in
-            IfSome result (λ point. AnswersRequest form from to request.now point self.new.reply) }
-        ensures memory { let from = standing St.seat self.old (C.readings clock.old) (G.answers gateway.old) in
-            let to = standing St.seat self.new (C.readings clock.new) (G.answers gateway.new) in
-            IsNone result → GivesUp (Ok request.now) from to }
+        ensures answers { IfSome result (AnswersRequestBy (St.Store, C.Clock, G.Gateway) form
+            (self.old, clock.old, gateway.old) (self.new, clock.new, gateway.new) request.now) }
+        ensures memory { IsNone result → GivesUpBy (St.Store, C.Clock, G.Gateway) (Ok request.now)
+            (self.old, clock.old, gateway.old) (self.new, clock.new, gateway.new) }
         ensures caller { self.new.caller ≡ self.old.caller }
         ensures marks { Keeps St.Store self.old.store self.new.store }
         ensures fresh { IfSome result (IsFreshBy St.Store self.new.store) }

@@ -7,4 +7,4 @@ mod router;
 
 pub use requests::{Asked, Refusal, request};
 pub use router::Routes;
-pub use shop_message::{Buffer, Message, Next, next_message};
+pub use shop_message::{Gather, Gathered, Message, Next, next_message};

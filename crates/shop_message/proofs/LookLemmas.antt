@@ -5,8 +5,8 @@ use Rattle.httparse.specs.Grammar.{RequestHead, ReadsRequest}
 use Rattle.shop_message.specs.declared.messages.Message.{Message}
 use Rattle.shop_model.specs.declared.refusal.Refusal.{Refusal}
 use Rattle.shop_model.specs.declared.refusal.Refusal.TheVariants.{LargeHead}
-use Rattle.shop_message.specs.Looks.{TakesFirst, IsUnready, LeavesPart, WholeAt, PartAt, RefusedAt}
-use Rattle.shop_message.specs.Messages.{HEAD_LIMIT, BeginsWithHead, BeginsWith, IsRefused, StandsFor, after_line_ends, head_len, message_from}
+use Rattle.shop_message.specs.Looks.{TakesFirst, LeavesPart, WholeAt, PartAt, RefusedAt}
+use Rattle.shop_message.specs.Messages.{HEAD_LIMIT, BeginsWithHead, BeginsWith, IsRefused, IsUnready, StandsFor, after_line_ends, head_len, message_from}
 use Rattle.shop_message.proofs.HeadLemmas.{head_len-within, head_len-front}
 use Rattle.shop_message.proofs.LineEnds.{after_line_ends-shorter, after_line_ends-twice, after_line_ends-front}
 

@@ -36,10 +36,11 @@ IsSearch bytes (Open searched) = IsSearched bytes searched × (head_len bytes �
 abbrev pub IsOpenLine : List ℕ → Type 0
 IsOpenLine bytes = (bytes ≡ []) ⊎ (bytes ≡ 13 ∷ [])
 
--- a buffer holds the bytes from a start to an end, of which a prefix was searched, and has room for 64 fields
+-- a buffer holds the bytes from a start to an end, of which a prefix was searched, and has room for the longest message
+-- and for 64 fields
 pub record IsBuffer (bytes : List ℕ) (start end : ℕ) (prefix : Prefix) (fields : List HeaderSpan) : Type 0 where
-  pub size : length bytes ≡ 32_768
+  pub size : 32_768 ≤ length bytes
   pub order : start ≤ end
-  pub within : end ≤ 32_768
+  pub within : end ≤ length bytes
   pub searched : IsSearched (unserved bytes start end) prefix
   pub room : length fields ≡ 64

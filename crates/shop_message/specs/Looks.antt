@@ -7,20 +7,15 @@ use Rattle.shop_message.specs.declared.frames.Frame.TheVariants.{Body, Refused}
 use Rattle.shop_message.specs.declared.found.Found.{Found}
 use Rattle.shop_message.specs.declared.found.Found.TheVariants as found
 use Rattle.shop_message.specs.Heads.{BODY_LIMIT, fields_of, frame_of}
-use Rattle.shop_message.specs.declared.messages.Look.{Look}
-use Rattle.shop_message.specs.declared.messages.Look.TheVariants as look
+use Rattle.shop_message.specs.declared.gather.Look.{Look}
+use Rattle.shop_message.specs.declared.gather.Look.TheVariants as look
 use Rattle.shop_message.specs.declared.messages.Message.{Message}
-use Rattle.shop_message.specs.Messages.{LINES_LIMIT, IsFirst, IsPart, IsRefused, StandsFor, after_line_ends, line_feeds, message_from}
+use Rattle.shop_message.specs.Messages.{LINES_LIMIT, IsFirst, IsRefused, IsUnready, StandsFor, after_line_ends, line_feeds, message_from}
 
 -- the first message is this, and the rest of the bytes follows it, whatever comes behind
 pub record TakesFirst (before after : List ℕ) (message : Message) : Type 0 where
   pub shorter : length after < length before
   pub first : (more : List ℕ) → IsFirst (before ++ more) message (after ++ more)
-
--- no line ends stand in front, and there is nothing, or a part of a message
-pub record IsUnready (bytes : List ℕ) : Type 0 where
-  pub front : after_line_ends bytes ≡ bytes
-  pub part : (bytes ≡ []) ⊎ IsPart bytes
 
 -- there is no message yet: but for line ends, nothing is left, or a part of one, and so it stays until so many bytes came
 pub record LeavesPart (before after : List ℕ) (wanted : ℕ) : Type 0 where

@@ -1,8 +1,6 @@
 -- What reading up to the next message does to the source and to the bytes that are held.
-use Rattle.std.specs.Prelude.{◌≡◌, ℕ, ◌<◌, ◌≤◌, ◌⊎◌, List, ◌++◌, length, Option}
+use Rattle.std.specs.Prelude.{ℕ, ◌⊎◌, List, ◌++◌, Option}
 use Rattle.std.specs.Io.KnownBytes.{Consumes, IsAtEnd}
-use Rattle.shop_message.specs.declared.messages.Filled.{Filled}
-use Rattle.shop_message.specs.declared.messages.Filled.TheVariants as filled
 use Rattle.shop_message.specs.declared.messages.Message.{Message}
 use Rattle.shop_message.specs.declared.messages.Next.{Next}
 use Rattle.shop_message.specs.declared.messages.Next.TheVariants as next
@@ -45,15 +43,3 @@ IsNext left left' before after next.Cut = Stops left left' before after Inside
 IsNext left left' before after (next.Bad refusal) = Stops left left' before after (Refusing refusal)
 IsNext left left' before after next.ReadFault = Breaks left left' before after
 IsNext left left' before after next.Memory = Gathers left left' before after
-
--- a piece came behind what was held
-pub record Adds (left left' : Option (List ℕ)) (before after : List ℕ) : Type 0 where
-  pub piece : List ℕ
-  pub taken : Consumes left left' piece
-  pub added : after ≡ before ++ piece
-
--- so many bytes are held now, or fewer where the source ended or failed
-abbrev pub IsFilledTo : Option (List ℕ) → List ℕ → ℕ → Filled → Type 0
-IsFilledTo left after wanted filled.Enough = wanted ≤ length after
-IsFilledTo left after wanted filled.End = IsAtEnd left × (length after < wanted)
-IsFilledTo left after wanted filled.Failed = length after < wanted

@@ -1,4 +1,4 @@
-ghost use Rattle.std.specs.Prelude.{◌≡◌, ◌-◌, ◌≤◌, ◌<◌, ◌↔◌, length, take, drop, IfOk, IsTrue, IfSome, []};
+ghost use Rattle.std.specs.Prelude.{◌≡◌, ◌+◌, ◌-◌, ◌≤◌, ◌<◌, ◌↔◌, ◌++◌, length, take, drop, replicate, IfOk, OnOk, OnErr, IsTrue, IfSome, []};
 ghost use Rattle.shop_message.specs.Buffers.{HasHead, HasHeadOrNone, IsSearched, IsSearch, IsOpenLine};
 ghost use Rattle.shop_message.specs.Looks.{IsFound};
 ghost use Rattle.shop_message.specs.Messages as spec;
@@ -14,7 +14,7 @@ use shop_text::{Memory, Text};
 use std::alloc::Global;
 use std::marker::Model;
 
-/// How many bytes a connection holds at a time: the longest head, and the longest body behind it.
+/// Room for the longest message: its head, and the body behind it.
 const CAPACITY: usize = 32_768;
 
 /// The most header lines of a head.
@@ -40,7 +40,7 @@ enum Search {
 
 /// The bytes that came and are not served yet.
 #[derive(Drop)]
-pub struct Buffer {
+pub(crate) struct Buffer {
     bytes: Vec<u8>,
     start: usize,
     end: usize,
@@ -64,7 +64,7 @@ impl Model for Buffer {
 }
 
 impl Buffer {
-    pub fn new(alloc: Global) -> Result<Buffer, Memory>
+    pub(crate) fn new(alloc: Global) -> Result<Buffer, Memory>
         ensures { IfOk result (λ buffer. buffer ≡ []) }
     {
         Ok(Buffer {
@@ -140,21 +140,36 @@ impl Buffer {
     }
 
     /// Takes back a message that is answered: the room of its target serves the next one.
-    pub fn reuse(&mut self, message: Message)
+    pub(crate) fn reuse(&mut self, message: Message)
         ensures { self.new ≡ self.old }
     {
         self.spare = message.target;
+    }
+
+    /// Adds a piece behind the bytes that are there.
+    pub(crate) fn give(&mut self, piece: &[u8]) -> Result<(), Memory>
+        ensures ok { OnOk result (self.new ≡ self.old ++ piece.now) }
+        ensures err { OnErr result (self.new ≡ self.old) }
+    {
+        if self.bytes.len() - self.end < piece.len() {
+            move_to_front(&mut self.bytes, self.start, self.end);
+            self.end -= self.start;
+            self.start = 0;
+        }
+        lengthen(&mut self.bytes, self.end + piece.len())?;
+        put_behind(&mut self.bytes, self.end, piece);
+        self.end += piece.len();
+        Ok(())
     }
 
     /// Reads once, behind the bytes that are there.
     pub(crate) fn fill<S: Source>(&mut self, source: &mut S) -> Got
         requires { length self.old < CAPACITY }
         ensures piece { IsFilled (S.left source.old) (S.left source.new) self.old self.new result }
-        ensures room { length self.new ≤ CAPACITY }
         ensures reads { Lowers (S.reads source.old) (S.reads source.new) result }
         ensures faults { ReadCause (S.faults source.old) (S.faults source.new) result }
     {
-        if self.end == CAPACITY || self.start == self.end {
+        if self.end == self.bytes.len() || self.start == self.end {
             move_to_front(&mut self.bytes, self.start, self.end);
             self.end -= self.start;
             self.start = 0;
@@ -174,6 +189,26 @@ fn move_to_front(bytes: &mut [u8], start: usize, end: usize)
     ensures { take (end - start) bytes.new ≡ drop start (take end bytes.old) }
 {
     bytes.copy_within(start..end, 0);
+}
+
+/// Makes the bytes at least so many.
+fn lengthen(bytes: &mut Vec<u8>, len: usize) -> Result<(), Memory>
+    ensures ok { OnOk result (bytes.new.items ≡ bytes.old.items ++ replicate (len - length bytes.old.items) 0) }
+    ensures err { OnErr result (bytes.new.items ≡ bytes.old.items) }
+{
+    if bytes.len() < len {
+        bytes.resize(len, 0)?;
+    }
+    Ok(())
+}
+
+/// Puts a piece behind the first bytes.
+fn put_behind(bytes: &mut [u8], end: usize, piece: &[u8])
+    requires { end + length piece.now ≤ length bytes.old }
+    ensures front { take end bytes.new ≡ take end bytes.old }
+    ensures piece { take (length piece.now) (drop end bytes.new) ≡ piece.now }
+{
+    bytes[end..end + piece.len()].copy_from_slice(piece);
 }
 
 /// Reads once, behind the first bytes.

@@ -5,10 +5,11 @@
 mod buffer;
 mod found;
 mod frames;
+mod gather;
 mod heads;
 mod laws;
 mod messages;
 
-pub use buffer::Buffer;
-pub use laws::{beginnings_are_one, messages_are_one};
+pub use gather::{Gather, Gathered};
+pub use laws::{beginnings_are_one, messages_are_one, more_is_undecided};
 pub use messages::{Message, Next, next_message};

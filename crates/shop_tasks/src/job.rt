@@ -1,6 +1,6 @@
 ghost use Rattle.std.specs.Prelude.{◌≡◌, IfOk};
 ghost use Rattle.std.specs.Arc.{arc_value};
-ghost use Rattle.shop_engine.specs.Workers.{IsPosted};
+ghost use Rattle.shop_engine.specs.Posts.{IsPosted};
 ghost use Rattle.shop_turn.specs.Desks.{seat_of};
 ghost use Rattle.shop_tasks.specs.TaskValues.{caller_of, task_of};
 ghost use Rattle.shop_tasks.specs.Tasks as spec;

@@ -31,7 +31,7 @@ pub struct Task<R: Wait + Drop, C: Clock + Drop> {
 
 impl<R: Wait + Drop, C: Clock + Drop> Model for Task<R, C> {
     ghost use Rattle.std.specs.Arc.{arc_value};
-    ghost use Rattle.shop_engine.specs.Workers.{IsPosted};
+    ghost use Rattle.shop_engine.specs.Posts.{IsPosted};
     ghost use Rattle.shop_turn.specs.Desks.{seat_of};
     ghost use Rattle.shop_tasks.specs.TaskValues.{TaskValue, caller_of, task_of};
 

@@ -15,7 +15,7 @@ use Rattle.shop_words.specs.declared.options.Refusal.TheVariants as refusal
 use Rattle.shop_words.specs.Commands.{Chooses, ChoosesDrive, ChoosesRace, ChoosesWorkload, IsCommand, IsDrive, IsGiven, IsRace, IsRead, IsSession, drive_options, race_options, session_options, workload_of_drive, workload_of_race, workload_options}
 use Rattle.shop_words.specs.Options.{AreOptions, Given, IsChosen, IsPlain, IsReading, IsWord, value_of}
 use Rattle.shop_text.specs.Numbers.{number_of}
-use Rattle.shop_words.specs.Values.{mix_of, scale_of, within}
+use Rattle.shop_words.specs.Values.{limit_of, mix_of, scale_of, within}
 use Rattle.shop_words.proofs.Commands.{IsForm, more-form, chosen-along, chosen-plain, chosen-same, chosen-by, given-words, is-given, name-from, no-options, one-given, plain-from, rest-of, texts, word-from}
 use Rattle.shop_words.proofs.Numbers.{number-plain}
 use Rattle.shop_words.proofs.Rules.{same-text}
@@ -45,16 +45,23 @@ mix-plain text mix is = go (bytes_eq text (codes "browsing")) (bytes_eq text (co
 
 pub session-form : IsForm session_options Chooses
 session-form = record {
-  known = (name-from (codes "scale") (omega arith) refl refl, (name-from (codes "seed") (omega arith) refl refl, tt));
+  known = (name-from (codes "scale") (omega arith) refl refl, (name-from (codes "seed") (omega arith) refl refl, (name-from (codes "limit") (omega arith) refl refl, tt)));
   along = λ values others same chosen chooses. record {
     scale = chosen-along scale_of desk _ _ chosen.scale (same (codes "scale")) chooses.scale;
     seed = chosen-along number_of 0 _ _ chosen.seed (same (codes "seed")) chooses.seed;
+    limit = chosen-along limit_of 1_000_000 _ _ chosen.limit (same (codes "limit")) chooses.limit;
   };
-  same = λ values one other x y. ap₂ (λ scale seed. record { scale = scale; seed = seed }) (chosen-same scale_of desk (values (codes "scale")) one.scale other.scale x.scale y.scale)
-      (chosen-same number_of 0 (values (codes "seed")) one.seed other.seed x.seed y.seed);
+  same = λ values one other x y i. record {
+    scale = chosen-same scale_of desk (values (codes "scale")) one.scale other.scale x.scale y.scale i;
+    seed = chosen-same number_of 0 (values (codes "seed")) one.seed other.seed x.seed y.seed i;
+    limit = chosen-same limit_of 1_000_000 (values (codes "limit")) one.limit other.limit x.limit y.limit i;
+  };
   plain = λ values chosen chooses. (
     chosen-plain scale_of desk values (codes "scale") chosen.scale scale-plain chooses.scale,
-    (chosen-plain number_of 0 values (codes "seed") chosen.seed number-plain chooses.seed, tt),
+    (
+      chosen-plain number_of 0 values (codes "seed") chosen.seed number-plain chooses.seed,
+      (chosen-plain limit_of 1_000_000 values (codes "limit") chosen.limit (within-plain 1 1_000_000) chooses.limit, tt),
+    ),
   );
 }
 

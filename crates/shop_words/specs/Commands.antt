@@ -4,7 +4,7 @@ use Rattle.shop_model.specs.population.Scales.{desk}
 use Rattle.shop_browsers.specs.declared.mix.Mix.TheVariants.{Shopping}
 use Rattle.shop_words.specs.Options.{Given, AreOptions, IsChosen, value_for}
 use Rattle.shop_text.specs.Numbers.{number_of}
-use Rattle.shop_words.specs.Values.{browsers_of, mix_of, scale_of, steps_of, workers_of}
+use Rattle.shop_words.specs.Values.{browsers_of, limit_of, mix_of, scale_of, steps_of, workers_of}
 use Rattle.shop_words.specs.declared.choices.Workload.{Workload}
 use Rattle.shop_words.specs.declared.command.Session.{Session}
 use Rattle.shop_words.specs.declared.command.Drive.{Drive}
@@ -27,12 +27,14 @@ pub record IsGiven {A : Type 0} (first : List ℕ) (names : List (List ℕ)) (Ch
 -- ---- a session
 
 abbrev pub session_options : List (List ℕ)
-session_options = codes "scale" ∷ codes "seed" ∷ []
+session_options = codes "scale" ∷ codes "seed" ∷ codes "limit" ∷ []
 
--- the session that option values choose: a scale, the desk's by default, and a seed, 0 by default
+-- the session that option values choose: a scale, the desk's by default, a seed, 0 by default, and how many changes its
+-- log may hold, 1,000,000 by default
 pub record Chooses (values : List ℕ → Option (List ℕ)) (session : Session) : Type 0 where
   pub scale : IsChosen scale_of desk (values (codes "scale")) session.scale
   pub seed : IsChosen number_of 0 (values (codes "seed")) session.seed
+  pub limit : IsChosen limit_of 1_000_000 (values (codes "limit")) session.limit
 
 -- `session` and its options
 abbrev pub IsSession : List (List ℕ) → Session → Type 0

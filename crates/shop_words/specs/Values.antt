@@ -38,6 +38,10 @@ browsers_of text = within 1 64 (number_of text)
 abbrev pub workers_of : List ℕ → Option ℕ
 workers_of text = within 1 16 (number_of text)
 
+-- how many changes the log may hold: 1 to 1,000,000
+abbrev pub limit_of : List ℕ → Option ℕ
+limit_of text = within 1 1_000_000 (number_of text)
+
 -- how many steps each makes: 1 to 100,000
 abbrev pub steps_of : List ℕ → Option ℕ
 steps_of text = within 1 100_000 (number_of text)

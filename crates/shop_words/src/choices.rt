@@ -4,7 +4,7 @@ ghost use Rattle.clap.specs.Words.{first_value, found_of};
 ghost use Rattle.shop_words.specs.Commands.{Chooses, ChoosesDrive, ChoosesRace, ChoosesWorkload};
 
 use crate::command::{Drive, Race, Session};
-use crate::values::{browsers_of, mix_of, scale_of, steps_of, workers_of};
+use crate::values::{browsers_of, limit_of, mix_of, scale_of, steps_of, workers_of};
 use clap::ArgMatches;
 use shop_browsers::Mix;
 use shop_model::Scale;
@@ -30,7 +30,11 @@ pub(crate) fn session_of(found: &ArgMatches) -> Option<Session>
         Some(text) => number_of(text.as_bytes())?,
         None => 0,
     };
-    Some(Session { scale, seed })
+    let limit = match found.get_str("limit") {
+        Some(text) => limit_of(text)?,
+        None => 1_000_000,
+    };
+    Some(Session { scale, seed, limit })
 }
 
 fn workload_of(found: &ArgMatches) -> Option<Workload>

@@ -25,6 +25,8 @@ pub struct Session {
     pub scale: Scale,
     /// The seed that its population and its words are drawn from.
     pub seed: u32,
+    /// How many changes its log may hold: 1 to 1,000,000.
+    pub limit: u64,
 }
 
 /// Browsers, and the shop that they are driven over.
@@ -61,13 +63,13 @@ pub enum Parsed<T> {
 }
 
 /// The names of a session's options.
-static SESSION: [&str; 2] = ["scale", "seed"];
+static SESSION: [&str; 3] = ["scale", "seed", "limit"];
 
 /// The names of a drive's options.
-static DRIVE: [&str; 5] = ["browsers", "steps", "mix", "scale", "seed"];
+static DRIVE: [&str; 6] = ["browsers", "steps", "mix", "scale", "seed", "limit"];
 
 /// The names of a race's options.
-static RACE: [&str; 5] = ["workers", "steps", "mix", "scale", "seed"];
+static RACE: [&str; 6] = ["workers", "steps", "mix", "scale", "seed", "limit"];
 
 /// The command that the words give. The first one names it, and the others are its options, each written
 /// `--name value` or `--name=value`, at most once, in any order.

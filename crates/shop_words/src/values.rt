@@ -42,6 +42,12 @@ pub(crate) fn steps_of(text: &str) -> Option<u32>
     within(1, 100_000, number_of(text.as_bytes()))
 }
 
+pub(crate) fn limit_of(text: &str) -> Option<u64>
+    ensures { result ≡ spec.limit_of text.now }
+{
+    within(1, 1_000_000, number_of(text.as_bytes())).map(u64::from)
+}
+
 fn within(low: u32, high: u32, number: Option<u32>) -> Option<u32>
     ensures { result ≡ spec.within low high number }
 {

@@ -7,7 +7,8 @@ use Rattle.shop_attempt.specs.Marks.{IsMark}
 use Rattle.shop_engine.specs.declared.report.Point.{Point}
 use Rattle.shop_engine.specs.declared.report.PointKind.{PointKind}
 use Rattle.shop_engine.specs.declared.report.PointKind.TheVariants as kind
-use Rattle.shop_engine.specs.Lists.{IsFresh, IsFreshAs, IsFreshIn, IsFreshInAs, IsFreshPoint, IsMarkedFresh}
+use Rattle.shop_engine.specs.Lists.{IsFresh, IsFreshAs, IsFreshPoint, IsMarkedFresh}
+use Rattle.shop_engine.specs.Fresh.{IsFreshIn, IsFreshInAs}
 
 pub is_fresh : (marked : ℕ → ℕ → Type 0) (log : List Entry) (front moment : ℕ) → IsMarkedFresh marked log front moment → IsFresh log front moment
 is_fresh marked log front moment is =

@@ -1,7 +1,19 @@
 use Rattle.std.proofs.Common.{inr, subst}
 use Rattle.shop_words.specs.declared.command.Command.TheVariants as command
-use Rattle.shop_words.specs.Commands.{IsCommand}
+use Rattle.shop_words.specs.Commands.{IsCommand, IsDrive, IsSession}
+use Rattle.shop_words.specs.Options.{value_for}
+use Rattle.shop_app.proofs.Chosen.{limit_chosen}
 use Rattle.shop_app.proofs.alone.run.Goals as goal
+
+pub session-requires : goal.session-requires
+session-requires g c =
+    let is : IsSession c.args.words.now c.in-Good-Session.asked = subst (IsCommand c.args.words.now) c.in-Good-Session.field-0-is c.in-Good-Session.ensures.command in
+    limit_chosen (value_for is.given) c.in-Good-Session.asked is.chooses
+
+pub drive_browsers-requires : goal.drive_browsers-requires
+drive_browsers-requires g c =
+    let is : IsDrive c.args.words.now c.in-Good-Drive.asked = subst (IsCommand c.args.words.now) c.in-Good-Drive.field-0-is c.in-Good-Drive.ensures.command in
+    limit_chosen (value_for is.given) c.in-Good-Drive.asked.shop is.chooses.workload.shop
 
 pub returns-in-Good-Drive-clause-run : goal.returns-in-Good-Drive-clause-run
 returns-in-Good-Drive-clause-run g c other =
@@ -13,4 +25,4 @@ returns-in-Good-Drive-clause-run g c other =
 
 pub returns-in-Good-Session-clause-run : goal.returns-in-Good-Session-clause-run
 returns-in-Good-Session-clause-run g c other =
-    inr (command.Session c.in-Good-Session.asked, subst (IsCommand c.args.words.now) c.in-Good-Session.field-0-is c.in-Good-Session.ensures.command, c.session.ensures)
+    inr (command.Session c.in-Good-Session.asked, subst (IsCommand c.args.words.now) c.in-Good-Session.field-0-is c.in-Good-Session.ensures.command, c.session.ensures.session)

@@ -1,6 +1,6 @@
 use Rattle.std.proofs.Common.{inr, subst}
 use Rattle.shop_words.specs.Commands.{IsCommand}
-use Rattle.shop_app.proofs.RaceLemmas.{within_words}
+use Rattle.shop_app.proofs.Chosen.{within_words}
 use Rattle.shop_app.proofs.shared.run.Goals as goal
 
 pub race_browsers-requires-after_bounds : goal.race_browsers-requires-after_bounds

@@ -1,4 +1,4 @@
-use Rattle.std.proofs.Common.{◌≡◌, ◌-◌, ◌≤◌, length, All}
+use Rattle.std.proofs.Common.{◌≡◌, ◌-◌, ◌≤◌, false, length, All}
 use Rattle.shop_attempt.specs.Marks.{KeepsMarks}
 use Rattle.shop_engine.specs.Connections.{SoFar}
 use Rattle.shop_engine.specs.Failures.{RoseBy, failures}
@@ -6,11 +6,12 @@ use Rattle.shop_engine.specs.Lists.{IsFreshPoint}
 use Rattle.shop_engine.specs.Workers.{standing}
 use Rattle.shop_engine.proofs.connection.serve_all.Given as goal
 
-abbrev pub invariant-loop-alloc : goal.invariant-loop-alloc
-invariant-loop-alloc g l = record {
+abbrev pub invariant-loop-source : goal.invariant-loop-source
+invariant-loop-source g l = record {
   so_far : SoFar (standing g.St.Store.seat l.fn.worker (g.C.Clock.readings l.fn.clock) (g.G.Gateway.answers l.fn.gateway)) (standing g.St.Store.seat l.worker (g.C.Clock.readings l.clock) (g.G.Gateway.answers l.gateway))
       (record { left = g.S.Source.left l.fn.source; held = g.K.Sink.held l.fn.sink }) (record { left = g.S.Source.left l.source; held = g.K.Sink.held l.sink })
-      l.buffer l.points.items;
+      l.gather.held l.points.items;
+  ended : l.gather.ended ≡ false;
   few : length l.points.items ≤ 1000;
   caller : l.worker.caller ≡ l.fn.worker.caller;
   reads : g.S.Source.faults l.fn.source ≤ g.S.Source.faults l.source;
@@ -21,5 +22,5 @@ invariant-loop-alloc g l = record {
   asks : g.G.Gateway.faults l.fn.gateway ≤ g.G.Gateway.faults l.gateway;
 }
 
-abbrev pub decreases-loop-alloc : goal.decreases-loop-alloc
-decreases-loop-alloc g l = 1000 - length l.points.items
+abbrev pub decreases-loop-source : goal.decreases-loop-source
+decreases-loop-source g l = 1000 - length l.points.items

@@ -7,7 +7,7 @@ use Rattle.std.specs.Io.KnownBytes.{Appends, Consumes}
 use Rattle.std.proofs.lemmas.List.Elements.{All-pop}
 use Rattle.std.proofs.lemmas.List.Folds.{concat-append}
 use Rattle.shop_edges.specs.Streams.{AppendsFront}
-use Rattle.shop_edges.proofs.cited.Known.{Appends-nothing, Appends-more, Consumes-nothing, Consumes-more}
+use Rattle.shop_edges.proofs.cited.Known.{Appends-nothing, Appends-more, Consumes-more}
 use Rattle.shop_message.specs.declared.messages.Message.{Message}
 use Rattle.shop_message.specs.Messages.{Between, Inside, Refusing}
 use Rattle.shop_message.specs.Nexts.{GivesMessage, Stops, Breaks}
@@ -20,7 +20,8 @@ use Rattle.shop_engine.specs.Connections.{Output, Adds, MessageAs, RefusalAs, So
 use Rattle.shop_engine.specs.Served.{Streams, Served, IsAbandoned, Wrote, EndsAs, told_page}
 use Rattle.shop_engine.specs.Steps.{ANSWERS, Step, plain_point}
 use Rattle.shop_engine.specs.Workers.{Standing}
-use Rattle.shop_engine.proofs.ConnectionLemmas.{messages_of, points_of, replies_of, stays_of, told_of, counted, whole-one, one_more}
+use Rattle.shop_engine.proofs.ConnectionLemmas.{stays_of, told_of}
+use Rattle.shop_engine.proofs.cited.SoFar.{messages_of, points_of, replies_of, counted, whole-one, one_more}
 
 -- what was written at the end
 
@@ -112,14 +113,15 @@ module _ (old now : Standing) (streams streams' : Streams) (unread : List ℕ) (
       behind new ended.Memory piece None points left' streams'.held few taken tt (⊎_elim (λ (same : new ≡ now). inl same) (λ (gave : IsAbandoned (so_far.came.given ++ piece) (messages_of so_far.steps) now new). inr (refl, gave)) after)
       (sym (append-nil points)) (Appends-nothing streams'.held)
 
-  -- all answers are spent
-  pub Served-spent : length points ≡ 1000 → Served old now streams streams' ended.Spent points
-  Served-spent all =
+  -- all answers are spent, whatever came behind the last of their messages
+  pub Served-spent : (left' : Option (List ℕ)) (piece : List ℕ) → length points ≡ 1000 → Consumes streams'.left left' piece
+      → Served old now streams (record { left = left'; held = streams'.held }) ended.Spent points
+  Served-spent left' piece all taken =
       let split = last_message (messages_of so_far.steps) (sym (counted so_far.steps points so_far.all) ∙ all) in
       let number : length split.0 + 1 ≡ 1000 = sym (ap length split.2 ∙ length-append split.0 (split.1 ∷ [])) ∙ sym (counted so_far.steps points so_far.all) ∙ all in
       let stay = All-pop (λ (m : Message). m.close ≡ false) (messages_of so_far.steps) split.0 (Some split.1) split.2 so_far.stay in
-      served now ended.Spent [] split.0 (Some split.1) None points streams'.left streams'.held split.2 stay.0 (omega (arith, number))
-      (Consumes-nothing streams'.left) (stay.1, number) (inl refl) (sym (append-nil points)) (Appends-nothing streams'.held)
+      served now ended.Spent piece split.0 (Some split.1) None points left' streams'.held split.2 stay.0 (omega (arith, number))
+      taken (stay.1, number) (inl refl) (sym (append-nil points)) (Appends-nothing streams'.held)
 
   -- at a refusal, which leaves the worker where it stands
   pub Served-refusal : (end : Ended) (new : Standing) (after : List ℕ) (points' : List Point) (left' held' : Option (List ℕ)) (refusal : Refused) → length points < 1000
