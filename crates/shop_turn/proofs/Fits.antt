@@ -34,10 +34,9 @@ not_one origin now by id u v f g apart theirs mine same =
 pub same_caller : (origin : Origin) (now now' : Now) (words words' : List ℕ) (homes homes' : Homes) (c : ℕ) → now'.log ≡ now.log → now'.shelf ≡ now.shelf → now'.stage c ≡ now.stage c → now'.gathered ≡ now.gathered
     → get_or words' (16 * c) 0 ≡ get_or words (16 * c) 0 → get_elem? homes' (8 * c) ≡ get_elem? homes (8 * c) → CallerFits origin now words homes c → CallerFits origin now' words' homes' c
 same_caller origin now now' words words' homes homes' c log shelf stage gathered word slot k = record {
-  outside = λ z. word ∙ k.outside (sym stage ∙ z);
-  inside = λ some_stage. word ∙ k.inside (omega arith);
-  home = λ low late. slot ∙ k.home (omega arith) (omega arith) ∙ (λ i. some (some (Some (shelved origin (sym log i) (sym shelf i)))));
-  apart = λ e. let a = k.apart (sym stage ∙ e) in omega arith;
+  home = λ out late. let old = k.home (sym stage ∙ out) (omega arith) in (word ∙ old.0, slot ∙ old.1 ∙ (λ i. some (some (Some (shelved origin (sym log i) (sym shelf i))))));
+  inside = λ some_stage. let old = k.inside (omega arith) in (word ∙ old.0, let a = old.1 in omega arith);
+  taken = λ low. word ∙ k.taken (omega arith);
 }
 
 -- a part, after an entry of another seat

@@ -1,5 +1,5 @@
 -- What a look tells of the book whose share a seat has, and what a settle over it leaves.
-use Rattle.std.proofs.Common.{Ok, Err, ◌≡◌, ℕ, ◌*◌, ◌≤◌, List, [], ◌∷◌, ◌++◌, length, max, Option, Some, None, true, sym, subst, arith, ◌∙◌, ap, refl, length-append, IfOk, Result}
+use Rattle.std.proofs.Common.{Ok, Err, ◌≡◌, ℕ, ◌+◌, ◌*◌, ◌≤◌, List, [], ◌∷◌, ◌++◌, length, max, Option, Some, None, true, sym, subst, arith, ◌∙◌, ap, refl, length-append, IfOk, Result}
 use Rattle.std.proofs.lemmas.Bool.{true≢false}
 use Rattle.std.proofs.lemmas.List.{append-nil}
 use Rattle.std.proofs.lemmas.List.Elements.{All-head, All-weaker}
@@ -14,15 +14,16 @@ use Rattle.shop_history.specs.declared.keys.Key.{Key}
 use Rattle.shop_history.specs.declared.keys.Row.{Row}
 use Rattle.shop_history.specs.Drawing.{no_ids}
 use Rattle.shop_history.specs.Keys.{row_of}
-use Rattle.shop_history.specs.Logs.{version_of}
+use Rattle.shop_history.specs.Logs.{version_of, entries_of}
 use Rattle.shop_attempt.proofs.cited.Settles.{true_longer_all, overtaken}
 use Rattle.shop_attempt.specs.Faithful.{Faithful}
 use Rattle.shop_attempt.specs.Reads.{first_stale}
 use Rattle.shop_attempt.specs.declared.attempts.Attempt.{Attempt}
 use Rattle.shop_attempt.specs.declared.attempts.Conflict.{Conflict}
-use Rattle.shop_attempt.specs.declared.attempts.Settle.TheVariants.{Done, Stale}
+use Rattle.shop_attempt.specs.declared.attempts.Settle.{Settle}
+use Rattle.shop_attempt.specs.declared.attempts.Settle.TheVariants.{Done, Stale, Full, Memory}
 use Rattle.shop_book.specs.Books.{BookValue, IsBook, tables_of}
-use Rattle.shop_book.specs.Settles.{Taken, SettledAs}
+use Rattle.shop_book.specs.Settles.{Taken, SettledAs, made}
 use Rattle.shop_book.specs.declared.opening.Opening.{Opening}
 use Rattle.shop_turn.specs.declared.rule.View.{View}
 use Rattle.shop_turn.specs.Views.{sharing, held_book, looking, knowing, raising, appending, giving, taking}
@@ -50,6 +51,44 @@ faithful_found v b a told opening faithful =
       makes = faithful.makes;
     })
 
+-- a change that leaves the book was not accepted
+not_taken : (b : BookValue) (n number stamp : ℕ) (act : Option Act) (drawn : Drawn) → IsSome act → Taken b b n number stamp act drawn → ⊥
+not_taken b n number stamp None drawn some_act taken = true≢false (sym some_act)
+not_taken b n number stamp (Some act) drawn some_act taken =
+    let longer = ap (λ (z : BookValue). length z.log) taken.book in omega (arith, longer, length-append b.log (made n number stamp (Some act)))
+
+-- a change that left the book was refused at any stamp
+refused_at : (latest : ℕ) (b : BookValue) (n number : ℕ) (a : Attempt) (answer : Settle) → IsSome a.act → SettledAs b b n number a answer → SettledAs (at_stamp latest b) (at_stamp latest b) n number a answer
+refused_at latest b n number a (Done drawn) changes s = absurd (not_taken b n number _ a.act drawn changes s.taken)
+refused_at latest b n number a (Stale conflict) changes s = record { first = s.first; overtaken = s.overtaken; same = refl }
+refused_at latest b n number a (Full size) changes s = (record { fresh = s.0.fresh; changes = changes; same = refl }, s.1, s.2)
+refused_at latest b n number a Memory changes s = (record { fresh = s.0.fresh; changes = changes; same = refl }, s.1)
+
+-- such an answer is none of acceptance
+not_done : (b : BookValue) (n number : ℕ) (a : Attempt) (answer : Settle) → IsSome a.act → SettledAs b b n number a answer → (drawn : Drawn) → answer ≡ Done drawn → ⊥
+not_done b n number a answer changes s drawn is = not_taken b n number _ a.act drawn changes (subst (SettledAs b b n number a) is s).taken
+
+-- a refusal leaves the book
+pub refused_same : (b after : BookValue) (n number : ℕ) (a : Attempt) (answer : Settle) → ((drawn : Drawn) → answer ≡ Done drawn → ⊥) → SettledAs b after n number a answer → after ≡ b
+refused_same b after n number a (Done drawn) refused s = absurd (refused drawn refl)
+refused_same b after n number a (Stale conflict) refused s = s.same
+refused_same b after n number a (Full size) refused s = s.0.same
+refused_same b after n number a Memory refused s = s.0.same
+
+refused_view : (b after : BookValue) (moment : ℕ) (answer : Settle) (v : View) → ((drawn : Drawn) → answer ≡ Done drawn → ⊥) → giving (looking 1 (taking b v)) ≡ settled_view b after moment answer v
+refused_view b after moment (Done drawn) v refused = absurd (refused drawn refl)
+refused_view b after moment (Stale conflict) v refused = refl
+refused_view b after moment (Full size) v refused = refl
+refused_view b after moment Memory v refused = refl
+
+-- what a look told, with the marks at a later stamp
+retold : (x : View) (latest later : ℕ) → All (MarkFits x.log later) x.marks → Told (taking (book_at latest x) x) → Told (taking (book_at later x) x)
+retold x latest later marks t = record { parts = t.parts; marks = marks; long = t.long; entries = t.entries; stamps = t.stamps }
+
+-- a seat that knew as much as the view v looks as x
+pub looked_as : (v x : View) → giving x ≡ giving v → (settles latest : ℕ) → giving (looking settles x) ≡ giving (looking settles (taking (book_at latest x) v))
+looked_as v x kept settles latest = λ i. giving (looking settles (record (kept i) { log = x.log }))
+
 -- a seat that knew as much as the view v has shares of a book as x
 module _ (v x : View) (share : BookValue) (kept : giving x ≡ giving v) (is : share ≡ held_book x) (k : IsBook share) where
   found_at : (latest : ℕ) → x.latest ≤ latest → latest ≤ stamp_limit → Told (taking (book_at latest x) x) → Found (book_at latest x) v
@@ -62,15 +101,8 @@ module _ (v x : View) (share : BookValue) (kept : giving x ≡ giving v) (is : s
   pub found_by : (latest : ℕ) → IsLatest x latest → Told (taking (book_at latest x) x) → Found (book_at latest x) v
   found_by latest l = found_at latest l.after l.bound
 
-  pub looked_as : (settles latest : ℕ) → giving (looking settles x) ≡ giving (looking settles (taking (book_at latest x) v))
-  looked_as settles latest = λ i. giving (looking settles (record (kept i) { log = x.log }))
-
   pub read_as : {E : Type 0} (key : Key) (result : Result (Row × ℕ) E) (latest : ℕ) → IfOk result (IsReadIn share key) → IfOk result (IsReadIn (book_at latest x) key)
   read_as key result latest read = IfOk-weaker result (IsReadIn (held_book x) key) (IsReadIn (book_at latest x) key) (λ r s. record { row = s.row; version = s.version }) (subst (λ (b : BookValue). IfOk result (IsReadIn b key)) is read)
-
-  -- with the marks at a later stamp
-  retold : (latest later : ℕ) → All (MarkFits x.log later) x.marks → Told (taking (book_at latest x) x) → Told (taking (book_at later x) x)
-  retold latest later marks t = record { parts = t.parts; marks = marks; long = t.long; entries = t.entries; stamps = t.stamps }
 
   pub stale_as : (latest n number : ℕ) (a : Attempt) (conflict : Conflict) → Found (book_at latest x) v → Faithful v.origin.opening.tables v.own.seen a → first_stale share.opening.tables share.log a.reads ≡ Some conflict
       → SettledAs (book_at latest x) (book_at latest x) n number a (Stale conflict)
@@ -79,6 +111,14 @@ module _ (v x : View) (share : BookValue) (kept : giving x ≡ giving v) (is : s
       let now : first_stale b.opening.tables b.log a.reads ≡ Some conflict = subst (λ (z : BookValue). first_stale z.opening.tables z.log a.reads ≡ Some conflict) is first in
       record { first = now; overtaken = overtaken b.opening.tables b.log a.reads conflict (faithful_found v b a found.told found.opening faithful).reads_are now; same = refl }
 
+  -- a change was refused
+  module _ (latest n : ℕ) (a : Attempt) (answer : Settle) (changes : IsSome a.act) (refused : SettledAs share share n (length (entries_of n share.log) + 1) a answer) where
+    pub refused_as : SettledAs (book_at latest x) (book_at latest x) n (length (entries_of n x.log) + 1) a answer
+    refused_as = subst (λ (b : BookValue). SettledAs (at_stamp latest b) (at_stamp latest b) n (length (entries_of n b.log) + 1) a answer) is (refused_at latest share n _ a answer changes refused)
+
+    pub refused_view_as : giving (looking 1 x) ≡ settled_view (book_at latest x) (book_at latest x) a.moment answer v
+    refused_view_as = looked_as v x kept 1 latest ∙ refused_view (book_at latest x) (book_at latest x) a.moment answer v (not_done (book_at latest x) n _ a answer changes refused_as)
+
   -- an attempt that changes nothing was accepted
   module _ (latest later n number : ℕ) (a : Attempt) (drawn : Drawn) (none : a.act ≡ None) (marks : All (MarkFits x.log later) x.marks) (after : x.latest ≤ later) (low_enough : later ≤ stamp_limit) (moment : a.moment ≤ stamp_limit)
       (told : Told (taking (book_at latest x) x)) where
@@ -86,7 +126,7 @@ module _ (v x : View) (share : BookValue) (kept : giving x ≡ giving v) (is : s
     passed = book_at (max later a.moment) x
 
     pub pass_found : Found (book_at later x) v
-    pass_found = found_at later after low_enough (retold latest later marks told)
+    pass_found = found_at later after low_enough (retold x latest later marks told)
 
     pub pass_kept : IsBook passed
     pass_kept = later_book (held_book x) (max later a.moment) (subst IsBook is k) (omega arith) (omega arith)
@@ -135,28 +175,25 @@ shares_looked callers settles share m now k e = subst (HasShares callers share) 
 pub shares_measured : (callers latest : ℕ) (share : BookValue) (m now : AtTable) → HasShares callers share m → now ≡ (knowing latest m.0, m.1) → HasShares callers (at_stamp latest share) now
 shares_measured callers latest share m now k e = subst (HasShares callers (at_stamp latest share)) (sym e) (record { live = k.live; one = k.one; has = k.has; gathered = k.gathered; book = ap (at_stamp latest) k.book; slots = k.slots })
 
-pub measured_keeps : (latest : ℕ) (v : View) (m now : AtTable) (more : List (ℕ × Option BookValue)) → now ≡ (knowing latest m.0, more) → giving m.0 ≡ giving v → giving now.0 ≡ giving v
-measured_keeps latest v m now more e kept = ap (λ (x : AtTable). giving x.0) e ∙ kept
-
 pub measured_after : (callers latest : ℕ) (share : BookValue) (m : AtTable) → HasShares callers share m → m.0.latest ≤ latest → share.latest ≤ latest
 measured_after callers latest share m k le = let a = ap (λ (b : BookValue). b.latest) k.book in omega arith
 
 -- a change was accepted, and is to be counted
-pub counted_from : (callers number k t : ℕ) (b after : BookValue) (act : Option Act) (drawn : Drawn) (m now : AtTable) → HasShares callers b m → m.0.knows ≡ true → m.0.own.number ≡ number → now ≡ (looking 1 m.0, m.1) → IsSome act → IsBook after → t ≤ stamp_limit
-    → Taken b after number k (max b.latest t) act drawn → IsCounted callers t after now
-counted_from callers number k t b after None drawn m now shares knows named e some_act kept low_enough taken = absurd (true≢false (sym some_act))
-counted_from callers number k t b after (Some act) drawn m now shares knows named e some_act kept low_enough taken =
+pub counted_from : (callers number k t : ℕ) (b after : BookValue) (act : Option Act) (drawn : Drawn) (m : AtTable) → HasShares callers b m → m.0.knows ≡ true → m.0.others ≡ [] → m.0.own.number ≡ number → IsSome act → IsBook after → t ≤ stamp_limit
+    → Taken b after number k (max b.latest t) act drawn → IsCounted callers t after m
+counted_from callers number k t b after None drawn m shares knows single named some_act kept low_enough taken = absurd (true≢false (sym some_act))
+counted_from callers number k t b after (Some act) drawn m shares knows single named some_act kept low_enough taken =
     let stamp : ℕ = max b.latest t in
     let level : b.latest ≡ m.0.latest = ap (λ (z : BookValue). z.latest) shares.book in
     let entry : Entry = record { caller = number; number = k; stamp = stamp; act = act } in
-    subst (IsCounted callers t after) (sym e) (record {
+    record {
       all = record { live = shares.live; one = shares.one; has = shares.has; gathered = shares.gathered; book = refl; slots = shares.slots };
       knows = knows;
-      single = refl;
+      single = single;
       longer = record { entry = entry; is = taken.book ∙ (λ i. record { opening = (shares.book i).opening; log = (shares.book i).log ++ entry ∷ []; latest = max (level i) t }); caller = sym named; stamp = ap (λ (n : ℕ). max n t) level };
       room = let l = ap (λ (z : BookValue). length z.log) taken.book in let s = ap (λ (z : BookValue). length z.log) shares.book in omega (arith, kept.short, kept.opens.bound, l, s, length-append b.log (entry ∷ []));
       bound = low_enough;
-    })
+    }
 
 pub some_caller : (number callers : ℕ) (m : AtTable) → IsReady number callers m → 1 ≤ callers
 some_caller number callers m r = let a = r.one in let b = r.most in omega arith
@@ -172,33 +209,47 @@ faithful_as v x share latest a kept is told faithful =
     subst (λ (b : BookValue). Faithful b.opening.tables b.log a) (sym is)
     (faithful_found v (book_at latest x) a (subst (λ (z : View). Told (record z { log = x.log; latest = latest })) kept told) (ap (λ (z : View). z.origin.opening) kept) faithful)
 
--- with every share and the latest stamp, which was measured
-module _ (v : View) (callers latest : ℕ) (share : BookValue) (m now : AtTable) (more : List (ℕ × Option BookValue)) (k : HasShares callers share m) (kept : giving m.0 ≡ giving v) (e : now ≡ (knowing latest m.0, more)) where
-  keeps_now : giving now.0 ≡ giving v
-  keeps_now = ap (λ (x : AtTable). giving x.0) e ∙ kept
+-- a seat that looked with the turn took the other shares, and measured the latest stamp
+module _ (v : View) (settles callers latest : ℕ) (share : BookValue) (first looked all now : AtTable) (one : HasShares 0 share first) (kept : giving first.0 ≡ giving v) (look : looked ≡ (looking settles first.0, first.1))
+    (every : HasShares callers share all) (still : giving all.0 ≡ giving looked.0) (measured : now ≡ (knowing latest all.0, all.1)) where
+  was_looking : giving all.0 ≡ giving (looking settles first.0)
+  was_looking = still ∙ ap (λ (m : AtTable). giving m.0) look
 
-  book_now : at_stamp latest share ≡ held_book now.0
-  book_now = ap (at_stamp latest) k.book ∙ ap (λ (x : AtTable). held_book x.0) (sym e)
+  book_then : at_stamp latest share ≡ book_at latest first.0
+  book_then = ap (at_stamp latest) one.book
 
-  pub measured_found : (found : ℕ) → IsBook (at_stamp latest share) → IsLatest now.0 found → Told (taking (book_at found now.0) now.0) → Found (at_stamp latest share) v
-  measured_found found b l told =
-      let same : found ≡ now.0.latest = l.known (ap (λ (x : AtTable). x.0.knows) e) in
-      subst (λ (z : BookValue). Found z v) (sym book_now) (subst (λ n. Found (book_at n now.0) v) same (found_by v now.0 (at_stamp latest share) keeps_now book_now b found l told))
+  pub all_found : (t : ℕ) → IsBook (at_stamp latest share) → All (MarkFits all.0.log latest) all.0.marks → Told (taking (book_at t first.0) first.0) → Found (at_stamp latest share) v
+  all_found t book marks told =
+      let log : all.0.log ≡ first.0.log = ap (λ (b : BookValue). b.log) (sym every.book ∙ one.book) in
+      let fits = subst (λ (l : List Entry). All (MarkFits l latest) first.0.marks) log (subst (All (MarkFits all.0.log latest)) (ap (λ (x : View). x.marks) was_looking) marks) in
+      subst (λ (b : BookValue). Found b v) (sym book_then) (record {
+        book_is = subst IsBook book_then book;
+        told = subst (λ (z : View). Told (record z { log = first.0.log; latest = latest })) kept (retold first.0 t latest fits told);
+        opening = ap (λ (z : View). z.origin.opening) kept;
+      })
 
-  pub measured_named : (number : ℕ) → v.own.number ≡ number → now.0.own.number ≡ number
-  measured_named number named = ap (λ (z : View). z.own.number) keeps_now ∙ named
+  pub all_shares : HasShares callers (at_stamp latest share) now
+  all_shares = shares_measured callers latest share all now every measured
 
-  pub calm_view : giving (looking 1 now.0) ≡ giving (looking 1 (taking (at_stamp latest share) v))
-  calm_view = λ i. giving (looking 1 (record (keeps_now i) { log = (sym book_now i).log }))
+  -- what the seat knows besides its log
+  knows_now : giving now.0 ≡ giving (looking settles (taking (at_stamp latest share) v))
+  knows_now = ap (λ (m : AtTable). giving m.0) measured ∙ was_looking ∙ looked_as v first.0 kept settles latest ∙ ap (λ (b : BookValue). giving (looking settles (taking b v))) (sym book_then)
 
-  pub changed_view : (log : List Entry) (t : ℕ) → giving (appending log (raising t (looking 1 now.0))) ≡ giving (appending log (raising t (looking 1 (taking (at_stamp latest share) v))))
-  changed_view log t = λ i. giving (appending log (raising t (looking 1 (record (keeps_now i) { log = (sym book_now i).log }))))
+  pub all_changed : (log : List Entry) (t : ℕ) → giving (appending log (raising t now.0)) ≡ giving (appending log (raising t (looking settles (taking (at_stamp latest share) v))))
+  all_changed log t =
+      let is : now.0.log ≡ share.log = ap (λ (m : AtTable). m.0.log) measured ∙ ap (λ (b : BookValue). b.log) (sym every.book) in
+      λ i. giving (appending log (raising t (record (knows_now i) { log = is i })))
 
-  -- the shares are of the book that a refused settle left
-  pub refused_shares : (after : BookValue) (looked : AtTable) → now.1 ≡ m.1 → looked ≡ (looking 1 now.0, now.1) → after ≡ at_stamp latest share → HasShares callers after looked
-  refused_shares after looked slots f same =
-      let is : looked ≡ (looking 1 (knowing latest m.0), m.1) = f ∙ (λ i. (looking 1 (e i).0, slots i)) in
-      subst (HasShares callers after) (sym is) (record { live = k.live; one = k.one; has = k.has; gathered = k.gathered; book = same ∙ ap (at_stamp latest) k.book; slots = k.slots })
+  pub all_refused : settles ≡ 1 → (after : BookValue) (moment : ℕ) (answer : Settle) → ((drawn : Drawn) → answer ≡ Done drawn → ⊥) → giving now.0 ≡ settled_view (at_stamp latest share) after moment answer v
+  all_refused one_look after moment answer refused =
+      knows_now ∙ ap (λ n. giving (looking n (taking (at_stamp latest share) v))) one_look ∙ refused_view (at_stamp latest share) after moment answer v refused
+
+  pub all_counted : (number k t : ℕ) (after : BookValue) (act : Option Act) (drawn : Drawn) → v.own.number ≡ number → IsSome act → IsBook after → t ≤ stamp_limit
+      → Taken (at_stamp latest share) after number k (max latest t) act drawn → IsCounted callers t after now
+  all_counted number k t after act drawn named changes book low_enough taken =
+      let is = ap (λ (m : AtTable). giving m.0) measured ∙ was_looking in
+      counted_from callers number k t (at_stamp latest share) after act drawn now all_shares (ap (λ (m : AtTable). m.0.knows) measured) (ap (λ (x : View). x.others) is) (ap (λ (x : View). x.own.number) is ∙ ap (λ (x : View). x.own.number) kept ∙ named)
+      changes book low_enough taken
 
 -- a book that was raised to a later stamp
 pub raised_book : (latest : ℕ) (share old new : BookValue) → old ≡ share → new ≡ record old { latest = max old.latest latest } → share.latest ≤ latest → new ≡ at_stamp latest share

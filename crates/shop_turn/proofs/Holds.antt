@@ -6,6 +6,7 @@ use Rattle.std.proofs.lemmas.List.Elements.{All-weaker, All-push, All-nil, All-c
 use Rattle.std.specs.List.{All, Contains}
 use mathlib.Core.Logic.{dite}
 use mathlib.Core.Option.{none, some}
+use mathlib.Core.Option as maybe
 use native.Mathlib.Decide.{dec_le, ℕ_discrete}
 use lib.ListN.{get_elem?}
 use Rattle.atomic_table.proofs.Lists.{set_again, set_here, set_else}
@@ -15,8 +16,8 @@ use Rattle.shop_history.specs.declared.acts.Entry.{Entry}
 use Rattle.shop_book.specs.Books.{BookValue}
 use Rattle.shop_turn.specs.declared.rule.Origin.{Origin}
 use Rattle.shop_turn.specs.declared.rule.View.{View}
-use Rattle.shop_turn.specs.Views.{named_as, staged, sharing, turning, gathering, held_book, looking, knowing, raising, appending, filling, giving}
-use Rattle.shop_turn.specs.Rule.{PartFits, Now, Homes, CallerFits, HasShare, Stands, Fits, IsSourced, EntryFits, shelved, Holds}
+use Rattle.shop_turn.specs.Views.{named_as, sharing, turning, gathering, held_book, looking, knowing, raising, appending, filling, giving}
+use Rattle.shop_turn.specs.Rule.{PartFits, Now, Homes, CallerFits, HasShare, Stands, Fits, IsSourced, EntryFits, shelved, a_share, Holds}
 use Rattle.shop_turn.specs.Marks.{MarkFits}
 use Rattle.shop_turn.proofs.Fits.{each_set, drop-all, own_of, not_one, part_push, mark_push, parts_under, same_caller}
 use Rattle.shop_turn.proofs.Sources.{at_here, given, given-at, given-else, source_set, entries_weaker}
@@ -51,21 +52,21 @@ module _ (origin : Origin) (s : State (Option BookValue) View) (h : Holds origin
   apart by u other f = not_one origin h.now by id u v f mine other
 
   -- no other seat has the turn, where nobody has it, or this one
-  none_else : h.now.turn ≡ 0 → (by : ℕ) (u : View) → by ≢ id → Fits origin h.now by u → u.stage ≡ 3 → ⊥
+  none_else : h.now.turn ≡ 0 → (by : ℕ) (u : View) → by ≢ id → Fits origin h.now by u → u.stage ≡ 2 → ⊥
   none_else nobody by u other f e = let a = (f.place.turns e).0 in let b : u.own.number ≡ 0 = omega arith in let c = f.place.idle b in omega arith
 
-  alone : 1 ≤ v.own.number → v.stage ≡ 3 → (by : ℕ) (u : View) → by ≢ id → Fits origin h.now by u → u.stage ≡ 3 → ⊥
+  alone : 1 ≤ v.own.number → v.stage ≡ 2 → (by : ℕ) (u : View) → by ≢ id → Fits origin h.now by u → u.stage ≡ 2 → ⊥
   alone one has by u other f e =
       let a = (f.place.turns e).0 in let b = (mine.place.turns has).0 in
       let same : u.own.number ≡ v.own.number = sym a ∙ b in
       apart by u other f (omega arith) one same
 
   -- no other seat is inside, where this one has every share
-  none_inside : origin.callers ≤ h.now.gathered → (by : ℕ) (u : View) → Fits origin h.now by u → u.stage ≡ 2 → ⊥
+  none_inside : origin.callers ≤ h.now.gathered → (by : ℕ) (u : View) → Fits origin h.now by u → u.stage ≡ 1 → ⊥
   none_inside all by u f e =
       let one : 1 ≤ u.own.number = dite (ℕ_discrete u.own.number 0) (λ (z : u.own.number ≡ 0). let a = f.place.idle z in absurd (omega arith)) (λ (nz : u.own.number ≢ 0). omega arith) in
       let o = ((own_of origin h.now by u f).owned one).0 in let few = h.few in
-      let a = (h.callers u.own.number one (omega arith)).apart (f.place.stands one (omega arith) ∙ e) in
+      let b = f.place.stands one (omega arith) in let late = ((h.callers u.own.number one (omega arith)).inside (omega arith)).1 in
       omega arith
 
   -- the shares of this seat are of the book that is shared
@@ -98,10 +99,10 @@ module _ (origin : Origin) (s : State (Option BookValue) View) (h : Holds origin
 
   -- who has the turn changes, how many shares that one has, or how a caller stands
   stood_holds : (turn gathered : ℕ) (stage : ℕ → ℕ) (words' : List ℕ) (homes' : Homes) (w : View) → ((x : ℕ × ℕ) → Contains v.marks x → Contains w.marks x) → length words' ≡ length s.words
-      → get_or words' 0 0 ≡ turn → ((j : ℕ) → 1 ≤ j → j < 4 → get_or words' j 0 ≡ get_or s.words j 0) → (turn ≡ 0 → gathered ≡ 0) → gathered ≤ origin.callers → ((c : ℕ) → h.now.named < c → stage c ≡ 0)
+      → get_or words' 0 0 ≡ turn → ((j : ℕ) → 1 ≤ j → j < 4 → get_or words' j 0 ≡ get_or s.words j 0) → (turn ≡ 0 → gathered ≡ 0) → (turn ≡ 0 → get_elem? homes' 0 ≡ some (a_share origin h.now)) → gathered ≤ origin.callers → ((c : ℕ) → h.now.named < c → stage c ≡ 0)
       → ((c : ℕ) → 1 ≤ c → c ≤ origin.callers → CallerFits origin (standing turn gathered stage) words' homes' c)
       → ((by : ℕ) (u : View) → by ≢ id → Fits origin h.now by u → Stands origin (standing turn gathered stage) u) → Fits origin (standing turn gathered stage) id w → Holds origin record { words = words'; homes = homes'; views = set s.views id w }
-  stood_holds turn gathered stage words' homes' w more len first word free most unnamed each others fit = record {
+  stood_holds turn gathered stage words' homes' w more len first word free spare most unnamed each others fit = record {
     now = standing turn gathered stage;
     wide = len ∙ h.wide;
     turn = first;
@@ -109,6 +110,7 @@ module _ (origin : Origin) (s : State (Option BookValue) View) (h : Holds origin
     latest = word 2 (omega arith) (omega arith) ∙ h.latest;
     named = word 3 (omega arith) (omega arith) ∙ h.named;
     free = free;
+    spare = spare;
     most = most;
     unnamed = unnamed;
     callers = each;
@@ -129,7 +131,7 @@ module _ (origin : Origin) (s : State (Option BookValue) View) (h : Holds origin
       → ((j : ℕ) → j ≢ 16 * v.own.number → get_or words' j 0 ≡ get_or s.words j 0) → ((j : ℕ) → j ≢ 8 * v.own.number → get_elem? homes' j ≡ get_elem? s.homes j)
       → CallerFits origin (at_stage t) words' homes' v.own.number → Fits origin (at_stage t) id w → Holds origin record { words = words'; homes = homes'; views = set s.views id w }
   moved_holds t words' homes' w more one len word slot own =
-      stood_holds h.now.turn h.now.gathered (given h.now.stage v.own.number t) words' homes' w more len (word 0 (λ e. omega arith) ∙ h.turn) (λ j some_j few. word j (λ e. omega arith)) h.free h.most
+      stood_holds h.now.turn h.now.gathered (given h.now.stage v.own.number t) words' homes' w more len (word 0 (λ e. omega arith) ∙ h.turn) (λ j some_j few. word j (λ e. omega arith)) h.free (λ z. slot 0 (λ e. omega arith) ∙ h.spare z) h.most
       (λ c late. given-else h.now.stage v.own.number t c (λ e. let a = (own_part.owned one).0 in omega arith) ∙ h.unnamed c late)
       (λ c low high. dite (ℕ_discrete c v.own.number)
       (λ (e : c ≡ v.own.number). subst (CallerFits origin (at_stage t) words' homes') (sym e) own)
@@ -143,69 +145,25 @@ module _ (origin : Origin) (s : State (Option BookValue) View) (h : Holds origin
         knows = f.place.knows;
       })
 
-  pub entered_holds : 1 ≤ v.own.number → v.stage ≡ 0 → Holds origin record { words = set s.words (16 * v.own.number) 1; homes = s.homes; views = set s.views id (staged 1 v) }
-  entered_holds one out =
-      let k = my_caller one in let m = mine in let here = given-at h.now.stage v.own.number 1 in let high = number_in one in let wide = h.wide in
-      let was : h.now.stage v.own.number ≡ 0 = m.place.stands one (omega arith) ∙ out in
-      moved_holds 1 (set s.words (16 * v.own.number) 1) s.homes (staged 1 v) (λ x c. c) one (length-set s.words (16 * v.own.number) 1) (λ j ne. get_or-set_other s.words (16 * v.own.number) j 1 0 ne) (λ j ne. refl)
-      (record {
-        outside = λ z. absurd (omega arith);
-        inside = λ z. get_or-set_same s.words (16 * v.own.number) 1 0 (omega arith);
-        home = λ low late. k.home (omega arith) late;
-        apart = λ e. absurd (omega arith);
-      })
-      (record {
-        same_origin = m.same_origin;
-        parts = m.parts;
-        marks = m.marks;
-        place = record {
-          idle = λ z. absurd (omega arith);
-          stands = λ z low. here;
-          stays_out = λ z e. absurd (omega arith);
-          shares = λ e. absurd (omega arith);
-          turns = λ e. absurd (omega arith);
-          knows = λ e. let a = (m.place.knows e).0 in absurd (omega arith);
-        };
-      })
+  -- a caller whose word says that nobody has its share
+  pub share_at_home : (c : ℕ) → 1 ≤ c → c ≤ origin.callers → get_or s.words (16 * c) 0 ≡ 0 → (h.now.stage c ≡ 0) × (h.now.gathered < c) × (get_elem? s.homes (8 * c) ≡ some (a_share origin h.now))
+  share_at_home c one high word =
+      let k = h.callers c one high in
+      let out : h.now.stage c ≡ 0 = dite (ℕ_discrete (h.now.stage c) 0) (λ (z : h.now.stage c ≡ 0). z) (λ (nz : h.now.stage c ≢ 0). let i = (k.inside (omega arith)).0 in absurd (omega arith)) in
+      let late : h.now.gathered < c = dite (dec_le c h.now.gathered) (λ (le : c ≤ h.now.gathered). let t = k.taken le in absurd (omega arith)) (λ ne. omega arith) in
+      (out, late, (k.home out late).1)
 
-  -- out again, from the door
-  pub backed_holds : 1 ≤ v.own.number → v.stage ≡ 1 → Holds origin record { words = set s.words (16 * v.own.number) 0; homes = s.homes; views = set s.views id (staged 0 v) }
-  backed_holds one in_door =
-      let k = my_caller one in let m = mine in let here = given-at h.now.stage v.own.number 0 in let high = number_in one in let wide = h.wide in
-      let was : h.now.stage v.own.number ≡ 1 = m.place.stands one (omega arith) ∙ in_door in
-      moved_holds 0 (set s.words (16 * v.own.number) 0) s.homes (staged 0 v) (λ x c. c) one (length-set s.words (16 * v.own.number) 0) (λ j ne. get_or-set_other s.words (16 * v.own.number) j 0 0 ne) (λ j ne. refl)
+  -- inside, with the share
+  pub entered_holds : 1 ≤ v.own.number → v.stage ≡ 0 → get_or s.words (16 * v.own.number) 0 ≡ 0
+      → Holds origin record { words = set s.words (16 * v.own.number) 1; homes = set s.homes (8 * v.own.number) none; views = set s.views id (sharing (shelved origin h.now.log h.now.shelf) v) }
+  entered_holds one out word =
+      let m = mine in let here = given-at h.now.stage v.own.number 1 in let high = number_in one in let wide = h.wide in
+      let there = share_at_home v.own.number one high word in let late = there.1 in
+      moved_holds 1 (set s.words (16 * v.own.number) 1) (set s.homes (8 * v.own.number) none) (sharing (shelved origin h.now.log h.now.shelf) v) (λ x c. c) one (length-set s.words (16 * v.own.number) 1) (λ j ne. get_or-set_other s.words (16 * v.own.number) j 1 0 ne) (λ j ne. set_else s.homes (8 * v.own.number) j none ne)
       (record {
-        outside = λ z. get_or-set_same s.words (16 * v.own.number) 0 0 (omega arith);
-        inside = λ z. absurd (omega arith);
-        home = λ low late. k.home (omega arith) late;
-        apart = λ e. absurd (omega arith);
-      })
-      (record {
-        same_origin = m.same_origin;
-        parts = m.parts;
-        marks = m.marks;
-        place = record {
-          idle = λ z. refl;
-          stands = λ z low. here;
-          stays_out = λ z e. absurd (omega arith);
-          shares = λ e. absurd (omega arith);
-          turns = λ e. absurd (omega arith);
-          knows = λ e. let a = (m.place.knows e).0 in absurd (omega arith);
-        };
-      })
-
-  -- inside, where nobody has the turn
-  pub seen_holds : 1 ≤ v.own.number → v.stage ≡ 1 → h.now.turn ≡ 0
-      → Holds origin record { words = s.words; homes = set s.homes (8 * v.own.number) none; views = set s.views id (sharing (shelved origin h.now.log h.now.shelf) v) }
-  seen_holds one in_door nobody =
-      let k = my_caller one in let m = mine in let here = given-at h.now.stage v.own.number 2 in let none_yet = h.free nobody in
-      let was : h.now.stage v.own.number ≡ 1 = m.place.stands one (omega arith) ∙ in_door in
-      moved_holds 2 s.words (set s.homes (8 * v.own.number) none) (sharing (shelved origin h.now.log h.now.shelf) v) (λ x c. c) one refl (λ j ne. refl) (λ j ne. set_else s.homes (8 * v.own.number) j none ne)
-      (record {
-        outside = λ z. absurd (omega arith);
-        inside = λ z. k.inside (omega arith);
-        home = λ low late. absurd (omega arith);
-        apart = λ e. let a : h.now.gathered < v.own.number = omega arith in a;
+        home = λ z. absurd (omega arith);
+        inside = λ z. (get_or-set_same s.words (16 * v.own.number) 1 0 (omega arith), late);
+        taken = λ le. absurd (omega arith);
       })
       (record {
         same_origin = m.same_origin;
@@ -221,23 +179,18 @@ module _ (origin : Origin) (s : State (Option BookValue) View) (h : Holds origin
         };
       })
 
-  pub share_at_home : 1 ≤ v.own.number → v.stage ≡ 1 → h.now.turn ≡ 0 → get_elem? s.homes (8 * v.own.number) ≡ some (some (Some (shelved origin h.now.log h.now.shelf)))
-  share_at_home one in_door nobody =
-      let was : h.now.stage v.own.number ≡ 1 = mine.place.stands one (omega arith) ∙ in_door in let none_yet = h.free nobody in
-      (my_caller one).home (omega arith) (omega arith)
-
   -- out again, with the share back
-  pub left_holds : (b : BookValue) → 1 ≤ v.own.number → v.stage ≡ 2 → v.live ≡ true → b ≡ held_book v → length s.homes ≡ 8 * origin.callers + 8
+  pub left_holds : (b : BookValue) → 1 ≤ v.own.number → v.stage ≡ 1 → v.live ≡ true → b ≡ held_book v → length s.homes ≡ 8 * origin.callers + 8
       → Holds origin record { words = set s.words (16 * v.own.number) 0; homes = set s.homes (8 * v.own.number) (some (Some b)); views = set s.views id (giving v) }
   left_holds b one inside live is deep =
       let k = my_caller one in let m = mine in let here = given-at h.now.stage v.own.number 0 in let high = number_in one in let wide = h.wide in
+      let was : h.now.stage v.own.number ≡ 1 = m.place.stands one (omega arith) ∙ inside in
       let same : b ≡ shelved origin h.now.log h.now.shelf = is ∙ held_is live (m.place.shares inside) in
       moved_holds 0 (set s.words (16 * v.own.number) 0) (set s.homes (8 * v.own.number) (some (Some b))) (giving v) (λ x c. c) one (length-set s.words (16 * v.own.number) 0) (λ j ne. get_or-set_other s.words (16 * v.own.number) j 0 0 ne) (λ j ne. set_else s.homes (8 * v.own.number) j (some (Some b)) ne)
       (record {
-        outside = λ z. get_or-set_same s.words (16 * v.own.number) 0 0 (omega arith);
+        home = λ z late. (get_or-set_same s.words (16 * v.own.number) 0 0 (omega arith), set_here s.homes (8 * v.own.number) (some (Some b)) (omega arith) ∙ ap (λ (x : BookValue). some (some (Some x))) same);
         inside = λ z. absurd (omega arith);
-        home = λ low late. set_here s.homes (8 * v.own.number) (some (Some b)) (omega arith) ∙ ap (λ (x : BookValue). some (some (Some x))) same;
-        apart = λ e. absurd (omega arith);
+        taken = λ le. let late = (k.inside (omega arith)).1 in absurd (omega arith);
       })
       (record {
         same_origin = m.same_origin;
@@ -265,6 +218,7 @@ module _ (origin : Origin) (s : State (Option BookValue) View) (h : Holds origin
         latest = h.latest;
         named = h.named;
         free = h.free;
+        spare = h.spare;
         most = h.most;
         unnamed = h.unnamed;
         callers = h.callers;
@@ -287,12 +241,11 @@ module _ (origin : Origin) (s : State (Option BookValue) View) (h : Holds origin
   with_turn turn gathered = standing turn gathered h.now.stage
 
   -- who has the turn changes, or how many shares that one has
-  turned_holds : (turn gathered : ℕ) (words' : List ℕ) (homes' : Homes) (w : View) → ((x : ℕ × ℕ) → Contains v.marks x → Contains w.marks x) → ((by : ℕ) (u : View) → by ≢ id → Fits origin h.now by u → u.stage ≡ 3 → ⊥)
-      → length words' ≡ length s.words → ((j : ℕ) → 1 ≤ j → get_or words' j 0 ≡ get_or s.words j 0) → get_or words' 0 0 ≡ turn → (turn ≡ 0 → gathered ≡ 0) → gathered ≤ origin.callers
-      → ((c : ℕ) → 1 ≤ c → c ≤ origin.callers → CallerFits origin (with_turn turn gathered) s.words homes' c) → Fits origin (with_turn turn gathered) id w → Holds origin record { words = words'; homes = homes'; views = set s.views id w }
-  turned_holds turn gathered words' homes' w more nobody len word first free most each =
-      stood_holds turn gathered h.now.stage words' homes' w more len first (λ j some_j few. word j some_j) free most h.unnamed
-      (λ c low high. let b = each c low high in record { outside = λ z. word (16 * c) (omega arith) ∙ b.outside z; inside = λ z. word (16 * c) (omega arith) ∙ b.inside z; home = b.home; apart = b.apart })
+  turned_holds : (turn gathered : ℕ) (words' : List ℕ) (homes' : Homes) (w : View) → ((x : ℕ × ℕ) → Contains v.marks x → Contains w.marks x) → ((by : ℕ) (u : View) → by ≢ id → Fits origin h.now by u → u.stage ≡ 2 → ⊥)
+      → length words' ≡ length s.words → get_or words' 0 0 ≡ turn → ((j : ℕ) → 1 ≤ j → j < 4 → get_or words' j 0 ≡ get_or s.words j 0) → (turn ≡ 0 → gathered ≡ 0) → (turn ≡ 0 → get_elem? homes' 0 ≡ some (a_share origin h.now)) → gathered ≤ origin.callers
+      → ((c : ℕ) → 1 ≤ c → c ≤ origin.callers → CallerFits origin (with_turn turn gathered) words' homes' c) → Fits origin (with_turn turn gathered) id w → Holds origin record { words = words'; homes = homes'; views = set s.views id w }
+  turned_holds turn gathered words' homes' w more nobody len first word free spare most each =
+      stood_holds turn gathered h.now.stage words' homes' w more len first word free spare most h.unnamed each
       (λ by u other f. record {
         idle = f.place.idle;
         stands = f.place.stands;
@@ -302,12 +255,20 @@ module _ (origin : Origin) (s : State (Option BookValue) View) (h : Holds origin
         knows = λ e. absurd (nobody by u other f (f.place.knows e).0);
       })
 
-  pub taken_holds : 1 ≤ v.own.number → v.stage ≡ 0 → h.now.turn ≡ 0 → Holds origin record { words = set s.words 0 v.own.number; homes = s.homes; views = set s.views id (turning v) }
+  -- the word of the turn changes, and its slot
+  passed_holds : (turn : ℕ) (home : maybe.Option (Option BookValue)) (w : View) → ((x : ℕ × ℕ) → Contains v.marks x → Contains w.marks x) → ((by : ℕ) (u : View) → by ≢ id → Fits origin h.now by u → u.stage ≡ 2 → ⊥)
+      → h.now.gathered ≡ 0 → (turn ≡ 0 → get_elem? (set s.homes 0 home) 0 ≡ some (a_share origin h.now)) → Fits origin (with_turn turn h.now.gathered) id w → Holds origin record { words = set s.words 0 turn; homes = set s.homes 0 home; views = set s.views id w }
+  passed_holds turn home w more nobody none_yet spare fit =
+      let wide = h.wide in
+      turned_holds turn h.now.gathered (set s.words 0 turn) (set s.homes 0 home) w more nobody (length-set s.words 0 turn) (get_or-set_same s.words 0 turn 0 (omega arith)) (λ j some_j few. get_or-set_other s.words 0 j turn 0 (λ e. omega arith)) (λ z. none_yet) spare h.most
+      (λ c low high. same_caller origin h.now (with_turn turn h.now.gathered) s.words (set s.words 0 turn) s.homes (set s.homes 0 home) c refl refl refl refl (get_or-set_other s.words 0 (16 * c) turn 0 (λ e. omega arith)) (set_else s.homes 0 (8 * c) home (λ e. omega arith)) (h.callers c low high))
+      fit
+
+  pub taken_holds : 1 ≤ v.own.number → v.stage ≡ 0 → h.now.turn ≡ 0
+      → Holds origin record { words = set s.words 0 v.own.number; homes = set s.homes 0 none; views = set s.views id (turning (shelved origin h.now.log h.now.shelf) v) }
   taken_holds one out nobody =
-      let m = mine in let wide = h.wide in let none_yet = h.free nobody in
-      turned_holds v.own.number 0 (set s.words 0 v.own.number) s.homes (turning v) (λ x c. c) (none_else nobody) (length-set s.words 0 v.own.number) (λ j some_j. get_or-set_other s.words 0 j v.own.number 0 (λ e. omega arith)) (get_or-set_same s.words 0 v.own.number 0 (omega arith))
-      (λ z. refl) (omega arith)
-      (λ c low high. same_caller origin h.now (with_turn v.own.number 0) s.words s.words s.homes s.homes c refl refl refl (sym none_yet) refl refl (h.callers c low high))
+      let m = mine in let none_yet = h.free nobody in
+      passed_holds v.own.number none (turning (shelved origin h.now.log h.now.shelf) v) (λ x c. c) (none_else nobody) none_yet (λ z. absurd (omega arith))
       (record {
         same_origin = m.same_origin;
         parts = m.parts;
@@ -317,17 +278,17 @@ module _ (origin : Origin) (s : State (Option BookValue) View) (h : Holds origin
           stands = λ z low. absurd (omega arith);
           stays_out = λ z e. m.place.stands one (omega arith) ∙ out;
           shares = λ e. absurd (omega arith);
-          turns = λ e. (refl, refl, λ z. absurd (omega arith));
+          turns = λ e. (refl, none_yet, (refl, refl));
           knows = λ e. absurd (true≢false (sym e));
         };
       })
 
-  pub given_holds : 1 ≤ v.own.number → v.stage ≡ 3 → v.gathered ≡ 0 → Holds origin record { words = set s.words 0 0; homes = s.homes; views = set s.views id (giving v) }
-  given_holds one has back =
-      let m = mine in let wide = h.wide in let t = m.place.turns has in
-      turned_holds 0 0 (set s.words 0 0) s.homes (giving v) (λ x c. c) (alone one has) (length-set s.words 0 0) (λ j some_j. get_or-set_other s.words 0 j 0 0 (λ e. omega arith)) (get_or-set_same s.words 0 0 0 (omega arith))
-      (λ z. refl) (omega arith)
-      (λ c low high. same_caller origin h.now (with_turn 0 0) s.words s.words s.homes s.homes c refl refl refl (sym (t.1 ∙ back)) refl refl (h.callers c low high))
+  pub given_holds : (b : BookValue) → 1 ≤ v.own.number → v.stage ≡ 2 → v.gathered ≡ 0 → v.live ≡ true → b ≡ held_book v → length s.homes ≡ 8 * origin.callers + 8
+      → Holds origin record { words = set s.words 0 0; homes = set s.homes 0 (some (Some b)); views = set s.views id (giving v) }
+  given_holds b one has back live is deep =
+      let m = mine in let t = m.place.turns has in
+      let full : b ≡ shelved origin h.now.log h.now.shelf = is ∙ held_is live t.2 in
+      passed_holds 0 (some (Some b)) (giving v) (λ x c. c) (alone one has) (t.1 ∙ back) (λ z. set_here s.homes 0 (some (Some b)) (omega arith) ∙ ap (λ (x : BookValue). some (some (Some x))) full)
       (record {
         same_origin = m.same_origin;
         parts = m.parts;
@@ -342,18 +303,28 @@ module _ (origin : Origin) (s : State (Option BookValue) View) (h : Holds origin
         };
       })
 
+  -- another caller stands as before, when the one with the turn takes the share of the caller c, or gives it back
+  other_caller : (gathered c word : ℕ) (home : maybe.Option (Option BookValue)) (o : ℕ) → o ≢ c → 1 ≤ o → o ≤ origin.callers → (gathered < o → h.now.gathered < o) → (h.now.gathered < o → gathered < o)
+      → CallerFits origin (with_turn h.now.turn gathered) (set s.words (16 * c) word) (set s.homes (8 * c) home) o
+  other_caller gathered c word home o ne low high more less =
+      let k = h.callers o low high in
+      let same_word : get_or (set s.words (16 * c) word) (16 * o) 0 ≡ get_or s.words (16 * o) 0 = get_or-set_other s.words (16 * c) (16 * o) word 0 (λ e. ne (omega arith)) in record {
+        home = λ out late. let old = k.home out (more late) in (same_word ∙ old.0, set_else s.homes (8 * c) (8 * o) home (λ e. ne (omega arith)) ∙ old.1);
+        inside = λ some_stage. let old = k.inside some_stage in (same_word ∙ old.0, less old.1);
+        taken = λ le. same_word ∙ k.taken (dite (dec_le o h.now.gathered) (λ (a : o ≤ h.now.gathered). a) (λ no. let l = less (omega arith) in absurd (omega arith)));
+      }
+
   -- the share of the next caller is taken, who is outside
-  pub gathered_holds : 1 ≤ v.own.number → v.stage ≡ 3 → v.gathered < origin.callers → get_or s.words (16 * (v.gathered + 1)) 0 ≡ 0
-      → Holds origin record { words = s.words; homes = set s.homes (8 * (v.gathered + 1)) none; views = set s.views id (gathering (shelved origin h.now.log h.now.shelf) v) }
-  gathered_holds one has more outside =
-      let m = mine in let t = m.place.turns has in let k = h.callers (v.gathered + 1) (omega arith) (omega arith) in let same = t.1 in
-      turned_holds h.now.turn (v.gathered + 1) s.words (set s.homes (8 * (v.gathered + 1)) none) (gathering (shelved origin h.now.log h.now.shelf) v) (λ x c. c) (alone one has) refl (λ j some_j. refl) h.turn (λ z. let a = t.0 in absurd (omega arith)) (omega arith)
-      (λ c low high. let b = h.callers c low high in record {
-        outside = b.outside;
-        inside = b.inside;
-        home = λ calm late. set_else s.homes (8 * (v.gathered + 1)) (8 * c) none (λ e. omega arith) ∙ b.home calm (omega arith);
-        apart = λ e. dite (ℕ_discrete c (v.gathered + 1)) (λ (is : c ≡ v.gathered + 1). let i = k.inside (subst (λ j. 0 < h.now.stage j) is (omega arith)) in absurd (omega arith)) (λ (ne : c ≢ v.gathered + 1). let a = b.apart e in omega arith);
-      })
+  pub gathered_holds : 1 ≤ v.own.number → v.stage ≡ 2 → v.gathered < origin.callers → get_or s.words (16 * (v.gathered + 1)) 0 ≡ 0
+      → Holds origin record { words = set s.words (16 * (v.gathered + 1)) 2; homes = set s.homes (8 * (v.gathered + 1)) none; views = set s.views id (gathering v) }
+  gathered_holds one has more word =
+      let m = mine in let t = m.place.turns has in let turn = t.0 in let same = t.1 in let wide = h.wide in let next : ℕ = v.gathered + 1 in
+      let there = share_at_home next (omega arith) (omega arith) word in let out = there.0 in
+      turned_holds h.now.turn next (set s.words (16 * next) 2) (set s.homes (8 * next) none) (gathering v) (λ x c. c) (alone one has) (length-set s.words (16 * next) 2) (get_or-set_other s.words (16 * next) 0 2 0 (λ e. omega arith) ∙ h.turn) (λ j some_j few. get_or-set_other s.words (16 * next) j 2 0 (λ e. omega arith))
+      (λ z. absurd (omega arith)) (λ z. absurd (omega arith)) (omega arith)
+      (λ c low high. dite (ℕ_discrete c next)
+      (λ (e : c ≡ next). subst (CallerFits origin (with_turn h.now.turn next) (set s.words (16 * next) 2) (set s.homes (8 * next) none)) (sym e) (record { home = λ z late. absurd (omega arith); inside = λ some_stage. absurd (omega arith); taken = λ le. get_or-set_same s.words (16 * next) 2 0 (omega arith) }))
+      (λ (ne : c ≢ next). other_caller next next 2 none c ne low high (λ late. omega arith) (λ late. omega arith)))
       (record {
         same_origin = m.same_origin;
         parts = m.parts;
@@ -363,31 +334,26 @@ module _ (origin : Origin) (s : State (Option BookValue) View) (h : Holds origin
           stands = λ z low. absurd (omega arith);
           stays_out = λ z e. m.place.stays_out one has;
           shares = λ e. absurd (omega arith);
-          turns = λ e. (t.0, refl, λ z. (refl, refl));
+          turns = λ e. (t.0, refl, t.2);
           knows = λ e. absurd (true≢false (sym e));
         };
       })
 
-  pub next_at_home : v.stage ≡ 3 → v.gathered < origin.callers → get_or s.words (16 * (v.gathered + 1)) 0 ≡ 0 → get_elem? s.homes (8 * (v.gathered + 1)) ≡ some (some (Some (shelved origin h.now.log h.now.shelf)))
-  next_at_home has more outside =
-      let t = mine.place.turns has in let k = h.callers (v.gathered + 1) (omega arith) (omega arith) in let same = t.1 in
-      k.home (dite (ℕ_discrete (h.now.stage (v.gathered + 1)) 0) (λ (z : h.now.stage (v.gathered + 1) ≡ 0). omega arith) (λ (nz : h.now.stage (v.gathered + 1) ≢ 0). let i = k.inside (omega arith) in absurd (omega arith))) (omega arith)
-
   -- a share goes back
-  pub filled_holds : (b : BookValue) → 1 ≤ v.own.number → v.stage ≡ 3 → 0 < v.gathered → v.live ≡ true → b ≡ held_book v → length s.homes ≡ 8 * origin.callers + 8
-      → Holds origin record { words = s.words; homes = set s.homes (8 * v.gathered) (some (Some b)); views = set s.views id (filling v) }
+  pub filled_holds : (b : BookValue) → 1 ≤ v.own.number → v.stage ≡ 2 → 0 < v.gathered → v.live ≡ true → b ≡ held_book v → length s.homes ≡ 8 * origin.callers + 8
+      → Holds origin record { words = set s.words (16 * v.gathered) 0; homes = set s.homes (8 * v.gathered) (some (Some b)); views = set s.views id (filling v) }
   filled_holds b one has some_share live is deep =
-      let m = mine in let t = m.place.turns has in let same = t.1 in let most = h.most in
-      let full : b ≡ shelved origin h.now.log h.now.shelf = is ∙ held_is live (t.2 some_share) in
-      turned_holds h.now.turn (v.gathered - 1) s.words (set s.homes (8 * v.gathered) (some (Some b))) (filling v) (λ x c. c) (alone one has) refl (λ j some_j. refl) h.turn (λ z. let a = t.0 in absurd (omega arith)) (omega arith)
-      (λ c low high. let k = h.callers c low high in record {
-        outside = k.outside;
-        inside = k.inside;
-        home = λ calm late. dite (ℕ_discrete c v.gathered)
-            (λ (e : c ≡ v.gathered). subst (λ j. get_elem? (set s.homes (8 * v.gathered) (some (Some b))) (8 * j) ≡ some (some (Some (shelved origin h.now.log h.now.shelf)))) (sym e) (set_here s.homes (8 * v.gathered) (some (Some b)) (omega arith) ∙ ap (λ (x : BookValue). some (some (Some x))) full))
-            (λ (ne : c ≢ v.gathered). set_else s.homes (8 * v.gathered) (8 * c) (some (Some b)) (λ e. ne (omega arith)) ∙ k.home calm (omega arith));
-        apart = λ e. let a = k.apart e in omega arith;
-      })
+      let m = mine in let t = m.place.turns has in let turn = t.0 in let same = t.1 in let most = h.most in let wide = h.wide in let last : ℕ = v.gathered in
+      let full : b ≡ shelved origin h.now.log h.now.shelf = is ∙ held_is live t.2 in
+      turned_holds h.now.turn (last - 1) (set s.words (16 * last) 0) (set s.homes (8 * last) (some (Some b))) (filling v) (λ x c. c) (alone one has) (length-set s.words (16 * last) 0) (get_or-set_other s.words (16 * last) 0 0 0 (λ e. omega arith) ∙ h.turn) (λ j some_j few. get_or-set_other s.words (16 * last) j 0 0 (λ e. omega arith))
+      (λ z. absurd (omega arith)) (λ z. absurd (omega arith)) (omega arith)
+      (λ c low high. dite (ℕ_discrete c last)
+      (λ (e : c ≡ last). subst (CallerFits origin (with_turn h.now.turn (last - 1)) (set s.words (16 * last) 0) (set s.homes (8 * last) (some (Some b)))) (sym e) (record {
+        home = λ z late. (get_or-set_same s.words (16 * last) 0 0 (omega arith), set_here s.homes (8 * last) (some (Some b)) (omega arith) ∙ ap (λ (x : BookValue). some (some (Some x))) full);
+        inside = λ some_stage. let late = ((h.callers last (omega arith) (omega arith)).inside some_stage).1 in absurd (omega arith);
+        taken = λ le. absurd (omega arith);
+      }))
+      (λ (ne : c ≢ last). other_caller (last - 1) last 0 (some (Some b)) c ne low high (λ late. omega arith) (λ late. omega arith)))
       (record {
         same_origin = m.same_origin;
         parts = m.parts;
@@ -397,7 +363,7 @@ module _ (origin : Origin) (s : State (Option BookValue) View) (h : Holds origin
           stands = λ z low. absurd (omega arith);
           stays_out = λ z e. m.place.stays_out one has;
           shares = λ e. absurd (omega arith);
-          turns = λ e. (t.0, refl, λ z. t.2 some_share);
+          turns = λ e. (t.0, refl, t.2);
           knows = λ e. absurd (true≢false (sym e));
         };
       })
@@ -419,6 +385,7 @@ module _ (origin : Origin) (s : State (Option BookValue) View) (h : Holds origin
         latest = get_or-set_other s.words 3 2 new 0 (λ e. omega arith) ∙ h.latest;
         named = get_or-set_same s.words 3 new 0 (omega arith);
         free = h.free;
+        spare = h.spare;
         most = h.most;
         unnamed = λ c late. h.unnamed c (omega arith);
         callers = λ c low high. same_caller origin h.now now s.words (set s.words 3 new) s.homes s.homes c refl refl refl refl (get_or-set_other s.words 3 (16 * c) new 0 (λ e. omega arith)) refl (h.callers c low high);
@@ -451,7 +418,7 @@ module _ (origin : Origin) (s : State (Option BookValue) View) (h : Holds origin
       }
 
   -- another seat stands as before, where this one has every share
-  none_other : (now' : Now) → 1 ≤ v.own.number → v.stage ≡ 3 → origin.callers ≤ h.now.gathered → ((c : ℕ) → now'.stage c ≡ h.now.stage c) → (by : ℕ) (u : View) → by ≢ id → Fits origin h.now by u → Stands origin now' u
+  none_other : (now' : Now) → 1 ≤ v.own.number → v.stage ≡ 2 → origin.callers ≤ h.now.gathered → ((c : ℕ) → now'.stage c ≡ h.now.stage c) → (by : ℕ) (u : View) → by ≢ id → Fits origin h.now by u → Stands origin now' u
   none_other now' one has every same by u other f = record {
     idle = f.place.idle;
     stands = λ some_number low. same u.own.number ∙ f.place.stands some_number low;
@@ -462,7 +429,7 @@ module _ (origin : Origin) (s : State (Option BookValue) View) (h : Holds origin
   }
 
   -- the latest stamp is known, with every share
-  pub measured_holds : 1 ≤ v.own.number → v.stage ≡ 3 → v.gathered ≡ origin.callers → Holds origin record { words = s.words; homes = s.homes; views = set s.views id (knowing h.now.latest v) }
+  pub measured_holds : 1 ≤ v.own.number → v.stage ≡ 2 → v.gathered ≡ origin.callers → Holds origin record { words = s.words; homes = s.homes; views = set s.views id (knowing h.now.latest v) }
   measured_holds one has all =
       let m = mine in let t = m.place.turns has in let same = t.1 in let every : origin.callers ≤ h.now.gathered = omega arith in
       let now : Now = record h.now { shelf = h.now.latest } in let w = knowing h.now.latest v in
@@ -474,9 +441,10 @@ module _ (origin : Origin) (s : State (Option BookValue) View) (h : Holds origin
         latest = h.latest;
         named = h.named;
         free = h.free;
+        spare = λ z. let turn = t.0 in absurd (omega arith);
         most = h.most;
         unnamed = h.unnamed;
-        callers = λ c low high. let k = h.callers c low high in record { outside = k.outside; inside = k.inside; home = λ calm late. absurd (omega arith); apart = k.apart };
+        callers = λ c low high. let k = h.callers c low high in record { home = λ out late. absurd (omega arith); inside = k.inside; taken = k.taken };
         shelf = omega arith;
         bound = h.bound;
         fits = each_set (Fits origin h.now) (Fits origin now) s.views id w h.fits
@@ -485,7 +453,7 @@ module _ (origin : Origin) (s : State (Option BookValue) View) (h : Holds origin
               same_origin = m.same_origin;
               parts = m.parts;
               marks = m.marks;
-              place = record { idle = m.place.idle; stands = m.place.stands; stays_out = m.place.stays_out; shares = λ e. absurd (omega arith); turns = λ e. (t.0, t.1, λ z. ((t.2 z).0, refl)); knows = λ e. (has, every, refl) };
+              place = record { idle = m.place.idle; stands = m.place.stands; stays_out = m.place.stays_out; shares = λ e. absurd (omega arith); turns = λ e. (t.0, t.1, (t.2.0, refl)); knows = λ e. (has, every, refl) };
             });
         few = h.few;
         long = h.long;
@@ -493,12 +461,12 @@ module _ (origin : Origin) (s : State (Option BookValue) View) (h : Holds origin
         source = source_as w (λ x c. c) h.now.owner h.now.named level same_owner h.now.latest h.source;
       }
 
-  pub appended_holds : (e : Entry) (log : List Entry) (next : ℕ) → 1 ≤ v.own.number → v.knows ≡ true → 0 < v.gathered → v.others ≡ [] → log ≡ v.log ++ e ∷ [] → e.caller ≡ v.own.number → e.stamp ≡ v.latest → next ≡ length h.now.log + 1
+  pub appended_holds : (e : Entry) (log : List Entry) (next : ℕ) → 1 ≤ v.own.number → v.knows ≡ true → v.others ≡ [] → log ≡ v.log ++ e ∷ [] → e.caller ≡ v.own.number → e.stamp ≡ v.latest → next ≡ length h.now.log + 1
       → Holds origin record { words = set s.words 1 next; homes = s.homes; views = set s.views id (appending log v) }
-  appended_holds e log next one whole some_share single is caller stamp count =
+  appended_holds e log next one whole single is caller stamp count =
       let m = mine in let w = appending log v in let wide = h.wide in
       let k = m.place.knows whole in let has = k.0 in let every = k.1 in let t = m.place.turns has in
-      let full : log ≡ h.now.log ++ e ∷ [] = is ∙ ap (λ l. l ++ e ∷ []) (t.2 some_share).0 in
+      let full : log ≡ h.now.log ++ e ∷ [] = is ∙ ap (λ l. l ++ e ∷ []) t.2.0 in
       let owned : (v.own.number ≤ h.now.named) × (h.now.owner v.own.number ≡ id) = own_part.owned one in
       let owner_is : h.now.owner e.caller ≡ id = ap h.now.owner caller ∙ owned.1 in
       let stamp_is : e.stamp ≡ h.now.latest = stamp ∙ k.2 in
@@ -512,13 +480,13 @@ module _ (origin : Origin) (s : State (Option BookValue) View) (h : Holds origin
         latest = get_or-set_other s.words 1 2 next 0 (λ z. omega arith) ∙ h.latest;
         named = get_or-set_other s.words 1 3 next 0 (λ z. omega arith) ∙ h.named;
         free = h.free;
+        spare = λ z. let turn = t.0 in absurd (omega arith);
         most = h.most;
         unnamed = h.unnamed;
-        callers = λ c low high. let b = h.callers c low high in record {
-          outside = λ z. get_or-set_other s.words 1 (16 * c) next 0 (λ z. omega arith) ∙ b.outside z;
-          inside = λ z. get_or-set_other s.words 1 (16 * c) next 0 (λ z. omega arith) ∙ b.inside z;
-          home = λ calm late. absurd (omega arith);
-          apart = b.apart;
+        callers = λ c low high. let b = h.callers c low high in let word = get_or-set_other s.words 1 (16 * c) next 0 (λ z. omega arith) in record {
+          home = λ out late. absurd (omega arith);
+          inside = λ some_stage. let old = b.inside some_stage in (word ∙ old.0, old.1);
+          taken = λ le. word ∙ b.taken le;
         };
         shelf = h.shelf;
         bound = h.bound;
@@ -538,7 +506,7 @@ module _ (origin : Origin) (s : State (Option BookValue) View) (h : Holds origin
                 stands = m.place.stands;
                 stays_out = m.place.stays_out;
                 shares = λ z. absurd (omega arith);
-                turns = λ z. (t.0, t.1, λ z. (full, (t.2 some_share).1));
+                turns = λ z. (t.0, t.1, (full, t.2.1));
                 knows = m.place.knows;
               };
             });
@@ -551,10 +519,10 @@ module _ (origin : Origin) (s : State (Option BookValue) View) (h : Holds origin
 
   -- the latest stamp is raised to a moment, of which this seat keeps a mark
   higher_holds : (t shelf : ℕ) (w : View) → t ≤ stamp_limit → 1 ≤ v.own.number → v.log ≡ h.now.log → shelf ≤ max h.now.latest t → w.marks ≡ v.marks ++ (length v.log, t) ∷ [] → (w.live ≡ true → w.origin ≡ origin) → All (PartFits h.now.log h.now.owner h.now.named id) (w.own ∷ w.others)
-      → ((c : ℕ) → 1 ≤ c → c ≤ origin.callers → h.now.stage c < 2 → h.now.gathered < c → shelf ≡ h.now.shelf)
+      → ((c : ℕ) → 1 ≤ c → c ≤ origin.callers → h.now.gathered < c → shelf ≡ h.now.shelf) → (h.now.turn ≡ 0 → shelf ≡ h.now.shelf)
       → ((by : ℕ) (u : View) → by ≢ id → Fits origin h.now by u → Stands origin (record h.now { latest = max h.now.latest t; shelf = shelf }) u) → Stands origin (record h.now { latest = max h.now.latest t; shelf = shelf }) w
       → Holds origin record { words = set s.words 2 (max (get_or s.words 2 0) t); homes = s.homes; views = set s.views id w }
-  higher_holds t shelf w low_enough one log shelf_low marks same_origin parts kept others place =
+  higher_holds t shelf w low_enough one log shelf_low marks same_origin parts kept free_kept others place =
       let m = mine in let wide = h.wide in
       let next : ℕ = max (get_or s.words 2 0) t in
       let latest : ℕ = max h.now.latest t in
@@ -569,13 +537,13 @@ module _ (origin : Origin) (s : State (Option BookValue) View) (h : Holds origin
         latest = get_or-set_same s.words 2 next 0 (omega arith) ∙ ap (λ (k : ℕ). max k t) h.latest;
         named = get_or-set_other s.words 2 3 next 0 (λ z. omega arith) ∙ h.named;
         free = h.free;
+        spare = λ z. h.spare z ∙ ap (λ (k : ℕ). some (some (Some (shelved origin h.now.log k)))) (sym (free_kept z));
         most = h.most;
         unnamed = h.unnamed;
-        callers = λ c low high. let b = h.callers c low high in record {
-          outside = λ z. get_or-set_other s.words 2 (16 * c) next 0 (λ z. omega arith) ∙ b.outside z;
-          inside = λ z. get_or-set_other s.words 2 (16 * c) next 0 (λ z. omega arith) ∙ b.inside z;
-          home = λ calm late. b.home calm late ∙ ap (λ (k : ℕ). some (some (Some (shelved origin h.now.log k)))) (sym (kept c low high calm late));
-          apart = b.apart;
+        callers = λ c low high. let b = h.callers c low high in let word = get_or-set_other s.words 2 (16 * c) next 0 (λ z. omega arith) in record {
+          home = λ out late. let old = b.home out late in (word ∙ old.0, old.1 ∙ ap (λ (k : ℕ). some (some (Some (shelved origin h.now.log k)))) (sym (kept c low high late)));
+          inside = λ some_stage. let old = b.inside some_stage in (word ∙ old.0, old.1);
+          taken = λ le. word ∙ b.taken le;
         };
         shelf = shelf_low;
         bound = let a = h.bound in omega arith;
@@ -595,21 +563,21 @@ module _ (origin : Origin) (s : State (Option BookValue) View) (h : Holds origin
             (inr (record { caller = v.own.number; one = one; most = (own_part.owned one).0; view = w; there = subst (λ j. get_elem? (set s.views id w) j ≡ some w) (sym (own_part.owned one).1) (at_here s.views id v w at); front = length v.log; mark = subst (λ ms. Contains ms (length v.log, t)) (sym marks) (Contains-push v.marks (length v.log, t)) }));
       }
 
-  pub raised_holds : (t : ℕ) → t ≤ stamp_limit → 1 ≤ v.own.number → v.stage ≡ 2 → Holds origin record { words = set s.words 2 (max (get_or s.words 2 0) t); homes = s.homes; views = set s.views id (raising t v) }
+  pub raised_holds : (t : ℕ) → t ≤ stamp_limit → 1 ≤ v.own.number → v.stage ≡ 1 → Holds origin record { words = set s.words 2 (max (get_or s.words 2 0) t); homes = s.homes; views = set s.views id (raising t v) }
   raised_holds t low_enough one inside =
       let m = mine in
-      let none_knows : (by : ℕ) (u : View) → Fits origin h.now by u → u.knows ≡ true → ⊥ = λ by u f e. let a = (f.place.knows e).1 in let c = number_in one in let k = (my_caller one).apart (m.place.stands one (omega arith) ∙ inside) in omega arith in
-      higher_holds t h.now.shelf (raising t v) low_enough one (m.place.shares inside).0 (let a = h.shelf in omega arith) refl m.same_origin m.parts (λ c low high calm late. refl)
+      let none_knows : (by : ℕ) (u : View) → Fits origin h.now by u → u.knows ≡ true → ⊥ = λ by u f e. let a = (f.place.knows e).1 in let c = number_in one in let b = m.place.stands one (omega arith) in let k = ((my_caller one).inside (omega arith)).1 in omega arith in
+      higher_holds t h.now.shelf (raising t v) low_enough one (m.place.shares inside).0 (let a = h.shelf in omega arith) refl m.same_origin m.parts (λ c low high late. refl) (λ z. refl)
       (λ by u other f. record { idle = f.place.idle; stands = f.place.stands; stays_out = f.place.stays_out; shares = f.place.shares; turns = f.place.turns; knows = λ e. absurd (none_knows by u f e) })
       (record { idle = m.place.idle; stands = m.place.stands; stays_out = m.place.stays_out; shares = m.place.shares; turns = m.place.turns; knows = λ e. absurd (none_knows id v m e) })
 
   -- the same, with every share
-  pub lifted_holds : (t : ℕ) → t ≤ stamp_limit → 1 ≤ v.own.number → v.knows ≡ true → 0 < v.gathered
+  pub lifted_holds : (t : ℕ) → t ≤ stamp_limit → 1 ≤ v.own.number → v.knows ≡ true
       → Holds origin record { words = set s.words 2 (max (get_or s.words 2 0) t); homes = s.homes; views = set s.views id (knowing (max v.latest t) (raising t v)) }
-  lifted_holds t low_enough one whole some_share =
+  lifted_holds t low_enough one whole =
       let m = mine in let k = m.place.knows whole in let has = k.0 in let every = k.1 in let tu = m.place.turns has in
       let latest : ℕ = max h.now.latest t in
       let same : max v.latest t ≡ latest = ap (λ (j : ℕ). max j t) k.2 in
-      higher_holds t latest (knowing (max v.latest t) (raising t v)) low_enough one (tu.2 some_share).0 (omega arith) refl m.same_origin m.parts (λ c low high calm late. absurd (omega arith))
+      higher_holds t latest (knowing (max v.latest t) (raising t v)) low_enough one tu.2.0 (omega arith) refl m.same_origin m.parts (λ c low high late. absurd (omega arith)) (λ z. let turn = tu.0 in absurd (omega arith))
       (none_other (record h.now { latest = latest; shelf = latest }) one has every (λ c. refl))
-      (record { idle = m.place.idle; stands = m.place.stands; stays_out = m.place.stays_out; shares = λ e. absurd (omega arith); turns = λ e. (tu.0, tu.1, λ z. ((tu.2 some_share).0, same)); knows = λ e. (has, every, same) })
+      (record { idle = m.place.idle; stands = m.place.stands; stays_out = m.place.stays_out; shares = λ e. absurd (omega arith); turns = λ e. (tu.0, tu.1, (tu.2.0, same)); knows = λ e. (has, every, same) })

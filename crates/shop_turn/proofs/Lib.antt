@@ -2,6 +2,7 @@ pub mod cited
 pub mod Sources
 pub mod Fits
 pub mod Holds
+pub mod Together
 pub mod Plays
 pub mod SeatLemmas
 pub mod ShareLemmas

@@ -6,9 +6,7 @@ use Rattle.std.proofs.lemmas.List.{append-nil}
 use Rattle.std.proofs.lemmas.List.Elements.{All-head, All-weaker, All-nil, All-cons, All-contains, Contains-append_left, Contains-append_right, All-append}
 use Rattle.std.specs.List.{All, Contains}
 use Rattle.std.specs.Prelude.{slice_index}
-use mathlib.Core.Logic.{dite}
 use mathlib.Core.Option.{none, some, some-ne-none, some-injective}
-use native.Mathlib.Decide.{ℕ_discrete}
 use lib.ListN.{get_elem?}
 use prog.Atomic.{either}
 use Rattle.atomic_table.proofs.Lists.{at_set, at_snoc, at_map, set_again, exchanged}
@@ -19,14 +17,14 @@ use Rattle.shop_book.specs.Books.{BookValue}
 use Rattle.shop_turn.specs.declared.rule.Origin.{Origin}
 use Rattle.shop_turn.specs.declared.rule.Part.{Part}
 use Rattle.shop_turn.specs.declared.rule.View.{View}
-use Rattle.shop_turn.specs.Views.{opening_view, named_as, staged, sharing, turning, gathering, held_book, looking, knowing, raising, appending, filling, giving, taking, copy, together}
+use Rattle.shop_turn.specs.Views.{opening_view, named_as, sharing, turning, gathering, held_book, looking, knowing, raising, appending, filling, giving, taking, copy, together}
 use Rattle.shop_turn.specs.SpentViews.{spent_view}
 use Rattle.shop_turn.specs.Rule.{PartFits, Now, HasShare, Stands, Fits, IsMarked, IsSourced, EntryFits, shelved, Holds}
 use Rattle.shop_turn.specs.Laid.{AreWords, AreShares}
 use Rattle.shop_turn.specs.Marks.{MarkFits}
-use Rattle.shop_turn.specs.Plays.{PartTold, StampTold, IsWhole, Told, book_at, Names, Enters, Backs, Sees, Looks, Leaves, Takes, Gathers, Measures, Raises, Lifts, Appends, Fills, Gives}
+use Rattle.shop_turn.specs.Plays.{PartTold, StampTold, IsWhole, Told, book_at, Names, Enters, Looks, Leaves, Takes, Gathers, Measures, Raises, Lifts, Appends, Fills, Gives}
 use Rattle.shop_turn.proofs.Fits.{each_set, drop-all, parts_under}
-use Rattle.shop_turn.proofs.Holds.{mine, held_is, stays, read_word, entered_holds, backed_holds, seen_holds, share_at_home, left_holds, looked_holds, taken_holds, given_holds, gathered_holds, next_at_home, filled_holds, named_holds, measured_holds, appended_holds, raised_holds, lifted_holds}
+use Rattle.shop_turn.proofs.Holds.{mine, number_in, held_is, stays, read_word, entered_holds, share_at_home, left_holds, looked_holds, taken_holds, given_holds, gathered_holds, filled_holds, named_holds, measured_holds, appended_holds, raised_holds, lifted_holds}
 use Rattle.shop_turn.proofs.Sources.{moved, moved-from, moved-else, source_push, source_join, entries_weaker}
 
 -- what a look tells of a book, where the view has the origin of the rule
@@ -68,24 +66,17 @@ module _ (origin : Origin) (slots id : ℕ) (v : View) (more : List (ℕ × Opti
       (λ hit. (named_as new v, keeps, tt, named_holds origin s h id v at new out long (let a = h.named in omega arith) few, ((λ _. refl), (λ miss. absurd (miss hit)))))
       (λ miss. (v, keeps, tt, stays origin s h id v at 3, ((λ hit. absurd (miss hit)), (λ _. refl))))
 
-  pub enters : 1 ≤ v.own.number → v.stage ≡ 0 → Allows (Holds origin) slots id (v, more) (16 * v.own.number) (λ _. 1) (λ _. Enters (step slots (16 * v.own.number) 1 0 none) (v, more) 1)
-  enters one out s h deep at small = (staged 1 v, keeps, tt, entered_holds origin s h id v at one out, refl)
+  pub enters : 1 ≤ v.own.number → v.live ≡ true → v.stage ≡ 0 → Allows (Holds origin) slots id (v, more) (16 * v.own.number) (λ n. either (eqb n 0) 1 n) (Enters (step slots (16 * v.own.number) 0 1 none) (v, more))
+  enters one live out s h deep at small =
+      let word : ℕ = 16 * v.own.number in let b = shelved origin h.now.log h.now.shelf in
+      exchanged (slice_index s.words word) 0 1 (λ x. (w : View) × (a : Act (Option BookValue)) × Valid s.homes more a × Holds origin (stepped s word x id more w a) × Enters (step slots word 0 1 none) (v, more) (slice_index s.words word) (w, carried_after more a))
+      (λ hit. (sharing b v, takes (8 * v.own.number) (Some b), (share_at_home origin s h id v at v.own.number one (number_in origin s h id v at one) hit).2, entered_holds origin s h id v at one out hit, ((λ _. (b, opens_as s h at live, refl)), (λ miss. absurd (miss hit)))))
+      (λ miss. (v, keeps, tt, stays origin s h id v at word, ((λ hit. absurd (miss hit)), (λ _. refl))))
 
-  pub backs : 1 ≤ v.own.number → v.stage ≡ 1 → Allows (Holds origin) slots id (v, more) (16 * v.own.number) (λ _. 0) (λ _. Backs (step slots (16 * v.own.number) 0 0 none) (v, more) 0)
-  backs one in_door s h deep at small = (staged 0 v, keeps, tt, backed_holds origin s h id v at one in_door, refl)
-
-  pub sees : 1 ≤ v.own.number → v.live ≡ true → v.stage ≡ 1 → Allows (Holds origin) slots id (v, more) 0 (λ m. m) (Sees (step slots 0 0 0 none) (v, more))
-  sees one live in_door s h deep at small =
-      let b = shelved origin h.now.log h.now.shelf in
-      dite (ℕ_discrete (slice_index s.words 0) 0)
-      (λ (z : slice_index s.words 0 ≡ 0). let nobody : h.now.turn ≡ 0 = sym h.turn ∙ z in
-      (sharing b v, takes (8 * v.own.number) (Some b), share_at_home origin s h id v at one in_door nobody, read_word origin s h id v at 0 (set s.homes (8 * v.own.number) none) (sharing b v) (seen_holds origin s h id v at one in_door nobody), ((λ _. (b, opens_as s h at live, refl)), (λ nz. absurd (nz z)))))
-      (λ (nz : slice_index s.words 0 ≢ 0). (v, keeps, tt, stays origin s h id v at 0, ((λ z. absurd (nz z)), (λ _. refl))))
-
-  pub looks : (settles : ℕ) → 1 ≤ v.own.number → v.live ≡ true → (v.stage ≡ 2) ⊎ ((v.stage ≡ 3) × (0 < v.gathered)) → Allows (Holds origin) slots id (v, more) 1 (λ n. n) (Looks settles (step slots 1 0 0 none) (v, more))
+  pub looks : (settles : ℕ) → 1 ≤ v.own.number → v.live ≡ true → (v.stage ≡ 1) ⊎ (v.stage ≡ 2) → Allows (Holds origin) slots id (v, more) 1 (λ n. n) (Looks settles (step slots 1 0 0 none) (v, more))
   looks settles one live within s h deep at small =
       let m = mine origin s h id v at in
-      let share : HasShare h.now v = ⊎_elim (λ (e : v.stage ≡ 2). m.place.shares e) (λ (e : (v.stage ≡ 3) × (0 < v.gathered)). (m.place.turns e.0).2 e.1) within in (
+      let share : HasShare h.now v = ⊎_elim (λ (e : v.stage ≡ 1). m.place.shares e) (λ (e : v.stage ≡ 2). (m.place.turns e).2) within in (
         looking settles v,
         keeps,
         tt,
@@ -93,66 +84,67 @@ module _ (origin : Origin) (slots id : ℕ) (v : View) (more : List (ℕ × Opti
         (h.count ∙ ap length (sym share.0), (h.now.latest, record { after = let a = h.shelf in let b = share.1 in omega arith; bound = h.bound; known = λ e. sym (m.place.knows e).2 }, told_by origin s h id v at live share.0), refl),
       )
 
-  pub takes_turn : 1 ≤ v.own.number → v.stage ≡ 0 → Allows (Holds origin) slots id (v, more) 0 (λ n. either (eqb n 0) v.own.number n) (Takes (step slots 0 0 v.own.number none) (v, more))
-  takes_turn one out s h deep at small =
+  pub takes_turn : 1 ≤ v.own.number → v.live ≡ true → v.stage ≡ 0 → Allows (Holds origin) slots id (v, more) 0 (λ n. either (eqb n 0) v.own.number n) (Takes (step slots 0 0 v.own.number none) (v, more))
+  takes_turn one live out s h deep at small =
+      let b = shelved origin h.now.log h.now.shelf in
       exchanged (slice_index s.words 0) 0 v.own.number (λ x. (w : View) × (a : Act (Option BookValue)) × Valid s.homes more a × Holds origin (stepped s 0 x id more w a) × Takes (step slots 0 0 v.own.number none) (v, more) (slice_index s.words 0) (w, carried_after more a))
-      (λ hit. (turning v, keeps, tt, taken_holds origin s h id v at one out (sym h.turn ∙ hit), ((λ _. refl), (λ miss. absurd (miss hit)))))
+      (λ hit. let nobody : h.now.turn ≡ 0 = sym h.turn ∙ hit in (turning b v, takes 0 (Some b), h.spare nobody, taken_holds origin s h id v at one out nobody, ((λ _. (b, opens_as s h at live, refl)), (λ miss. absurd (miss hit)))))
       (λ miss. (v, keeps, tt, stays origin s h id v at 0, ((λ hit. absurd (miss hit)), (λ _. refl))))
 
-  pub gathers : 1 ≤ v.own.number → v.live ≡ true → v.stage ≡ 3 → v.gathered < origin.callers → Allows (Holds origin) slots id (v, more) (16 * (v.gathered + 1)) (λ m. m) (Gathers (step slots (16 * (v.gathered + 1)) 0 0 none) (v, more))
+  pub gathers : 1 ≤ v.own.number → v.live ≡ true → v.stage ≡ 2 → v.gathered < origin.callers → Allows (Holds origin) slots id (v, more) (16 * (v.gathered + 1)) (λ n. either (eqb n 0) 2 n) (Gathers (step slots (16 * (v.gathered + 1)) 0 2 none) (v, more))
   gathers one live has some_left s h deep at small =
-      let t = (mine origin s h id v at).place.turns has in
-      let b = shelved origin h.now.log h.now.shelf in
-      dite (ℕ_discrete (slice_index s.words (16 * (v.gathered + 1))) 0)
-      (λ (z : slice_index s.words (16 * (v.gathered + 1)) ≡ 0). (
-        gathering b v,
+      let word : ℕ = 16 * (v.gathered + 1) in let b = shelved origin h.now.log h.now.shelf in
+      exchanged (slice_index s.words word) 0 2 (λ x. (w : View) × (a : Act (Option BookValue)) × Valid s.homes more a × Holds origin (stepped s word x id more w a) × Gathers (step slots word 0 2 none) (v, more) (slice_index s.words word) (w, carried_after more a))
+      (λ hit. (
+        gathering v,
         takes (8 * (v.gathered + 1)) (Some b),
-        next_at_home origin s h id v at has some_left z,
-        read_word origin s h id v at (16 * (v.gathered + 1)) (set s.homes (8 * (v.gathered + 1)) none) (gathering b v) (gathered_holds origin s h id v at one has some_left z),
-        ((λ _. (b, opens_as s h at live, (λ k. sym (held_is origin s h id v at live (t.2 k))), refl)), (λ nz. absurd (nz z))),
+        (share_at_home origin s h id v at (v.gathered + 1) (omega arith) (omega arith) hit).2,
+        gathered_holds origin s h id v at one has some_left hit,
+        ((λ _. ap (λ (x : BookValue). (gathering v, (8 * (v.gathered + 1), Some x) ∷ more)) (sym (held_is origin s h id v at live ((mine origin s h id v at).place.turns has).2))), (λ miss. absurd (miss hit))),
       ))
-      (λ (nz : slice_index s.words (16 * (v.gathered + 1)) ≢ 0). (v, keeps, tt, stays origin s h id v at (16 * (v.gathered + 1)), ((λ z. absurd (nz z)), (λ _. refl))))
+      (λ miss. (v, keeps, tt, stays origin s h id v at word, ((λ hit. absurd (miss hit)), (λ _. refl))))
 
-  pub gives_up : 1 ≤ v.own.number → v.stage ≡ 3 → v.gathered ≡ 0 → Allows (Holds origin) slots id (v, more) 0 (λ _. 0) (λ _. Gives (step slots 0 0 0 none) (v, more) 0)
-  gives_up one has back s h deep at small = (giving v, keeps, tt, given_holds origin s h id v at one has back, refl)
+  pub gives_up : (b : BookValue) → slots ≡ 8 * origin.callers + 8 → 1 ≤ v.own.number → v.live ≡ true → v.stage ≡ 2 → v.gathered ≡ 0 → b ≡ held_book v → Allows (Holds origin) slots id (v, (0, Some b) ∷ more) 0 (λ _. 0) (λ _. Gives (step slots 0 0 0 none) (v, (0, Some b) ∷ more) 0)
+  gives_up b size one live has back is s h deep at small = (giving v, gives, tt, given_holds origin s h id v at b one has back live is (deep ∙ size), refl)
 
-  pub leaves : (b : BookValue) → slots ≡ 8 * origin.callers + 8 → 1 ≤ v.own.number → v.live ≡ true → v.stage ≡ 2 → b ≡ held_book v
+  pub leaves : (b : BookValue) → slots ≡ 8 * origin.callers + 8 → 1 ≤ v.own.number → v.live ≡ true → v.stage ≡ 1 → b ≡ held_book v
       → Allows (Holds origin) slots id (v, (8 * v.own.number, Some b) ∷ more) (16 * v.own.number) (λ _. 0) (λ _. Leaves (step slots (16 * v.own.number) 0 0 none) (v, (8 * v.own.number, Some b) ∷ more) 0)
   leaves b size one live inside is s h deep at small = (giving v, gives, tt, left_holds origin s h id v at b one inside live is (deep ∙ size), refl)
 
-  pub fills : (b : BookValue) → slots ≡ 8 * origin.callers + 8 → 1 ≤ v.own.number → v.live ≡ true → v.stage ≡ 3 → 0 < v.gathered → b ≡ held_book v
-      → Allows (Holds origin) slots id (v, (8 * v.gathered, Some b) ∷ more) 0 (λ m. m) (Fills (step slots 0 0 0 none) (v, (8 * v.gathered, Some b) ∷ more))
-  fills b size one live has some_share is s h deep at small = (filling v, gives, tt, read_word origin s h id v at 0 (set s.homes (8 * v.gathered) (some (Some b))) (filling v) (filled_holds origin s h id v at b one has some_share live is (deep ∙ size)), refl)
+  pub fills : (b : BookValue) → slots ≡ 8 * origin.callers + 8 → 1 ≤ v.own.number → v.live ≡ true → v.stage ≡ 2 → 0 < v.gathered → b ≡ held_book v
+      → Allows (Holds origin) slots id (v, (8 * v.gathered, Some b) ∷ more) (16 * v.gathered) (λ _. 0) (λ _. Fills (step slots (16 * v.gathered) 0 0 none) (v, (8 * v.gathered, Some b) ∷ more) 0)
+  fills b size one live has some_share is s h deep at small = (filling v, gives, tt, filled_holds origin s h id v at b one has some_share live is (deep ∙ size), refl)
 
-  pub appends : (b : BookValue) (e : Entry) (k : ℕ) → 1 ≤ v.own.number → v.knows ≡ true → 0 < v.gathered → v.others ≡ [] → b.log ≡ v.log ++ e ∷ [] → e.caller ≡ v.own.number → e.stamp ≡ v.latest → length v.log + 1 < 2 ^ 64
+  pub appends : (b : BookValue) (e : Entry) (k : ℕ) → 1 ≤ v.own.number → v.knows ≡ true → v.others ≡ [] → b.log ≡ v.log ++ e ∷ [] → e.caller ≡ v.own.number → e.stamp ≡ v.latest → length v.log + 1 < 2 ^ 64
       → Allows (Holds origin) slots id (v, (k, Some b) ∷ more) 1 (λ n. (n + 1) % 2 ^ 64) (Appends (step slots 1 1 0 none) (v, (k, Some b) ∷ more))
-  appends b e k one whole some_share single is caller stamp room s h deep at small =
+  appends b e k one whole single is caller stamp room s h deep at small =
       let m = mine origin s h id v at in
-      let log : v.log ≡ h.now.log = ((m.place.turns (m.place.knows whole).0).2 some_share).0 in
+      let log : v.log ≡ h.now.log = (m.place.turns (m.place.knows whole).0).2.0 in
       let count : slice_index s.words 1 ≡ length h.now.log = h.count in
       let less : slice_index s.words 1 + 1 < 2 ^ 64 = let a = ap length log in omega arith in
-      (appending b.log v, keeps, tt, appended_holds origin s h id v at e b.log ((slice_index s.words 1 + 1) % 2 ^ 64) one whole some_share single is caller stamp (mod-eq_of_lt less ∙ ap (λ n. n + 1) count), refl)
+      (appending b.log v, keeps, tt, appended_holds origin s h id v at e b.log ((slice_index s.words 1 + 1) % 2 ^ 64) one whole single is caller stamp (mod-eq_of_lt less ∙ ap (λ n. n + 1) count), refl)
 
-  pub measures : 1 ≤ v.own.number → v.stage ≡ 3 → v.gathered ≡ origin.callers → 0 < v.gathered → Allows (Holds origin) slots id (v, more) 2 (λ m. m) (Measures (step slots 2 0 0 none) (v, more))
-  measures one has all some_share s h deep at small =
+  pub measures : 1 ≤ v.own.number → v.stage ≡ 2 → v.gathered ≡ origin.callers → Allows (Holds origin) slots id (v, more) 2 (λ m. m) (Measures (step slots 2 0 0 none) (v, more))
+  measures one has all s h deep at small =
       let same : h.now.latest ≡ slice_index s.words 2 = sym h.latest in
-      let shelf = ((mine origin s h id v at).place.turns has).2 some_share in (
+      let m = mine origin s h id v at in let share = (m.place.turns has).2 in
+      let marks : All (MarkFits v.log (slice_index s.words 2)) v.marks = subst (λ (l : List Entry). All (MarkFits l (slice_index s.words 2)) v.marks) (sym share.0) (subst (λ (k : ℕ). All (MarkFits h.now.log k) v.marks) (sym h.latest) m.marks) in (
         knowing (slice_index s.words 2) v,
         keeps,
         tt,
         read_word origin s h id v at 2 s.homes (knowing (slice_index s.words 2) v) (subst (λ (k : ℕ). Holds origin record { words = s.words; homes = s.homes; views = set s.views id (knowing k v) }) same (measured_holds origin s h id v at one has all)),
-        (let a = h.shelf in let b = shelf.1 in omega arith, let a = h.bound in omega arith, refl),
+        (let a = h.shelf in let b = share.1 in omega arith, let a = h.bound in omega arith, refl, marks),
       )
 
-  pub raises : (t : ℕ) → t ≤ stamp_limit → 1 ≤ v.own.number → v.stage ≡ 2 → Allows (Holds origin) slots id (v, more) 2 (λ n. max n t) (Raises (step slots 2 t 0 none) (v, more))
+  pub raises : (t : ℕ) → t ≤ stamp_limit → 1 ≤ v.own.number → v.stage ≡ 1 → Allows (Holds origin) slots id (v, more) 2 (λ n. max n t) (Raises (step slots 2 t 0 none) (v, more))
   raises t low_enough one inside s h deep at small =
       let m = mine origin s h id v at in let share = m.place.shares inside in
       let marks : All (MarkFits v.log (slice_index s.words 2)) v.marks = subst (λ (l : List Entry). All (MarkFits l (slice_index s.words 2)) v.marks) (sym share.0) (subst (λ (k : ℕ). All (MarkFits h.now.log k) v.marks) (sym h.latest) m.marks) in
       (raising t v, keeps, tt, raised_holds origin s h id v at t low_enough one inside, (marks, let a = h.shelf in let b = share.1 in let c = h.latest in omega arith, let a = h.bound in let c = h.latest in omega arith, refl))
 
-  pub lifts : (t : ℕ) → t ≤ stamp_limit → 1 ≤ v.own.number → v.knows ≡ true → 0 < v.gathered → Allows (Holds origin) slots id (v, more) 2 (λ n. max n t) (Lifts (step slots 2 t 0 none) (v, more))
-  lifts t low_enough one whole some_share s h deep at small =
-      (knowing (max v.latest t) (raising t v), keeps, tt, lifted_holds origin s h id v at t low_enough one whole some_share, refl)
+  pub lifts : (t : ℕ) → t ≤ stamp_limit → 1 ≤ v.own.number → v.knows ≡ true → Allows (Holds origin) slots id (v, more) 2 (λ n. max n t) (Lifts (step slots 2 t 0 none) (v, more))
+  lifts t low_enough one whole s h deep at small =
+      (knowing (max v.latest t) (raising t v), keeps, tt, lifted_holds origin s h id v at t low_enough one whole, refl)
 
 -- a seat without a number is not in the shop
 out_of_shop : (origin : Origin) (now : Now) (v : View) → v.own.number ≡ 0 → v.stage ≡ 0 → v.knows ≡ false → Stands origin now v
@@ -184,6 +176,7 @@ module _ (origin : Origin) where
         latest = h.latest;
         named = h.named;
         free = h.free;
+        spare = h.spare;
         most = h.most;
         unnamed = h.unnamed;
         callers = h.callers;
@@ -227,9 +220,10 @@ module _ (origin : Origin) where
         latest = h.latest;
         named = h.named;
         free = h.free;
+        spare = h.spare;
         most = h.most;
         unnamed = h.unnamed;
-        callers = λ c low high. let k = h.callers c low high in record { outside = k.outside; inside = k.inside; home = k.home; apart = k.apart };
+        callers = λ c low high. let k = h.callers c low high in record { home = k.home; inside = k.inside; taken = k.taken };
         shelf = h.shelf;
         bound = h.bound;
         fits = each_set (λ by u. by ≢ other → Fits origin now by u) (Fits origin now) (set views id both) other spent_view
@@ -262,9 +256,10 @@ begins b callers words slots low_enough k shares =
       latest = k.latest;
       named = k.named;
       free = λ _. refl;
+      spare = λ _. at_map some slots 0 (Some b) (shares.share 0 (omega arith));
       most = omega arith;
       unnamed = λ c late. refl;
-      callers = λ c low high. record { outside = λ _. k.outside c low high; inside = λ z. absurd (omega arith); home = λ _ late. at_map some slots (8 * c) (Some b) (shares.share c low high); apart = λ e. absurd (omega arith) };
+      callers = λ c low high. record { home = λ _ late. (k.outside c low high, at_map some slots (8 * c) (Some b) (shares.share c high)); inside = λ z. absurd (omega arith); taken = λ le. absurd (omega arith) };
       shelf = omega arith;
       bound = low_enough;
       fits = λ by u e. ⊎_elim (λ (t : get_elem? [] by ≡ some u). absurd (some-ne-none u (sym (sym (nothing_at by u) ∙ t))))

@@ -3,7 +3,7 @@ use Rattle.std.proofs.Common.{◌≡◌, ℕ, ◌+◌, ◌-◌, ◌*◌, ◌≤�
 use Rattle.atomic_table.specs.Table.{rest}
 use Rattle.shop_book.specs.Books.{BookValue}
 use Rattle.shop_turn.specs.declared.rule.View.{View}
-use Rattle.shop_turn.specs.Views.{turning, gathering, held_book, knowing, raising, appending, filling, giving}
+use Rattle.shop_turn.specs.Views.{turning, gathering, knowing, raising, appending, filling, giving}
 use Rattle.shop_turn.specs.Plays.{AtTable, slot_log}
 use Rattle.shop_turn.specs.Seats.{IsReady, HasTurn, HasShares, IsCounted, empties}
 use Rattle.shop_turn.proofs.SeatLemmas.{top_slot}
@@ -12,35 +12,27 @@ use Rattle.shop_turn.proofs.SeatLemmas.{top_slot}
 own_book : (v : View) (b : BookValue) → b.opening ≡ v.origin.opening → b ≡ record { opening = v.origin.opening; log = b.log; latest = b.latest }
 own_book v b opening = λ i. record { opening = opening i; log = b.log; latest = b.latest }
 
-pub turn_first : (number callers : ℕ) (old m : AtTable) → IsReady number callers old → m ≡ (turning old.0, []) → HasTurn 1 callers m
-turn_first number callers old m r e = subst (HasTurn 1 callers) (sym e) (record { live = r.live; one = let a = r.one in let b = r.number_is in omega arith; has = refl; gathered = refl; most = let a = r.one in let b = r.most in omega arith })
-
-pub first_share : (number callers : ℕ) (share : BookValue) (old m now : AtTable) → IsReady number callers old → m ≡ (turning old.0, []) → share.opening ≡ m.0.origin.opening → now ≡ (gathering share m.0, (8 * 1, None) ∷ m.1) → HasShares 1 share now
-first_share number callers share old m now r e opening f =
-    let opens = opening ∙ ap (λ (x : AtTable). x.0.origin.opening) e in
-    subst (HasShares 1 share) (sym (f ∙ ap (λ (x : AtTable). (gathering share x.0, (8 * 1, None) ∷ x.1)) e)) (record { live = r.live; one = let a = r.one in let b = r.number_is in omega arith; has = refl; gathered = refl; book = own_book old.0 share opens; slots = refl })
-
-pub first_keeps : (share : BookValue) (old m now : AtTable) (more : List (ℕ × Option BookValue)) → m ≡ (turning old.0, []) → now ≡ (gathering share m.0, more) → giving now.0 ≡ giving old.0
-first_keeps share old m now more e f = ap (λ (x : AtTable). giving x.0) f ∙ ap (λ (x : AtTable). giving x.0) e
+pub turn_share : (number callers : ℕ) (share : BookValue) (old now : AtTable) → IsReady number callers old → share.opening ≡ old.0.origin.opening → now ≡ (turning share old.0, (0, None) ∷ []) → HasShares 0 share now
+turn_share number callers share old now r opening e =
+    subst (HasShares 0 share) (sym e) (record { live = r.live; one = let a = r.one in let b = r.number_is in omega arith; has = refl; gathered = refl; book = own_book old.0 share opening; slots = refl })
 
 pub turn_next : (i callers : ℕ) (share : BookValue) (m : AtTable) → HasShares i share m → i < callers → HasTurn (i + 1) callers m
 turn_next i callers share m k more = record { live = k.live; one = k.one; has = k.has; gathered = ap (λ j. j + 1) k.gathered; most = omega arith }
 
-pub more_shares : (i : ℕ) (share b : BookValue) (m now : AtTable) → HasShares i share m → 0 < i → (0 < m.0.gathered → b ≡ held_book m.0) → now ≡ (gathering b m.0, (8 * (i + 1), None) ∷ m.1) → HasShares (i + 1) share now
-more_shares i share b m now k some_share same e =
-    let is : b ≡ held_book m.0 = same (let a = k.gathered in omega arith) in
+pub more_shares : (i : ℕ) (share : BookValue) (m now : AtTable) → HasShares i share m → now ≡ (gathering m.0, (8 * (i + 1), None) ∷ m.1) → HasShares (i + 1) share now
+more_shares i share m now k e =
     let next : suc i ≡ i + 1 = omega arith in
     subst (HasShares (i + 1) share) (sym e) (record {
       live = k.live;
       one = k.one;
       has = k.has;
       gathered = ap (λ j. j + 1) k.gathered;
-      book = k.book ∙ ap (λ (x : BookValue). held_book (gathering x m.0)) (sym is);
+      book = k.book;
       slots = ap (λ l. (8 * (i + 1), None) ∷ l) k.slots ∙ subst (λ j. (8 * j, None) ∷ empties i ≡ empties j) next refl;
     })
 
-pub more_keeps : (b : BookValue) (v : View) (m now : AtTable) (more : List (ℕ × Option BookValue)) → now ≡ (gathering b m.0, more) → giving m.0 ≡ giving v → giving now.0 ≡ giving v
-more_keeps b v m now more e kept = ap (λ (x : AtTable). giving x.0) e ∙ kept
+pub more_keeps : (v : View) (m now : AtTable) (more : List (ℕ × Option BookValue)) → now ≡ (gathering m.0, more) → giving m.0 ≡ giving v → giving now.0 ≡ giving v
+more_keeps v m now more e kept = ap (λ (x : AtTable). giving x.0) e ∙ kept
 
 top_empty : (left : ℕ) (l : List (ℕ × Option BookValue)) → l ≡ empties left → 0 < left → l ≡ (8 * left, None) ∷ rest l
 top_empty zero l is some_left = absurd (omega arith)
@@ -62,8 +54,12 @@ filled_as left share m now new k e f some_left =
 pub filled_keeps : (v : View) (m now new : AtTable) (more less : List (ℕ × Option BookValue)) → now ≡ (m.0, more) → new ≡ (filling now.0, less) → giving m.0 ≡ giving v → giving new.0 ≡ giving v
 filled_keeps v m now new more less e f kept = ap (λ (x : AtTable). giving x.0) f ∙ ap (λ (x : AtTable). giving x.0) e ∙ kept
 
-pub given_as : (share : BookValue) (v : View) (m new : AtTable) → HasShares 0 share m → giving m.0 ≡ giving v → new ≡ (giving m.0, m.1) → new ≡ (giving v, [])
-given_as share v m new k kept e = e ∙ (λ i. (kept i, k.slots i))
+-- the share of the turn is in its slot again
+pub turn_top : (share : BookValue) (m : AtTable) → HasShares 0 share m → m.1 ≡ (0, None) ∷ rest m.1
+turn_top share m k = top_slot m.1 (0, None) [] k.slots
+
+pub given_as : (share : BookValue) (v : View) (m laid new : AtTable) → HasShares 0 share m → giving m.0 ≡ giving v → laid ≡ (m.0, (0, Some share) ∷ rest m.1) → new ≡ (giving laid.0, rest laid.1) → new ≡ (giving v, [])
+given_as share v m laid new k kept e f = f ∙ ap (λ (x : AtTable). (giving x.0, rest x.1)) e ∙ (λ i. (kept i, rest (k.slots i)))
 
 -- an entry more was counted
 module _ (callers t : ℕ) (share : BookValue) (old lifted laid counted : AtTable) (k : IsCounted callers t share old) (some_caller : 1 ≤ callers)

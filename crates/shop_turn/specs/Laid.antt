@@ -13,6 +13,6 @@ pub record AreWords (book : BookValue) (callers : ℕ) (words : List ℕ) : Type
   pub named : slice_index words 3 ≡ 0
   pub outside : (c : ℕ) → 1 ≤ c → c ≤ callers → slice_index words (16 * c) ≡ 0
 
--- so many callers have their shares in their slots
+-- so many callers have their shares in their slots, and the turn has its own in the first
 pub record AreShares (book : BookValue) (callers : ℕ) (slots : List (Option BookValue)) : Type 0 where
-  pub share : (c : ℕ) → 1 ≤ c → c ≤ callers → get_elem? slots (8 * c) ≡ some (Some book)
+  pub share : (c : ℕ) → c ≤ callers → get_elem? slots (8 * c) ≡ some (Some book)

@@ -5,6 +5,7 @@ pub mod Rule
 pub mod Laid
 pub mod Plays
 pub mod Shared
+pub mod Committed
 pub mod Seats
 pub mod Desks
 pub mod Shops

@@ -1,5 +1,5 @@
 -- What each kind of step tells the seat that makes it.
-use Rattle.std.specs.Prelude.{◌≡◌, ◌≢◌, ◌⊎◌, ℕ, ◌+◌, ◌*◌, ◌<◌, ◌≤◌, max, List, [], ◌∷◌, ◌++◌, length, drop, Option, Some, true, All, Contains}
+use Rattle.std.specs.Prelude.{◌≡◌, ◌≢◌, ◌⊎◌, ℕ, ◌+◌, ◌*◌, ◌≤◌, max, List, [], ◌∷◌, ◌++◌, length, drop, Option, Some, true, All, Contains}
 use Rattle.atomic_table.specs.Table.{Me, Step, rest}
 use Rattle.shop_model.specs.rows.Limits.{stamp_limit}
 use Rattle.shop_book.specs.Books.{BookValue}
@@ -7,7 +7,7 @@ use Rattle.shop_history.specs.declared.acts.Entry.{Entry}
 use Rattle.shop_turn.specs.declared.rule.Part.{Part}
 use Rattle.shop_turn.specs.declared.rule.View.{View}
 use Rattle.shop_turn.specs.Marks.{MarkFits}
-use Rattle.shop_turn.specs.Views.{named_as, staged, sharing, turning, gathering, held_book, looking, knowing, raising, appending, filling, giving, taking}
+use Rattle.shop_turn.specs.Views.{named_as, sharing, turning, gathering, held_book, looking, knowing, raising, appending, filling, giving, taking}
 
 -- what a seat knows, and the slots that it has taken, with what is in them, the last one first
 abbrev pub AtTable : Type 0
@@ -59,15 +59,9 @@ abbrev pub Names : BookStep → AtTable → ℕ → AtTable → Type 0
 Names step old found new =
     (found ≡ step.first → new ≡ (named_as step.second old.0, old.1)) × (found ≢ step.first → new ≡ old)
 
+-- nobody was found to have the share, or nothing is done
 abbrev pub Enters : BookStep → AtTable → ℕ → AtTable → Type 0
-Enters step old found new = new ≡ (staged 1 old.0, old.1)
-
-abbrev pub Backs : BookStep → AtTable → ℕ → AtTable → Type 0
-Backs step old found new = new ≡ (staged 0 old.0, old.1)
-
--- nobody was found to have the turn, or nothing is done
-abbrev pub Sees : BookStep → AtTable → ℕ → AtTable → Type 0
-Sees step old found new =
+Enters step old found new =
     (found ≡ 0 → (book : BookValue) × (book.opening ≡ old.0.origin.opening)
     × (new ≡ (sharing book old.0, (8 * old.0.own.number, Some book) ∷ old.1)))
     × (found ≢ 0 → new ≡ old)
@@ -80,18 +74,21 @@ Looks settles step old found new =
 abbrev pub Leaves : BookStep → AtTable → ℕ → AtTable → Type 0
 Leaves step old found new = new ≡ (giving old.0, rest old.1)
 
+-- nobody was found to have the turn, or nothing is done
 abbrev pub Takes : BookStep → AtTable → ℕ → AtTable → Type 0
-Takes step old found new = (found ≡ 0 → new ≡ (turning old.0, old.1)) × (found ≢ 0 → new ≡ old)
+Takes step old found new =
+    (found ≡ 0 → (book : BookValue) × (book.opening ≡ old.0.origin.opening)
+    × (new ≡ (turning book old.0, (0, Some book) ∷ old.1)))
+    × (found ≢ 0 → new ≡ old)
 
 -- the next caller was found outside, or nothing is done; all shares are of one book
 abbrev pub Gathers : BookStep → AtTable → ℕ → AtTable → Type 0
 Gathers step old found new =
-    (found ≡ 0 → (book : BookValue) × (book.opening ≡ old.0.origin.opening) × (0 < old.0.gathered → book ≡ held_book old.0)
-    × (new ≡ (gathering book old.0, (8 * (old.0.gathered + 1), Some book) ∷ old.1)))
+    (found ≡ 0 → new ≡ (gathering old.0, (8 * (old.0.gathered + 1), Some (held_book old.0)) ∷ old.1))
     × (found ≢ 0 → new ≡ old)
 
 abbrev pub Measures : BookStep → AtTable → ℕ → AtTable → Type 0
-Measures step old found new = (old.0.latest ≤ found) × (found ≤ stamp_limit) × (new ≡ (knowing found old.0, old.1))
+Measures step old found new = (old.0.latest ≤ found) × (found ≤ stamp_limit) × (new ≡ (knowing found old.0, old.1)) × All (MarkFits old.0.log found) old.0.marks
 
 -- a settle that changes nothing was accepted
 abbrev pub Raises : BookStep → AtTable → ℕ → AtTable → Type 0
@@ -110,4 +107,4 @@ abbrev pub Fills : BookStep → AtTable → ℕ → AtTable → Type 0
 Fills step old found new = new ≡ (filling old.0, rest old.1)
 
 abbrev pub Gives : BookStep → AtTable → ℕ → AtTable → Type 0
-Gives step old found new = new ≡ (giving old.0, old.1)
+Gives step old found new = new ≡ (giving old.0, rest old.1)

@@ -21,8 +21,8 @@ pub record PartFits (log : List Entry) (owner : ℕ → ℕ) (named index : ℕ)
   pub owned : 1 ≤ part.number → (part.number ≤ named) × (owner part.number ≡ index)
 
 -- how a shop stands: its log, which seat owns each number, who has the turn, the latest stamp, and the
--- largest number; how many shares the one with the turn has, how each caller stands, and the latest
--- stamp of the book that is shared
+-- largest number; how many callers' shares the one with the turn has, which callers are inside (1), and
+-- the latest stamp of the book that is shared
 pub record Now : Type 0 where
   pub log : List Entry
   pub owner : ℕ → ℕ
@@ -40,26 +40,29 @@ shelved origin log latest = record { opening = origin.opening; log = log; latest
 abbrev pub Homes : Type 0
 Homes = List (maybe.Option (Option BookValue))
 
--- The share of a caller who is not inside lies in its slot, till the one with the turn takes it, who
--- cannot while the caller is inside.
+-- a share of the book as it is
+abbrev pub a_share : Origin → Now → maybe.Option (Option BookValue)
+a_share origin now = some (Some (shelved origin now.log now.shelf))
+
+-- The share of a caller who is outside lies in its slot, till the one with the turn takes it. The caller's
+-- word tells which of the three has it.
 pub record CallerFits (origin : Origin) (now : Now) (words : List ℕ) (homes : Homes) (c : ℕ) : Type 0 where
-  pub outside : now.stage c ≡ 0 → slice_index words (16 * c) ≡ 0
-  pub inside : 0 < now.stage c → slice_index words (16 * c) ≡ 1
-  pub home : now.stage c < 2 → now.gathered < c → get_elem? homes (8 * c) ≡ some (some (Some (shelved origin now.log now.shelf)))
-  pub apart : now.stage c ≡ 2 → now.gathered < c
+  pub home : now.stage c ≡ 0 → now.gathered < c → (slice_index words (16 * c) ≡ 0) × (get_elem? homes (8 * c) ≡ some (a_share origin now))
+  pub inside : 0 < now.stage c → (slice_index words (16 * c) ≡ 1) × (now.gathered < c)
+  pub taken : c ≤ now.gathered → slice_index words (16 * c) ≡ 2
 
 -- a share is of the log as it is
 abbrev pub HasShare : Now → View → Type 0
 HasShare now view = (view.log ≡ now.log) × (view.latest ≡ now.shelf)
 
--- how a seat stands, whose number is named: outside, at the door, inside with its share, or with the turn
+-- how a seat stands, whose number is named: outside, inside with its share, or with the turn and its share
 pub record Stands (origin : Origin) (now : Now) (view : View) : Type 0 where
   pub idle : view.own.number ≡ 0 → view.stage ≡ 0
-  pub stands : 1 ≤ view.own.number → view.stage < 3 → now.stage view.own.number ≡ view.stage
-  pub stays_out : 1 ≤ view.own.number → view.stage ≡ 3 → now.stage view.own.number ≡ 0
-  pub shares : view.stage ≡ 2 → HasShare now view
-  pub turns : view.stage ≡ 3 → (now.turn ≡ view.own.number) × (now.gathered ≡ view.gathered) × (0 < view.gathered → HasShare now view)
-  pub knows : view.knows ≡ true → (view.stage ≡ 3) × (origin.callers ≤ now.gathered) × (view.latest ≡ now.latest)
+  pub stands : 1 ≤ view.own.number → view.stage < 2 → now.stage view.own.number ≡ view.stage
+  pub stays_out : 1 ≤ view.own.number → view.stage ≡ 2 → now.stage view.own.number ≡ 0
+  pub shares : view.stage ≡ 1 → HasShare now view
+  pub turns : view.stage ≡ 2 → (now.turn ≡ view.own.number) × (now.gathered ≡ view.gathered) × HasShare now view
+  pub knows : view.knows ≡ true → (view.stage ≡ 2) × (origin.callers ≤ now.gathered) × (view.latest ≡ now.latest)
 
 -- the seat by an index knows the shop so far
 pub record Fits (origin : Origin) (now : Now) (index : ℕ) (view : View) : Type 0 where
@@ -87,7 +90,7 @@ EntryFits origin owner named views e =
     (1 ≤ e.caller) × (e.caller ≤ named) × IsSourced origin owner named views e.stamp
 
 -- There is one log, which the words count; shares of its book are with the callers inside, with the one
--- who has the turn, and in the slots; all seats know it so far; and its entries beyond the opening ones
+-- who has the turn, and in the slots, the first of which has that of the turn; all seats know it so far; and its entries beyond the opening ones
 -- are those of callers with numbers.
 pub record Holds (origin : Origin) (s : State (Option BookValue) View) : Type 0 where
   pub now : Now
@@ -97,6 +100,7 @@ pub record Holds (origin : Origin) (s : State (Option BookValue) View) : Type 0 
   pub latest : slice_index s.words 2 ≡ now.latest
   pub named : slice_index s.words 3 ≡ now.named
   pub free : now.turn ≡ 0 → now.gathered ≡ 0
+  pub spare : now.turn ≡ 0 → get_elem? s.homes 0 ≡ some (a_share origin now)
   pub most : now.gathered ≤ origin.callers
   pub unnamed : (c : ℕ) → now.named < c → now.stage c ≡ 0
   pub callers : (c : ℕ) → 1 ≤ c → c ≤ origin.callers → CallerFits origin now s.words s.homes c

@@ -14,7 +14,7 @@ use Rattle.shop_book.specs.Books.{BookValue, IsBook}
 use Rattle.shop_book.specs.Settles.{SettledAs}
 use Rattle.shop_turn.specs.declared.rule.Start.{Start}
 use Rattle.shop_turn.specs.declared.rule.View.{View}
-use Rattle.shop_turn.specs.Views.{opening_view, sharing, gathering, held_book, taking, looking, raising, appending, giving, read_view}
+use Rattle.shop_turn.specs.Views.{opening_view, sharing, turning, gathering, held_book, taking, looking, raising, appending, giving, read_view}
 use Rattle.shop_turn.specs.Plays.{AtTable, Told}
 use Rattle.shop_turn.specs.Shared.{IsReadIn}
 
@@ -40,7 +40,7 @@ pub record IsReady (number callers : ℕ) (m : AtTable) : Type 0 where
 -- the seat has this number, and is inside with its share
 pub record IsInside (number callers : ℕ) (share : BookValue) (m : AtTable) : Type 0 where
   pub live : m.0.live ≡ true
-  pub stands : m.0.stage ≡ 2
+  pub stands : m.0.stage ≡ 1
   pub number_is : m.0.own.number ≡ number
   pub one : 1 ≤ number
   pub most : number ≤ callers
@@ -51,20 +51,20 @@ pub record IsInside (number callers : ℕ) (share : BookValue) (m : AtTable) : T
 pub record HasTurn (next callers : ℕ) (m : AtTable) : Type 0 where
   pub live : m.0.live ≡ true
   pub one : 1 ≤ m.0.own.number
-  pub has : m.0.stage ≡ 3
+  pub has : m.0.stage ≡ 2
   pub gathered : m.0.gathered + 1 ≡ next
   pub most : next ≤ callers
 
--- the slots of the callers up to k, empty, the last one first
+-- the slots of the callers up to k, empty, the last one first, and then that of the turn
 abbrev pub empties : ℕ → List (ℕ × Option BookValue)
-empties zero = []
+empties zero = (0, None) ∷ []
 empties (suc k) = (8 * suc k, None) ∷ empties k
 
--- the seat has the turn, and the shares of the callers up to k, which are of this book
+-- the seat has the turn, its share and those of the callers up to k, which are of this book
 pub record HasShares (k : ℕ) (share : BookValue) (m : AtTable) : Type 0 where
   pub live : m.0.live ≡ true
   pub one : 1 ≤ m.0.own.number
-  pub has : m.0.stage ≡ 3
+  pub has : m.0.stage ≡ 2
   pub gathered : m.0.gathered ≡ k
   pub book : share ≡ held_book m.0
   pub slots : m.1 ≡ empties k
@@ -89,13 +89,16 @@ abbrev pub TakesShare : Place → ℕ → BookValue → Place → Type 0
 TakesShare s number share t =
     SeatIs s (sharing share s.me.0, (8 * number, None) ∷ []) t × (share.opening ≡ s.me.0.origin.opening)
 
+-- the seat has the turn, with a share of this book, and the slot of the turn has none
+abbrev pub TakesTurn : Place → BookValue → Place → Type 0
+TakesTurn s share t = SeatIs s (turning share s.me.0, (0, None) ∷ []) t × (share.opening ≡ s.me.0.origin.opening)
+
 -- the share of one caller more was taken, of the same book as those before
 abbrev pub Gathered : ℕ → BookValue → Place → Place → Type 0
 Gathered next share s t =
-    (share.opening ≡ s.me.0.origin.opening) × (0 < s.me.0.gathered → share ≡ held_book s.me.0)
-    × SeatIs s (gathering share s.me.0, (8 * next, None) ∷ s.me.1) t
+    (share ≡ held_book s.me.0) × SeatIs s (gathering s.me.0, (8 * next, None) ∷ s.me.1) t
 
--- the seat has every share, wherever it stood
+-- the seat has the turn and the shares of so many callers, wherever it stood
 abbrev pub TakesAll : Place → ℕ → BookValue → Place → Type 0
 TakesAll s callers share t = HasShares callers share t.me × Keeps s s.me.0 t
 

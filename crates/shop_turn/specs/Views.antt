@@ -25,20 +25,17 @@ opening_view book callers = record {
 abbrev pub named_as : ℕ → View → View
 named_as number view = record view { own = record { number = number; seen = view.own.seen } }
 
-abbrev pub staged : ℕ → View → View
-staged stage view = record view { stage = stage }
-
 -- inside, with a share of this book
 abbrev pub sharing : BookValue → View → View
-sharing book view = record view { stage = 2; log = book.log; latest = book.latest }
+sharing book view = record view { stage = 1; log = book.log; latest = book.latest }
 
--- the turn, with no share yet
-abbrev pub turning : View → View
-turning view = record view { stage = 3; gathered = 0; knows = false }
+-- the turn, with its share, of this book
+abbrev pub turning : BookValue → View → View
+turning book view = record view { stage = 2; gathered = 0; log = book.log; latest = book.latest; knows = false }
 
--- one share more, of this book
-abbrev pub gathering : BookValue → View → View
-gathering book view = record view { gathered = view.gathered + 1; log = book.log; latest = book.latest; knows = false }
+-- one caller's share more
+abbrev pub gathering : View → View
+gathering view = record view { gathered = view.gathered + 1; knows = false }
 
 -- the book that the shares of this seat are of
 abbrev pub held_book : View → BookValue
@@ -65,7 +62,7 @@ raising moment view = record view { marks = view.marks ++ (length view.log, mome
 abbrev pub appending : List Entry → View → View
 appending log view = record view { own = record { number = view.own.number; seen = log }; log = log }
 
--- one share less
+-- one caller's share less
 abbrev pub filling : View → View
 filling view = record view { gathered = view.gathered - 1; knows = false }
 

@@ -22,17 +22,17 @@ pub fn words_of(alloc: Global, book: &Book, callers: usize) -> Result<Vec<u64>, 
     Ok(words)
 }
 
-/// What lies in a slot at first: a share in that of a caller.
+/// What lies in a slot at first: a share in that of a caller, and in that of the turn.
 fn slot_of(share: &Share, slot: usize) -> Result<Option<Share>, Memory>
-    ensures { IfOk result (λ there. (c : ℕ) → 1 ≤ c → 8 * c ≡ slot → there ≡ Some share.now) }
+    ensures { IfOk result (λ there. (c : ℕ) → 8 * c ≡ slot → there ≡ Some share.now) }
 {
-    if slot == 0 || slot % 8 != 0 {
+    if slot % 8 != 0 {
         return Ok(None);
     }
     Ok(Some(share.again()?))
 }
 
-/// The slots of a table for so many callers, who have their shares.
+/// The slots of a table for so many callers, who have their shares, as the turn has its own.
 pub fn shares_of(alloc: Global, share: &Share, callers: usize) -> Result<Vec<Option<Share>>, Memory>
     requires { callers < 2 ^ 32 }
     ensures shares { IfOk result (λ slots. AreShares share.now callers slots.items) }

@@ -1,6 +1,7 @@
 //! The table at which callers share a book, and the rule that they keep to between any two steps. Word 16 c
-//! is 1 while caller c is inside, and slot 8 c has the share of caller c. The factors keep the word and the
-//! slot of each caller on a cache line of their own.
+//! is `INSIDE` while caller c is inside, and `TAKEN` while its share is with another, who has the turn; slot
+//! 8 c has the share of caller c, and slot 0 the one that goes with the turn. The factors keep the word and
+//! the slot of each caller on a cache line of their own.
 use crate::share::Share;
 use atomic_table::{Join, Play, Seat, Shared, Split, Table, TableRule};
 use shop_book::{Book, Opening};
@@ -20,6 +21,12 @@ pub const LATEST: usize = 2;
 
 /// The word with the largest number that a caller has.
 pub const NAMED: usize = 3;
+
+/// A caller is inside.
+pub const INSIDE: u64 = 1;
+
+/// A caller's share is with the one who has the turn.
+pub const TAKEN: u64 = 2;
 
 /// How the shop began, which all its seats know: how many entries the log had, its latest stamp, how
 /// many callers there are, and what the book opened with.
@@ -49,11 +56,11 @@ pub struct View {
     pub looks: u64,
     /// How many of the looks were those of settles.
     pub settles: u64,
-    /// 0 outside, 1 at the door, 2 inside with its share, 3 with the turn.
+    /// 0 outside, 1 inside with its share, 2 with the turn and its share.
     pub stage: u64,
     /// With the turn, the shares of the callers up to this number are with the seat.
     pub gathered: u64,
-    /// Inside, or with the turn and a share, the log; else of no account.
+    /// Inside, or with the turn, the log; else of no account.
     pub log: LinkedList<Entry>,
     /// The same of the latest stamp of the book that is shared.
     pub latest: u64,
@@ -95,7 +102,7 @@ impl Play<Option<Share>, View> for Name {
     ghost then = { Names };
 }
 
-/// A caller says that it comes.
+/// A caller outside takes its share, where nobody has taken it.
 pub struct Enter;
 
 impl Play<Option<Share>, View> for Enter {
@@ -104,25 +111,7 @@ impl Play<Option<Share>, View> for Enter {
     ghost then = { Enters };
 }
 
-/// A caller at the door takes its share, where nobody has the turn.
-pub struct See;
-
-impl Play<Option<Share>, View> for See {
-    ghost use Rattle.shop_turn.specs.Plays.{Sees};
-
-    ghost then = { Sees };
-}
-
-/// A caller at the door goes.
-pub struct Back;
-
-impl Play<Option<Share>, View> for Back {
-    ghost use Rattle.shop_turn.specs.Plays.{Backs};
-
-    ghost then = { Backs };
-}
-
-/// A caller with a share, or with the turn and every share, counts the log.
+/// A caller with a share counts the log.
 pub struct Look;
 
 impl Play<Option<Share>, View> for Look {
@@ -158,7 +147,7 @@ impl Play<Option<Share>, View> for Leave {
     ghost then = { Leaves };
 }
 
-/// A caller outside takes the turn, where nobody has it.
+/// A caller outside takes the turn and its share, where nobody has it.
 pub struct Take;
 
 impl Play<Option<Share>, View> for Take {
@@ -212,7 +201,7 @@ impl Play<Option<Share>, View> for Fill {
     ghost then = { Fills };
 }
 
-/// The caller with the turn gives it up, when all shares are back.
+/// The caller with the turn gives it up, with its share.
 pub struct Give;
 
 impl Play<Option<Share>, View> for Give {

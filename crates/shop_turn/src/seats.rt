@@ -2,8 +2,10 @@
 ghost use Rattle.std.specs.Prelude.{◌≡◌, ◌≤◌, [], None, IsSome, MatchBool};
 ghost use Rattle.shop_model.specs.rows.Limits.{stamp_limit};
 ghost use Rattle.shop_attempt.specs.Faithful.{Faithful};
+ghost use Rattle.shop_book.specs.Preparing.{IsReady as IsPreparedFor};
 ghost use Rattle.shop_turn.specs.Views.{named_as, together, copy};
-ghost use Rattle.shop_turn.specs.Shared.{SettledFrom, at_stamp};
+ghost use Rattle.shop_turn.specs.Committed.{CommittedFrom};
+ghost use Rattle.shop_turn.specs.Shared.{at_stamp};
 ghost use Rattle.shop_turn.specs.Seats.{IsAt, IsReady, MayBeNamed, SeatIs, Found, Finds, Reads, Settled};
 
 use crate::rule::{
@@ -11,10 +13,10 @@ use crate::rule::{
 };
 use crate::share::Share;
 use crate::sleepers::Sleepers;
-use crate::turns::{count_one, gather_all, give_back};
+use crate::turns::{count_one, gather_all, give_back, give_turn, take_turn};
 use crate::visits::{leave, take_share};
 use shop_attempt::{Attempt, Settle};
-use shop_book::Book;
+use shop_book::{Book, Prepared};
 use shop_history::{Drawn, Ids, Key, Row};
 use shop_text::Memory;
 use std::sync::Wait;
@@ -82,9 +84,10 @@ fn read_alone<R: Wait>(
     requires ready { IsReady number callers seat.old.me }
     ensures { Reads seat.old seat.new key.now result }
 {
-    let mut share = gather_all(rt, shared, sleepers, seat, number, callers);
+    let mut share = take_turn(rt, shared, sleepers, seat, number);
     let _size = share.get().size();
     shared.load::<Look>(seat, COUNT);
+    gather_all(rt, shared, seat, callers, &share);
     let read = share.read(key);
     give_back(rt, shared, sleepers, seat, callers, share);
     read
@@ -167,23 +170,16 @@ fn settle_reading<R: Wait>(
     }
 }
 
-/// Settles an attempt over the book of the only share that is left.
-fn settle_over<R: Wait>(
-    rt: &R,
-    share: &mut Share,
-    latest: u64,
-    caller: u32,
-    attempt: Attempt,
-) -> Settle
+/// Makes a prepared change over the book of the only share that is left.
+fn commit_over<R: Wait>(rt: &R, share: &mut Share, latest: u64, prepared: Prepared) -> Settle
     requires after { share.old.latest ≤ latest }
     requires bound { latest ≤ stamp_limit }
-    requires faithful { Faithful share.old.opening.tables share.old.log attempt }
-    requires moment { attempt.moment ≤ stamp_limit }
-    ensures { SettledFrom (at_stamp latest share.old) share.new caller attempt result }
+    requires ready { IsPreparedFor share.old.opening share.old.log prepared }
+    ensures { CommittedFrom (at_stamp latest share.old) share.new prepared result }
 {
-    let mut left = attempt;
+    let mut left = prepared;
     for _ in rt.forever() {
-        match share.settle(latest, caller, left) {
+        match share.commit(latest, left) {
             Ok(answer) => return answer,
             Err(again) => left = again,
         }
@@ -191,7 +187,7 @@ fn settle_over<R: Wait>(
     unreachable!()
 }
 
-/// Settles a change, alone.
+/// Settles a change: prepares it while others still read, and makes it alone.
 fn settle_change<R: Wait>(
     rt: &R,
     shared: &Common,
@@ -209,27 +205,29 @@ fn settle_change<R: Wait>(
     requires changes { IsSome attempt.act }
     ensures { Settled number attempt seat.old seat.new result }
 {
-    let mut share = gather_all(rt, shared, sleepers, seat, number as usize, callers);
-    let latest = shared.load::<Measure>(seat, LATEST);
+    let mut share = take_turn(rt, shared, sleepers, seat, number as usize);
     shared.load::<LookToSettle>(seat, COUNT);
+    let next = share.get().count_of(number) + 1;
     let moment = attempt.moment;
-    match settle_over(rt, &mut share, latest, number, attempt) {
-        Settle::Done(drawn) => {
-            count_one(rt, shared, seat, callers, &share, moment);
-            give_back(rt, shared, sleepers, seat, callers, share);
-            Settle::Done(drawn)
+    match share.get().prepare(number, next, attempt) {
+        Ok(prepared) => {
+            gather_all(rt, shared, seat, callers, &share);
+            let latest = shared.load::<Measure>(seat, LATEST);
+            match commit_over(rt, &mut share, latest, prepared) {
+                Settle::Done(drawn) => {
+                    count_one(rt, shared, seat, callers, &share, moment);
+                    give_back(rt, shared, sleepers, seat, callers, share);
+                    Settle::Done(drawn)
+                }
+                refused => {
+                    give_back(rt, shared, sleepers, seat, callers, share);
+                    refused
+                }
+            }
         }
-        Settle::Stale(conflict) => {
-            give_back(rt, shared, sleepers, seat, callers, share);
-            Settle::Stale(conflict)
-        }
-        Settle::Full(size) => {
-            give_back(rt, shared, sleepers, seat, callers, share);
-            Settle::Full(size)
-        }
-        Settle::Memory => {
-            give_back(rt, shared, sleepers, seat, callers, share);
-            Settle::Memory
+        Err(refused) => {
+            give_turn(shared, sleepers, seat, callers, share);
+            refused
         }
     }
 }
@@ -316,9 +314,10 @@ pub fn close_at<R: Wait>(
     requires ready { IsReady number callers seat.old.me }
     ensures { Found result seat.old.me.0 }
 {
-    let share = gather_all(rt, shared, sleepers, seat, number, callers);
-    let latest = shared.load::<Measure>(seat, LATEST);
+    let share = take_turn(rt, shared, sleepers, seat, number);
     shared.load::<Look>(seat, COUNT);
+    gather_all(rt, shared, seat, callers, &share);
+    let latest = shared.load::<Measure>(seat, LATEST);
     let mut book = book_of(rt, share);
     book.raise(latest);
     book

@@ -1,11 +1,11 @@
 ghost use Rattle.std.specs.Prelude.{◌≡◌, ◌≤◌, IfOk, IfErr};
 ghost use Rattle.shop_model.specs.rows.Limits.{stamp_limit};
-ghost use Rattle.shop_attempt.specs.Faithful.{Faithful};
-ghost use Rattle.shop_book.specs.Books.{IsBook};
-ghost use Rattle.shop_turn.specs.Shared.{IsReadIn, SettledFrom, at_stamp};
+ghost use Rattle.shop_book.specs.Preparing.{IsReady};
+ghost use Rattle.shop_turn.specs.Committed.{CommittedFrom};
+ghost use Rattle.shop_turn.specs.Shared.{IsReadIn, at_stamp};
 
-use shop_attempt::{Attempt, Settle};
-use shop_book::Book;
+use shop_attempt::Settle;
+use shop_book::{Book, Prepared};
 use shop_history::{Key, Row};
 use shop_text::Memory;
 use std::alloc::{AllocError, Global};
@@ -63,23 +63,21 @@ impl Share {
         book.read(key)
     }
 
-    /// Settles an attempt over the book as it is at the shop's latest stamp, where the book has no other
-    /// share; else hands the attempt back.
-    pub fn settle(&mut self, latest: u64, caller: u32, attempt: Attempt) -> Result<Settle, Attempt>
+    /// Makes a change that the book prepared, at the shop's latest stamp, where the book has no other share;
+    /// else hands the change back.
+    pub fn commit(&mut self, latest: u64, prepared: Prepared) -> Result<Settle, Prepared>
         requires after { self.old.latest ≤ latest }
         requires bound { latest ≤ stamp_limit }
-        requires faithful { Faithful self.old.opening.tables self.old.log attempt }
-        requires moment { attempt.moment ≤ stamp_limit }
-        ensures settled { IfOk result (SettledFrom (at_stamp latest self.old) self.new caller attempt) }
-        ensures again { IfErr result (λ again. again ≡ attempt) }
+        requires ready { IsReady self.old.opening self.old.log prepared }
+        ensures committed { IfOk result (CommittedFrom (at_stamp latest self.old) self.new prepared) }
+        ensures again { IfErr result (λ again. again ≡ prepared) }
         ensures same { IfErr result (λ again. self.new ≡ self.old) }
     {
         let Some(book) = Arc::get_mut(&mut self.book) else {
-            return Err(attempt);
+            return Err(prepared);
         };
         book.raise(latest);
-        let next = book.count_of(caller) + 1;
-        Ok(book.settle(caller, next, attempt))
+        Ok(book.commit(prepared))
     }
 
     /// The book, where it has no other share; else the share.

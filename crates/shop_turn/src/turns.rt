@@ -1,35 +1,47 @@
-//! A seat's turn: it takes the turn, and the share of each caller who is outside or once it is; alone has
-//! the book; and gives the shares back, and the turn.
-ghost use Rattle.std.specs.Prelude.{◌≡◌, ◌≤◌, ◌+◌, [], None, IfSome, MatchBool};
-ghost use Rattle.shop_turn.specs.Views.{turning, giving, raising, appending};
-ghost use Rattle.shop_turn.specs.Seats.{IsAt, IsReady, HasTurn, HasShares, SeatIs, Keeps, Gathered, TakesAll, IsCounted};
+//! A seat's turn: it takes the turn and its share; takes the share of each caller who is outside, or once it
+//! is; alone has the book; and gives the shares back, and the turn.
+ghost use Rattle.std.specs.Prelude.{◌≡◌, ◌≤◌, [], None, IfSome};
+ghost use Rattle.shop_turn.specs.Views.{giving, raising, appending};
+ghost use Rattle.shop_turn.specs.Seats.{IsAt, IsReady, HasTurn, HasShares, SeatIs, Keeps, TakesTurn, Gathered, TakesAll, IsCounted};
 
-use crate::rule::{Append, COUNT, Common, Fill, Gather, Give, LATEST, Lift, Place, TURN, Take};
+use crate::rule::{
+    Append, COUNT, Common, Fill, Gather, Give, LATEST, Lift, Place, TAKEN, TURN, Take,
+};
 use crate::share::Share;
 use crate::sleepers::Sleepers;
 use std::hint::spin_loop;
 use std::sync::Wait;
 
-/// Takes the turn, where nobody has it.
-fn try_turn(shared: &Common, seat: &mut Place, number: usize) -> bool
+/// Takes the turn and its share, where nobody has it.
+fn try_turn(shared: &Common, seat: &mut Place, number: usize) -> Option<Share>
     requires at { IsAt shared.now.table_id shared.now.key.callers seat.old }
     requires ready { IsReady number shared.now.key.callers seat.old.me }
-    ensures { MatchBool result (SeatIs seat.old (turning seat.old.me.0, []) seat.new) (SeatIs seat.old seat.old.me seat.new) }
+    ensures took { IfSome result (λ share. TakesTurn seat.old share seat.new) }
+    ensures not { result ≡ None → SeatIs seat.old seat.old.me seat.new }
 {
-    shared.compare_exchange::<Take>(seat, TURN, 0, number as u64) == 0
+    if shared.compare_exchange::<Take>(seat, TURN, 0, number as u64) != 0 {
+        return None;
+    }
+    shared.exchange(seat, 0, None)
 }
 
-/// Waits for the turn.
-fn take_turn<R: Wait>(rt: &R, shared: &Common, sleepers: &Sleepers, seat: &mut Place, number: usize)
+/// Waits for the turn, and takes its share. Others still read.
+pub fn take_turn<R: Wait>(
+    rt: &R,
+    shared: &Common,
+    sleepers: &Sleepers,
+    seat: &mut Place,
+    number: usize,
+) -> Share
     requires at { IsAt shared.now.table_id shared.now.key.callers seat.old }
     requires ready { IsReady number shared.now.key.callers seat.old.me }
-    ensures { SeatIs seat.old (turning seat.old.me.0, []) seat.new }
+    ensures { TakesAll seat.old 0 result seat.new }
 {
     for _ in rt.forever() {
-        if try_turn(shared, seat, number) {
-            return;
+        if let Some(share) = try_turn(shared, seat, number) {
+            return share;
         }
-        sleepers.wait(rt, shared);
+        sleepers.wait(rt, shared, TURN);
     }
     unreachable!()
 }
@@ -41,7 +53,7 @@ fn try_gather(shared: &Common, seat: &mut Place, next: usize) -> Option<Share>
     ensures took { IfSome result (λ share. Gathered next share seat.old seat.new) }
     ensures not { result ≡ None → SeatIs seat.old seat.old.me seat.new }
 {
-    if shared.load::<Gather>(seat, 16 * next) != 0 {
+    if shared.compare_exchange::<Gather>(seat, 16 * next, 0, TAKEN) != 0 {
         return None;
     }
     shared.exchange(seat, 8 * next, None)
@@ -62,52 +74,16 @@ fn gather_one<R: Wait>(rt: &R, shared: &Common, seat: &mut Place, next: usize) -
     unreachable!()
 }
 
-/// Waits for the turn, and takes the first share. Others who came before still read.
-fn gather_first<R: Wait>(
-    rt: &R,
-    shared: &Common,
-    sleepers: &Sleepers,
-    seat: &mut Place,
-    number: usize,
-) -> Share
-    requires at { IsAt shared.now.table_id shared.now.key.callers seat.old }
-    requires ready { IsReady number shared.now.key.callers seat.old.me }
-    ensures { TakesAll seat.old 1 result seat.new }
-{
-    take_turn(rt, shared, sleepers, seat, number);
-    gather_one(rt, shared, seat, 1)
-}
-
-/// Takes the other shares, each once its caller is outside.
-fn gather_others<R: Wait>(rt: &R, shared: &Common, seat: &mut Place, callers: usize, share: &Share)
+/// Takes each caller's share, once that one is outside: nobody else reads from then on.
+pub fn gather_all<R: Wait>(rt: &R, shared: &Common, seat: &mut Place, callers: usize, share: &Share)
     requires at { IsAt shared.now.table_id shared.now.key.callers seat.old }
     requires callers { callers ≡ shared.now.key.callers }
-    requires some { 1 ≤ callers }
-    requires first { HasShares 1 share.now seat.old.me }
+    requires first { HasShares 0 share.now seat.old.me }
     ensures { TakesAll seat.old callers share.now seat.new }
 {
-    for gathered in 1..callers {
+    for gathered in 0..callers {
         drop(gather_one(rt, shared, seat, gathered + 1));
     }
-}
-
-/// Waits for the turn, and takes all shares: no other caller reads from then on.
-pub fn gather_all<R: Wait>(
-    rt: &R,
-    shared: &Common,
-    sleepers: &Sleepers,
-    seat: &mut Place,
-    number: usize,
-    callers: usize,
-) -> Share
-    requires at { IsAt shared.now.table_id shared.now.key.callers seat.old }
-    requires callers { callers ≡ shared.now.key.callers }
-    requires ready { IsReady number callers seat.old.me }
-    ensures { TakesAll seat.old callers result seat.new }
-{
-    let share = gather_first(rt, shared, sleepers, seat, number);
-    gather_others(rt, shared, seat, callers, &share);
-    share
 }
 
 /// Another share, which is only refused where there are as many as can be counted.
@@ -132,9 +108,27 @@ fn fill_all<R: Wait>(rt: &R, shared: &Common, seat: &mut Place, callers: usize, 
     let mut left = callers;
     while left > 0 {
         drop(shared.exchange(seat, 8 * left, Some(another(rt, share))));
-        shared.load::<Fill>(seat, TURN);
+        shared.store::<Fill>(seat, 16 * left, 0);
         left -= 1;
     }
+}
+
+/// Gives the turn back, with its share.
+pub fn give_turn(
+    shared: &Common,
+    sleepers: &Sleepers,
+    seat: &mut Place,
+    callers: usize,
+    share: Share,
+)
+    requires callers { callers ≡ shared.now.key.callers }
+    requires at { IsAt shared.now.table_id shared.now.key.callers seat.old }
+    requires all { HasShares 0 share seat.old.me }
+    ensures { SeatIs seat.old (giving seat.old.me.0, []) seat.new }
+{
+    drop(shared.exchange(seat, 0, Some(share)));
+    shared.store::<Give>(seat, TURN, 0);
+    sleepers.wake(shared, callers);
 }
 
 /// Gives each caller a share again, and gives the turn back.
@@ -152,10 +146,7 @@ pub fn give_back<R: Wait>(
     ensures { SeatIs seat.old (giving seat.old.me.0, []) seat.new }
 {
     fill_all(rt, shared, seat, callers, &share);
-    // Before the turn: who takes that next must find no share beside those that it gathers.
-    drop(share);
-    shared.store::<Give>(seat, TURN, 0);
-    sleepers.wake(shared);
+    give_turn(shared, sleepers, seat, callers, share);
 }
 
 /// Leaves a mark, and counts the entry that the book has more. The longer book lies in the slot that was

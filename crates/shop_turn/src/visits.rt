@@ -1,29 +1,27 @@
 //! A seat's visit: it takes its share of the book, beside others who have theirs, and puts it back.
 ghost use Rattle.std.specs.Prelude.{◌≡◌, [], None, IfSome};
-ghost use Rattle.shop_turn.specs.Views.{staged, giving};
+ghost use Rattle.shop_turn.specs.Views.{giving};
 ghost use Rattle.shop_turn.specs.Seats.{IsAt, IsReady, IsInside, SeatIs, TakesShare};
 
-use crate::rule::{Back, Common, Enter, Leave, Place, See, TURN};
+use crate::rule::{Common, Enter, INSIDE, Leave, Place};
 use crate::share::Share;
 use crate::sleepers::Sleepers;
 use std::sync::Wait;
 
-/// Comes to the door, and takes the share, where nobody has the turn.
+/// Takes the share, where nobody else has it.
 fn try_share(shared: &Common, seat: &mut Place, number: usize) -> Option<Share>
     requires at { IsAt shared.now.table_id shared.now.key.callers seat.old }
     requires ready { IsReady number shared.now.key.callers seat.old.me }
     ensures took { IfSome result (λ share. TakesShare seat.old number share seat.new) }
-    ensures not { result ≡ None → SeatIs seat.old (staged 0 seat.old.me.0, []) seat.new }
+    ensures not { result ≡ None → SeatIs seat.old seat.old.me seat.new }
 {
-    shared.store::<Enter>(seat, 16 * number, 1);
-    if shared.load::<See>(seat, TURN) != 0 {
-        shared.store::<Back>(seat, 16 * number, 0);
+    if shared.compare_exchange::<Enter>(seat, 16 * number, 0, INSIDE) != 0 {
         return None;
     }
     shared.exchange(seat, 8 * number, None)
 }
 
-/// Waits until nobody has the turn, and takes the share.
+/// Waits until the share is in its slot, and takes it.
 pub fn take_share<R: Wait>(
     rt: &R,
     shared: &Common,
@@ -39,7 +37,7 @@ pub fn take_share<R: Wait>(
         if let Some(share) = try_share(shared, seat, number) {
             return share;
         }
-        sleepers.wait(rt, shared);
+        sleepers.wait(rt, shared, 16 * number);
     }
     unreachable!()
 }

@@ -20,4 +20,4 @@ returns g c =
     let v = c.args.seat.now.me.0 in let share = c.take_share-share.result in let x = c.take_share-share.new.seat.me.0 in
     let kept = inside_keeps share v c.take_share-share.new.seat.me _ e.0.2 in let is = inside_book share v c.take_share-share.new.seat.me _ e.0.2 e.1 in
     let k = subst IsBook c.get.ensures c.size-size.ensures.kept in let t = l.2.1 in
-    (book_at t.0 x, found_by v x share kept is k t.0 t.1 t.2, (a.0 ∙ l.0 ∙ e.0.0, a.1 ∙ l.1 ∙ e.0.1, a.2 ∙ ap (λ (m : AtTable). (giving m.0, [])) l.2.2 ∙ ap (λ (w : View). (w, [])) (looked_as v x share kept is k 0 t.0)))
+    (book_at t.0 x, found_by v x share kept is k t.0 t.1 t.2, (a.0 ∙ l.0 ∙ e.0.0, a.1 ∙ l.1 ∙ e.0.1, a.2 ∙ ap (λ (m : AtTable). (giving m.0, [])) l.2.2 ∙ ap (λ (w : View). (w, [])) (looked_as v x kept 0 t.0)))

@@ -22,7 +22,7 @@ returns-in-Some g c =
     let read = subst (λ (b : BookValue). IfOk c.in-Some.read (IsReadIn b c.args.key.now)) c.get.ensures (read_in c.get.result.now c.args.key.now c.in-Some.read s.row s.version) in (
       book_at t.0 x,
       found_by v x share kept is k t.0 t.1 t.2,
-      (a.0 ∙ l.0 ∙ e.0.0, a.1 ∙ l.1 ∙ e.0.1, a.2 ∙ ap (λ (m : AtTable). (giving m.0, [])) l.2.2 ∙ ap (λ (w : View). (w, [])) (looked_as v x share kept is k 0 t.0)),
+      (a.0 ∙ l.0 ∙ e.0.0, a.1 ∙ l.1 ∙ e.0.1, a.2 ∙ ap (λ (m : AtTable). (giving m.0, [])) l.2.2 ∙ ap (λ (w : View). (w, [])) (looked_as v x kept 0 t.0)),
       read_as v x share kept is k c.args.key.now c.in-Some.read t.0 read,
     )
 

@@ -35,7 +35,7 @@ returns-in-Some g c =
       found = found;
       kept = found.book_is;
       settles = stale_as v x share kept is k t.0 c.args.number 0 c.args.attempt c.in-Some.conflict found c.requires.faithful first;
-      seat = (a.0 ∙ l.0 ∙ e.0.0, a.1 ∙ l.1 ∙ e.0.1, a.2 ∙ ap (λ (m : AtTable). (giving m.0, [])) l.2.2 ∙ ap (λ (w : View). (w, [])) (looked_as v x share kept is k 1 t.0));
+      seat = (a.0 ∙ l.0 ∙ e.0.0, a.1 ∙ l.1 ∙ e.0.1, a.2 ∙ ap (λ (m : AtTable). (giving m.0, [])) l.2.2 ∙ ap (λ (w : View). (w, [])) (looked_as v x kept 1 t.0));
     }
 
 pub returns : goal.returns

@@ -5,7 +5,7 @@ use Rattle.shop_turn.proofs.turns.count_one.Goals as goal
 
 pub fetch_max-requires : goal.fetch_max-requires
 fetch_max-requires g c = let at = c.requires.at in
-    (at.table, (let a = at.words in omega arith), lifts_as _ _ _ _ c.args.moment c.args.callers c.args.share.now c.requires.longer c.requires.some)
+    (at.table, (let a = at.words in omega arith), lifts_as _ _ _ _ c.args.moment c.args.callers c.args.share.now c.requires.longer)
 
 pub exchange-requires : goal.exchange-requires
 exchange-requires g c = let at = c.requires.at in let f = c.fetch_max.ensures in
@@ -14,7 +14,7 @@ exchange-requires g c = let at = c.requires.at in let f = c.fetch_max.ensures in
 pub fetch_add-requires : goal.fetch_add-requires
 fetch_add-requires g c = let at = c.requires.at in let f = c.fetch_max.ensures in let e = c.exchange.ensures in
     let laid = laid_as (8 * c.args.callers) _ c.args.share.now c.fetch_max.new.seat.me _ c.another-top.ensures e.3 in
-    (e.0 ∙ f.0 ∙ at.table, (let a = at.words in omega arith), appends_as _ _ _ _ c.args.moment c.args.callers c.args.share.now c.args.seat.now.me _ c.requires.longer c.requires.some f.2 laid)
+    (e.0 ∙ f.0 ∙ at.table, (let a = at.words in omega arith), appends_as _ _ _ _ c.args.moment c.args.callers c.args.share.now c.args.seat.now.me _ c.requires.longer f.2 laid)
 
 pub exchange-requires-2 : goal.exchange-requires-2
 exchange-requires-2 g c = let at = c.requires.at in let f = c.fetch_max.ensures in let e = c.exchange.ensures in let h = c.fetch_add.ensures in

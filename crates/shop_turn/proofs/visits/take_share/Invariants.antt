@@ -1,8 +1,6 @@
-use Rattle.std.proofs.Common.{[]}
 use Rattle.shop_turn.specs.Seats.{SeatIs}
-use Rattle.shop_turn.specs.Views.{staged}
 use Rattle.shop_turn.proofs.visits.take_share.Given as goal
 
 abbrev pub invariant-loop : goal.invariant-loop
 invariant-loop g l =
-    (goal.iterator-loop g).can_next l.iterator' × (goal.iterator-loop g).is_finite l.iterator' × SeatIs l.initial.seat (staged 0 l.initial.seat.me.0, []) l.seat
+    (goal.iterator-loop g).can_next l.iterator' × (goal.iterator-loop g).is_finite l.iterator' × SeatIs l.initial.seat l.initial.seat.me l.seat

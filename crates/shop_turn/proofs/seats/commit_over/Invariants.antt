@@ -1,5 +1,5 @@
 use Rattle.std.proofs.Common.{◌≡◌}
-use Rattle.shop_turn.proofs.seats.settle_over.Given as goal
+use Rattle.shop_turn.proofs.seats.commit_over.Given as goal
 
 abbrev pub invariant-loop : goal.invariant-loop
 invariant-loop g l =
