@@ -1,5 +1,7 @@
 pub mod Statuses
+pub mod Told
 pub mod Outside
+pub mod Paying
 pub mod Session
 pub mod Summaries
 pub mod Driving

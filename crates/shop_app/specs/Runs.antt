@@ -1,8 +1,5 @@
 -- What a whole run does, by its words and its status.
-use Rattle.std.specs.Prelude.{◌≡◌, ◌≢◌, ◌⊎◌, ℕ, List, Option, Some, codes, slice_get}
-use Rattle.std.specs.Io.KnownBytes.{Appends}
-use Rattle.shop_edges.specs.Causes.{Rose}
-use Rattle.shop_edges.specs.Streams.{AppendsFront}
+use Rattle.std.specs.Prelude.{◌≡◌, ◌≢◌, ◌⊎◌, ℕ, List}
 use Rattle.shop_words.specs.declared.command.Command.{Command}
 use Rattle.shop_words.specs.declared.command.Command.TheVariants as command
 use Rattle.shop_words.specs.declared.command.Session.{Session}
@@ -11,23 +8,15 @@ use Rattle.shop_app.specs.declared.status.Status.{Status}
 use Rattle.shop_app.specs.declared.status.Status.TheVariants as status
 use Rattle.shop_app.specs.Driving.{IsDriven}
 use Rattle.shop_app.specs.Outside.{Meanings, Run, run_of}
+use Rattle.shop_app.specs.Paying.{IsPaying}
 use Rattle.shop_app.specs.Session.{IsSession}
-use Rattle.shop_app.specs.Statuses.{fault_line}
-
--- several callers serve the words: the first of them is `race`
-abbrev pub IsShared : List (List ℕ) → Type 0
-IsShared words = slice_get words 0 ≡ Some (codes "race")
-
--- a command of several callers
-abbrev pub IsForSeveral : Command → Type 0
-IsForSeveral (command.Race race) = Unit {0}
-IsForSeveral _ = ⊥
 
 -- what came of a command of one caller
 abbrev pub Obeys : Command → Run → Run → Status → Type 0
 Obeys (command.Session session) old new outcome = IsSession session old new outcome
 Obeys (command.Drive drive) old new outcome = IsDriven drive old new outcome
 Obeys (command.Race race) old new outcome = ⊥
+Obeys command.Gateway old new outcome = IsPaying old new outcome
 
 -- the words give a command of one caller, and this is what came of it, or memory ran out before they were read
 abbrev pub IsRun : List (List ℕ) → Run → Run → Status → Type 0
@@ -41,8 +30,3 @@ RunsBy by words old new outcome = outcome ≢ status.BadWords → IsRun words (r
 -- so a session
 abbrev pub SessionBy : {S K C G : Type 0} → Meanings S K C G → Session → S × K × C × G → S × K × C × G → Status → Type 0
 SessionBy by session old new outcome = IsSession session (run_of by old) (run_of by new) outcome
-
--- the line of a status stands on the faults sink, or that sink failed, and a front of the line stands there
-abbrev pub IsTold : Option (List ℕ) → Option (List ℕ) → ℕ → ℕ → Status → Type 0
-IsTold held held' faults faults' outcome =
-    Appends held held' (fault_line outcome) ⊎ (AppendsFront held held' (fault_line outcome) × Rose faults faults')

@@ -7,11 +7,13 @@ ghost use Rattle.shop_words.specs.declared.command.Command.{Command};
 ghost use Rattle.shop_words.specs.Commands.{IsCommand};
 ghost use Rattle.shop_app.specs.Statuses as spec;
 ghost use Rattle.shop_app.specs.Statuses.{IsFaultless};
-ghost use Rattle.shop_app.specs.Runs.{IsForSeveral, IsTold, RunsBy, SessionBy};
+ghost use Rattle.shop_app.specs.Runs.{RunsBy, SessionBy};
 ghost use Rattle.shop_app.specs.Session.{IsFirst};
+ghost use Rattle.shop_app.specs.Told.{IsForSeveral, IsTold};
 
 use crate::Status;
 use crate::driven::drive_browsers;
+use crate::gateway::answer_lines;
 use shop_book::{Book, Solo};
 use shop_edges::{Clock, Gateway, Sink, Source, write_all};
 use shop_engine::{Ended, Worker, serve_connection};
@@ -27,8 +29,9 @@ use std::sync::Arc;
 const CALLER: u32 = 1;
 
 /// Does what the words say, for one caller, over the shop that the options choose, whose payments the gateway takes:
-/// `session` serves one connection from the source to the sink, and `drive` has browsers ask, and prints a summary to
-/// the sink. Where that doesn't end well, a line on the faults sink tells it; a fault of that sink changes no status.
+/// `session` serves one connection from the source to the sink, `drive` has browsers ask, and prints a summary to the
+/// sink, and `gateway` answers lines that ask for payments, by a ledger of its own. Where that doesn't end well, a line
+/// on the faults sink tells it; a fault of that sink changes no status.
 pub fn run_alone<S: Source, K: Sink, C: Clock, G: Gateway>(
     alloc: Global,
     words: &[Text],
@@ -74,6 +77,7 @@ fn run<S: Source, K: Sink, C: Clock, G: Gateway>(
             session(alloc, asked, source, sink, clock, gateway)
         }
         Parsed::Good(Command::Drive(asked)) => drive_browsers(alloc, asked, sink, clock, gateway),
+        Parsed::Good(Command::Gateway) => answer_lines(alloc, source, sink),
         Parsed::Good(Command::Race(_)) | Parsed::Bad => Status::BadWords,
         Parsed::Memory => Status::Memory,
     }

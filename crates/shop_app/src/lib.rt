@@ -3,6 +3,7 @@
 
 mod alone;
 mod driven;
+mod gateway;
 mod raced;
 mod shared;
 mod status;

@@ -4,7 +4,7 @@ ghost use Rattle.shop_edges.specs.Causes.{Rose};
 ghost use Rattle.shop_words.specs.declared.command.Command.{Command};
 ghost use Rattle.shop_words.specs.Commands.{IsCommand};
 ghost use Rattle.shop_app.specs.Racing.{IsDone, IsSharedRun, shared};
-ghost use Rattle.shop_app.specs.Runs.{IsForSeveral, IsShared, IsTold};
+ghost use Rattle.shop_app.specs.Told.{IsForSeveral, IsShared, IsTold};
 
 use crate::Status;
 use crate::raced::race_browsers;
@@ -69,7 +69,9 @@ fn run<
         Parsed::Good(Command::Race(asked)) => {
             race_browsers(rt, alloc, &asked, spawner, sink, clock)
         }
-        Parsed::Good(Command::Session(_) | Command::Drive(_)) | Parsed::Bad => Status::BadWords,
+        Parsed::Good(Command::Session(_) | Command::Drive(_) | Command::Gateway) | Parsed::Bad => {
+            Status::BadWords
+        }
         Parsed::Memory => Status::Memory,
     }
 }

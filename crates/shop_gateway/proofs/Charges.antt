@@ -47,7 +47,7 @@ same_card_self Discover = refl
 same_card_self Amex = refl
 same_card_self Diners = refl
 
-same_bytes_self : (a : List ℕ) → bytes_eq a a ≡ true
+pub same_bytes_self : (a : List ℕ) → bytes_eq a a ≡ true
 same_bytes_self a = (bytes_eq-Decides a a).1 refl
 
 abbrev charge : Key → CardType → List ℕ → List ℕ → ChargeValue

@@ -1,2 +1,3 @@
 pub mod Notings
+pub mod Requests
 pub mod Verdicts

@@ -3,3 +3,8 @@ pub mod Emulators
 pub mod Scripts
 pub mod Notes
 pub mod Notings
+pub mod Lines
+pub mod Readings
+pub mod Protocol
+pub mod Services
+pub mod Remotes

@@ -42,7 +42,7 @@ fn auth_of(charge: &Charge) -> AuthId
 }
 
 /// The number that at most 19 digits write.
-fn number_of(digits: &[u8]) -> u64
+pub(crate) fn number_of(digits: &[u8]) -> u64
     requires few { length digits.now ≤ 19 }
     requires digits { list_all is_ascii_digit digits.now ≡ true }
     ensures { result ≡ digits_value 10 digits.now }

@@ -1,6 +1,7 @@
 -- Commands in words: what their options choose.
-use Rattle.std.proofs.Common.{◌≡◌, ◌∙◌, Bool, true, false, refl, sym, ap, ap₂, subst, List, ◌∷◌, Option, Some, None, Ok, Err, Bor, map, codes, arith, ℕ}
+use Rattle.std.proofs.Common.{◌≡◌, ◌≢◌, ◌∙◌, Bool, get_or, true, false, refl, sym, ap, ap₂, subst, List, [], ◌∷◌, Option, Some, None, Ok, Err, Bor, map, codes, arith, ℕ}
 use Rattle.std.specs.List.{All}
+use Rattle.std.specs.Prelude.{⊤}
 use Rattle.std.specs.Str.{bytes_eq}
 use Rattle.clap.specs.Walk.{Text}
 use Rattle.shop_model.specs.population.Scales.{desk}
@@ -9,10 +10,9 @@ use Rattle.shop_browsers.specs.declared.mix.Mix.TheVariants.{Shopping}
 use Rattle.shop_words.specs.declared.choices.Workload.{Workload}
 use Rattle.shop_words.specs.declared.command.Command.{Command}
 use Rattle.shop_words.specs.declared.command.Command.TheVariants as command
-use Rattle.shop_words.specs.declared.command.Race.{Race}
 use Rattle.shop_words.specs.declared.command.Session.{Session}
 use Rattle.shop_words.specs.declared.options.Refusal.TheVariants as refusal
-use Rattle.shop_words.specs.Commands.{Chooses, ChoosesDrive, ChoosesRace, ChoosesWorkload, IsCommand, IsDrive, IsGiven, IsRace, IsRead, IsSession, drive_options, race_options, session_options, workload_of_drive, workload_of_race, workload_options}
+use Rattle.shop_words.specs.Commands.{Chooses, ChoosesDrive, ChoosesRace, ChoosesWorkload, IsCommand, IsDrive, IsGateway, IsGiven, IsRace, IsRead, IsSession, drive_options, race_options, session_options, workload_of_drive, workload_of_race, workload_options}
 use Rattle.shop_words.specs.Options.{AreOptions, Given, IsChosen, IsPlain, IsReading, IsWord, value_of}
 use Rattle.shop_text.specs.Numbers.{number_of}
 use Rattle.shop_words.specs.Values.{limit_of, mix_of, scale_of, within}
@@ -113,6 +113,9 @@ race-form =
     })
     workload_options workload-form (name-from (codes "workers") (omega arith) refl refl) (within-plain 1 16)
 
+gateway-form : IsForm [] (λ values (nothing : ⊤). ⊤)
+gateway-form = record { known = tt; along = λ values others same chosen chooses. tt; same = λ values one other x y. refl; plain = λ values chosen chooses. tt }
+
 -- ---- as the grammar has them
 
 -- the words of a command are words
@@ -121,9 +124,14 @@ command-words words (command.Session session) is =
     given-words (codes "session") session_options Chooses session-form words (word-from (codes "session") refl (λ e. cc)) session is
 command-words words (command.Drive drive) is = given-words (codes "drive") drive_options ChoosesDrive drive-form words (word-from (codes "drive") refl (λ e. cc)) drive is
 command-words words (command.Race race) is = given-words (codes "race") race_options ChoosesRace race-form words (word-from (codes "race") refl (λ e. cc)) race is
+command-words words command.Gateway is = given-words (codes "gateway") [] (λ values nothing. ⊤) gateway-form words (word-from (codes "gateway") refl (λ e. cc)) tt is
 
 two-names : (a b : Text) (words rest more : List Text) → words ≡ a ∷ rest → words ≡ b ∷ more → a ≡ b
 two-names a b words rest more x y = let both : a ∷ rest ≡ b ∷ more = sym x ∙ y in cc
+
+-- words that begin with one name begin with no other
+other-first : (a b : Text) (words rest more : List Text) → words ≡ a ∷ rest → words ≡ b ∷ more → get_or a 0 0 ≢ get_or b 0 0 → ⊥
+other-first a b words rest more x y other = other (ap (λ t. get_or t 0 0) (two-names a b words rest more x y))
 
 -- what words give, where they begin with its name
 pub record Only {A : Type 0} (made : A → Command) (Given : A → Type 0) (other : Command) : Type 0 where
@@ -141,16 +149,25 @@ only-session : (words : List Text) → words ≡ codes "session" ∷ rest-of wor
 only-session words named (command.Session session) is = record { chosen = session; is = refl; given = is }
 only-session words named (command.Drive drive) is = let same : codes "session" ≡ codes "drive" = two-names _ _ words _ is.rest named is.named in absurd (cc)
 only-session words named (command.Race race) is = let same : codes "session" ≡ codes "race" = two-names _ _ words _ is.rest named is.named in absurd (cc)
+only-session words named command.Gateway is = absurd (other-first (codes "session") (codes "gateway") words _ _ named is.named (omega arith))
 
 only-drive : (words : List Text) → words ≡ codes "drive" ∷ rest-of words → (other : Command) → IsCommand words other → Only command.Drive (IsDrive words) other
 only-drive words named (command.Drive drive) is = record { chosen = drive; is = refl; given = is }
 only-drive words named (command.Session session) is = let same : codes "drive" ≡ codes "session" = two-names _ _ words _ is.rest named is.named in absurd (cc)
 only-drive words named (command.Race race) is = let same : codes "drive" ≡ codes "race" = two-names _ _ words _ is.rest named is.named in absurd (cc)
+only-drive words named command.Gateway is = absurd (other-first (codes "drive") (codes "gateway") words _ _ named is.named (omega arith))
 
 only-race : (words : List Text) → words ≡ codes "race" ∷ rest-of words → (other : Command) → IsCommand words other → Only command.Race (IsRace words) other
 only-race words named (command.Race race) is = record { chosen = race; is = refl; given = is }
 only-race words named (command.Session session) is = let same : codes "race" ≡ codes "session" = two-names _ _ words _ is.rest named is.named in absurd (cc)
 only-race words named (command.Drive drive) is = let same : codes "race" ≡ codes "drive" = two-names _ _ words _ is.rest named is.named in absurd (cc)
+only-race words named command.Gateway is = absurd (other-first (codes "race") (codes "gateway") words _ _ named is.named (omega arith))
+
+only-gateway : (words : List Text) → words ≡ codes "gateway" ∷ rest-of words → (other : Command) → IsCommand words other → Only (λ nothing. command.Gateway) (IsGateway words) other
+only-gateway words named command.Gateway is = record { chosen = tt; is = refl; given = is }
+only-gateway words named (command.Session session) is = absurd (other-first (codes "gateway") (codes "session") words _ _ named is.named (omega arith))
+only-gateway words named (command.Drive drive) is = absurd (other-first (codes "gateway") (codes "drive") words _ _ named is.named (omega arith))
+only-gateway words named (command.Race race) is = absurd (other-first (codes "gateway") (codes "race") words _ _ named is.named (omega arith))
 
 pub session-kind : IsKind (codes "session") session_options Chooses command.Session
 session-kind = record { form = session-form; stands = λ words session is. is; only = only-session }
@@ -160,6 +177,9 @@ drive-kind = record { form = drive-form; stands = λ words drive is. is; only = 
 
 pub race-kind : IsKind (codes "race") race_options ChoosesRace command.Race
 race-kind = record { form = race-form; stands = λ words race is. is; only = only-race }
+
+pub gateway-kind : IsKind (codes "gateway") [] (λ values (nothing : ⊤). ⊤) (λ nothing. command.Gateway)
+gateway-kind = record { form = gateway-form; stands = λ words nothing is. is; only = only-gateway }
 
 -- ---- what is made of words that begin with the name
 

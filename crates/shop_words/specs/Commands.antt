@@ -82,6 +82,12 @@ pub record ChoosesRace (values : List ℕ → Option (List ℕ)) (race : Race) :
 abbrev pub IsRace : List (List ℕ) → Race → Type 0
 IsRace = IsGiven (codes "race") race_options ChoosesRace
 
+-- ---- a gateway
+
+-- `gateway`, and no options
+abbrev pub IsGateway : List (List ℕ) → ⊤ → Type 0
+IsGateway = IsGiven (codes "gateway") [] (λ values nothing. ⊤)
+
 -- ---- what words give
 
 -- the words give the command
@@ -89,6 +95,7 @@ abbrev pub IsCommand : List (List ℕ) → Command → Type 0
 IsCommand words (command.Session session) = IsSession words session
 IsCommand words (command.Drive drive) = IsDrive words drive
 IsCommand words (command.Race race) = IsRace words race
+IsCommand words command.Gateway = IsGateway words tt
 
 -- what holds of what the words ask for, where they are good
 abbrev pub IfGood : {T : Type 0} → Parsed T → (T → Type 0) → Type 0

@@ -17,6 +17,8 @@ pub enum Command {
     Drive(Drive),
     /// Workers on threads share a shop, each with a browser, and a summary is printed.
     Race(Race),
+    /// Lines that ask for payments are answered, from standard input to standard output.
+    Gateway,
 }
 
 /// The shop of a session.
@@ -71,6 +73,9 @@ static DRIVE: [&str; 6] = ["browsers", "steps", "mix", "scale", "seed", "limit"]
 /// The names of a race's options.
 static RACE: [&str; 6] = ["workers", "steps", "mix", "scale", "seed", "limit"];
 
+/// A gateway has no options.
+static GATEWAY: [&str; 0] = [];
+
 /// The command that the words give. The first one names it, and the others are its options, each written
 /// `--name value` or `--name=value`, at most once, in any order.
 pub fn command_of(alloc: Global, words: &[Text]) -> Parsed<Command>
@@ -111,6 +116,10 @@ fn read_command(alloc: Global, words: &[Text]) -> Result<Command, Refusal>
                 Some(race) => Ok(Command::Race(race)),
                 None => Err(Refusal::Bad),
             }
+        }
+        ["gateway", ..] => {
+            options_of(alloc, &GATEWAY, texts)?;
+            Ok(Command::Gateway)
         }
         _ => Err(Refusal::Bad),
     }

@@ -1,4 +1,4 @@
-use Rattle.std.proofs.Common.{inr, subst}
+use Rattle.std.proofs.Common.{inr, refl, subst}
 use Rattle.shop_words.specs.declared.command.Command.TheVariants as command
 use Rattle.shop_words.specs.Commands.{IsCommand, IsDrive, IsSession}
 use Rattle.shop_words.specs.Options.{value_for}
@@ -26,3 +26,6 @@ returns-in-Good-Drive-clause-run g c other =
 pub returns-in-Good-Session-clause-run : goal.returns-in-Good-Session-clause-run
 returns-in-Good-Session-clause-run g c other =
     inr (command.Session c.in-Good-Session.asked, subst (IsCommand c.args.words.now) c.in-Good-Session.field-0-is c.in-Good-Session.ensures.command, c.session.ensures.session)
+
+pub returns-in-Good-Gateway-clause-run : goal.returns-in-Good-Gateway-clause-run
+returns-in-Good-Gateway-clause-run g c other = inr (command.Gateway, subst (IsCommand c.args.words.now) c.in-Good-Gateway.field-0-is c.in-Good-Gateway.ensures.command, record { pays = c.answer_lines.ensures.pays; outside = refl })

@@ -3,7 +3,7 @@ use Rattle.clap.specs.Words.{first_value, found_of}
 use Rattle.shop_words.specs.declared.options.Refusal.{Refusal}
 use Rattle.shop_words.specs.Commands.{IsCommand}
 use Rattle.shop_words.proofs.Commands.{first-named, passed, texts}
-use Rattle.shop_words.proofs.Sessions.{chosen-read, command-words, drive-kind, none-chosen, none-read, race-kind, session-kind}
+use Rattle.shop_words.proofs.Sessions.{chosen-read, command-words, drive-kind, gateway-kind, none-chosen, none-read, race-kind, session-kind}
 use Rattle.shop_words.proofs.command.read_command.Goals as goal
 
 pub returns-in_err-texts : goal.returns-in_err-texts
@@ -70,3 +70,16 @@ returns-in-race c =
     let are = ap texts c.as_slice-texts.ensures.value ∙ c.in_ok-texts.ensures.texts in
     none-chosen race-kind _ _ are (first-named _ _ _ _ are (omega arith) c.in-race.is-race)
     (first_value (found_of c.in_ok-found-in-race.found)) c.in_ok-found-in-race.ensures.values c.in-None-race_of.ensures.none
+
+-- ---- a gateway
+
+pub returns-in_err-options_of-in-gateway : goal.returns-in_err-options_of-in-gateway
+returns-in_err-options_of-in-gateway c =
+    let are = ap texts c.as_slice-texts.ensures.value ∙ c.in_ok-texts.ensures.texts in
+    passed (IsCommand c.args.words.now) c.from_residual-in_err-options_of-in-gateway.result c.in_err-options_of-in-gateway.field-0.0 c.from_residual-in_err-options_of-in-gateway.ensures.1
+    (λ bad. none-read gateway-kind _ _ are (first-named _ _ _ _ are (omega arith) c.in-gateway.is-gateway) (c.in_err-options_of-in-gateway.ensures.bad (ap (λ (r : Refusal). Err r) bad)))
+
+pub returns-in-gateway : goal.returns-in-gateway
+returns-in-gateway c =
+    let are = ap texts c.as_slice-texts.ensures.value ∙ c.in_ok-texts.ensures.texts in
+    chosen-read gateway-kind _ _ are (first-named _ _ _ _ are (omega arith) c.in-gateway.is-gateway) (first_value (found_of c.in_ok-options_of-in-gateway.field-0)) c.in_ok-options_of-in-gateway.ensures.values tt tt
