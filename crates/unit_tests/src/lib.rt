@@ -2,13 +2,19 @@
 #![tactic(auto)]
 
 #[cfg(test)]
+mod gateway_lines;
+#[cfg(test)]
 mod gateways;
 #[cfg(test)]
 mod kept_lists;
 #[cfg(test)]
+mod line_cases;
+#[cfg(test)]
 mod messages;
 #[cfg(test)]
 mod rankings;
+#[cfg(test)]
+mod served_links;
 #[cfg(test)]
 mod stocks;
 #[cfg(test)]

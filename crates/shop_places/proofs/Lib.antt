@@ -1,0 +1,3 @@
+pub mod cited
+mod Progress
+mod Steps
