@@ -2,6 +2,7 @@ pub mod Workers
 pub mod Posts
 pub mod WorkerView
 pub mod CallsView
+pub mod RestingView
 pub mod Seats
 pub mod Lists
 pub mod Fresh

@@ -1,1 +1,5 @@
+pub mod cited
+mod Calls
+mod Connections
+mod Stations
 mod Tasks
