@@ -16,6 +16,7 @@ pub mod Steps
 pub mod Meanings
 pub mod Stores
 pub mod Served
+pub mod Serving
 pub mod Connections
 pub mod Answering
 pub mod OneOrder

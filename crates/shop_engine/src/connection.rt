@@ -3,14 +3,13 @@ ghost use Rattle.std.specs.Prelude.{◌≡◌, ℕ, ◌≤◌, ◌<◌, [], ◌�
 ghost use Rattle.std.specs.Vec.{vec_len, vec_capacity};
 ghost use Rattle.shop_edges.specs.Causes.{Rose};
 ghost use Rattle.shop_http.specs.Requests.{asked};
-ghost use Rattle.shop_engine.specs.Answering.{GivesUpBy, Makes};
-ghost use Rattle.shop_engine.specs.Connections.{MakesRefusal, MessageAs, RefusalAs, turn_behind};
+ghost use Rattle.shop_engine.specs.Answering.{GivesUpBy, Makes, MessageBy};
+ghost use Rattle.shop_engine.specs.Connections.{MakesRefusal, RefusalAs};
 ghost use Rattle.shop_engine.specs.Failures.{RoseBy, failures};
-ghost use Rattle.shop_engine.specs.Served.{Served};
+ghost use Rattle.shop_engine.specs.Serving.{ServedBy};
 ghost use Rattle.shop_engine.specs.Stores.{AreFreshBy, Keeps};
-ghost use Rattle.shop_engine.specs.Workers.{standing};
 
-use crate::report::{Ended, Point, plain_point};
+use crate::report::{Ended, Point, Report, plain_point};
 use crate::worker::Worker;
 use shop_attempt::Store;
 use shop_edges::{Clock, Gateway, Sink, Source, write_all};
@@ -18,6 +17,7 @@ use shop_http::{Gather, Message, Next, next_message};
 use shop_model::Refusal;
 use shop_pages::Form;
 use shop_text::Memory;
+use std::alloc::Global;
 
 /// The most answers of a connection.
 const ANSWERS: usize = 1_000;
@@ -30,48 +30,48 @@ const CLOSING: Form = Form {
 
 /// Answers one message after another, until there is an end.
 pub(crate) fn serve_all<St: Store, S: Source, K: Sink, C: Clock, G: Gateway>(
+    alloc: Global,
     worker: &mut Worker<St>,
     source: &mut S,
     sink: &mut K,
     clock: &mut C,
     gateway: &mut G,
-    points: &mut Vec<Point>,
-) -> Ended
-    requires { points.old.items ≡ [] }
-    ensures served { Served (standing St.seat worker.old (C.readings clock.old) (G.answers gateway.old))
-        (standing St.seat worker.new (C.readings clock.new) (G.answers gateway.new))
-        (record { left = S.left source.old; held = K.held sink.old })
-        (record { left = S.left source.new; held = K.held sink.new })
-        result points.new.items }
+) -> Report
+    ensures served { ServedBy St.Store S.Source K.Sink C.Clock G.Gateway worker.old source.old sink.old clock.old gateway.old
+        worker.new source.new sink.new clock.new gateway.new result }
     ensures caller { worker.new.caller ≡ worker.old.caller }
     ensures marks { Keeps St.Store worker.old.store worker.new.store }
-    ensures read_fault { result ≡ Ended.ReadFault → Rose (S.faults source.old) (S.faults source.new) }
-    ensures write_fault { result ≡ Ended.WriteFault → Rose (K.faults sink.old) (K.faults sink.new) }
+    ensures read_fault { result.end ≡ Ended.ReadFault → Rose (S.faults source.old) (S.faults source.new) }
+    ensures write_fault { result.end ≡ Ended.WriteFault → Rose (K.faults sink.old) (K.faults sink.new) }
     ensures reads { S.faults source.old ≤ S.faults source.new }
     ensures writes { K.faults sink.old ≤ K.faults sink.new }
-    ensures fresh { AreFreshBy St.Store worker.new.store points.new.items }
-    ensures failures { RoseBy (G.faults gateway.old) (failures points.new.items) (G.faults gateway.new) }
+    ensures fresh { AreFreshBy St.Store worker.new.store result.points }
+    ensures failures { RoseBy (G.faults gateway.old) (failures result.points) (G.faults gateway.new) }
     ensures asks { G.faults gateway.old ≤ G.faults gateway.new }
 {
-    let Ok(mut gather) = Gather::new(worker.alloc()) else {
-        return Ended::Memory;
+    let mut points = Vec::new(alloc);
+    let Ok(mut gather) = Gather::new(alloc) else {
+        return Report::of(Ended::Memory, points);
     };
     while points.len() < ANSWERS {
         let message = match next_message(source, &mut gather) {
             Next::Message(message) => message,
-            Next::End => return Ended::Closed,
-            Next::Cut => return Ended::Cut,
-            Next::Bad(refusal) => return refuse(worker, sink, points, refusal),
-            Next::ReadFault => return Ended::ReadFault,
-            Next::Memory => return Ended::Memory,
+            Next::End => return Report::of(Ended::Closed, points),
+            Next::Cut => return Report::of(Ended::Cut, points),
+            Next::Bad(refusal) => {
+                let end = refuse(worker, sink, &mut points, refusal);
+                return Report::of(end, points);
+            }
+            Next::ReadFault => return Report::of(Ended::ReadFault, points),
+            Next::Memory => return Report::of(Ended::Memory, points),
         };
-        let ended = serve_one(worker, sink, clock, gateway, points, &message);
+        let ended = serve_one(worker, sink, clock, gateway, &mut points, &message);
         if let Some(end) = ended {
-            return end;
+            return Report::of(end, points);
         }
         gather.reuse(message);
     }
-    Ended::Spent
+    Report::of(Ended::Spent, points)
 }
 
 /// Answers a message; the end of the connection, where it is one.
@@ -83,12 +83,8 @@ fn serve_one<St: Store, K: Sink, C: Clock, G: Gateway>(
     points: &mut Vec<Point>,
     message: &Message,
 ) -> Option<Ended>
-    ensures message { MessageAs (turn_behind points.old.items message.now)
-        (standing St.seat worker.old (C.readings clock.old) (G.answers gateway.old))
-        (standing St.seat worker.new (C.readings clock.new) (G.answers gateway.new))
-        (record { points = points.old.items; held = K.held sink.old })
-        (record { points = points.new.items; held = K.held sink.new })
-        result }
+    ensures message { MessageBy St.Store K.Sink C.Clock G.Gateway worker.old sink.old clock.old gateway.old points.old
+        worker.new sink.new clock.new gateway.new points.new message.now result }
     ensures caller { worker.new.caller ≡ worker.old.caller }
     ensures marks { Keeps St.Store worker.old.store worker.new.store }
     ensures write_fault { result ≡ Some Ended.WriteFault → Rose (K.faults sink.old) (K.faults sink.new) }

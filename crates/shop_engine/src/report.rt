@@ -92,3 +92,15 @@ pub struct Report {
     pub end: Ended,
     pub points: Listed<Point>,
 }
+
+impl Report {
+    /// The report of these points.
+    pub(crate) fn of(end: Ended, points: Vec<Point>) -> Report
+        ensures { result ≡ record { end = end; points = points.items } }
+    {
+        Report {
+            end,
+            points: Listed::from_vec(points),
+        }
+    }
+}

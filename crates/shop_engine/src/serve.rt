@@ -4,10 +4,9 @@ ghost use Rattle.shop_history.specs.Lawful.{IsLawful};
 ghost use Rattle.shop_engine.specs.Failures.{RoseBy, failures, failures_of};
 ghost use Rattle.shop_engine.specs.Lists.{AnswersFresh};
 ghost use Rattle.shop_engine.specs.Meanings.{AnsweredBy};
-ghost use Rattle.shop_engine.specs.Served.{Served};
+ghost use Rattle.shop_engine.specs.Serving.{ServedBy};
 ghost use Rattle.shop_engine.specs.Stores.{AreFreshBy, Keeps};
 ghost use Rattle.shop_engine.specs.Undisturbed.{AreWhole, IsUndisturbed};
-ghost use Rattle.shop_engine.specs.Workers.{standing};
 
 use crate::connection::serve_all;
 use crate::report::{Answered, Ended, Report};
@@ -16,7 +15,6 @@ use shop_attempt::Store;
 use shop_edges::{Clock, Gateway, Sink, Source};
 use shop_http::Message;
 use shop_pages::Reply;
-use shop_text::Listed;
 use std::alloc::Global;
 use std::mem;
 
@@ -81,11 +79,8 @@ pub fn serve_connection<St: Store, S: Source, K: Sink, C: Clock, G: Gateway>(
     clock: &mut C,
     gateway: &mut G,
 ) -> Report
-    ensures served { Served (standing St.seat worker.old (C.readings clock.old) (G.answers gateway.old))
-        (standing St.seat worker.new (C.readings clock.new) (G.answers gateway.new))
-        (record { left = S.left source.old; held = K.held sink.old })
-        (record { left = S.left source.new; held = K.held sink.new })
-        result.end result.points }
+    ensures served { ServedBy St.Store S.Source K.Sink C.Clock G.Gateway worker.old source.old sink.old clock.old gateway.old
+        worker.new source.new sink.new clock.new gateway.new result }
     ensures complete { IsUndisturbed (St.seat worker.old.store) (St.seat worker.new.store)
         → ¬ (Rose (G.faults gateway.old) (G.faults gateway.new)) → AreWhole result.points }
     ensures caller { worker.new.caller ≡ worker.old.caller }
@@ -99,12 +94,8 @@ pub fn serve_connection<St: Store, S: Source, K: Sink, C: Clock, G: Gateway>(
     ensures failures { RoseBy (G.faults gateway.old) (failures result.points) (G.faults gateway.new) }
     ensures asks { G.faults gateway.old ≤ G.faults gateway.new }
 {
-    let mut points = Vec::new(alloc);
-    let end = serve_all(worker, source, sink, clock, gateway, &mut points);
+    let report = serve_all(alloc, worker, source, sink, clock, gateway);
     // Wherever it ended, the seat of the worker is one.
     let _ = &worker.store;
-    Report {
-        end,
-        points: Listed::from_vec(points),
-    }
+    report
 }

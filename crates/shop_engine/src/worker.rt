@@ -142,11 +142,6 @@ impl<St: Store> Worker<St> {
         })
     }
 
-    /// Where it takes its memory from.
-    pub(crate) fn alloc(&self) -> Global {
-        self.alloc
-    }
-
     /// The store.
     pub fn into_store(self) -> St
         ensures { result ≡ self.store }

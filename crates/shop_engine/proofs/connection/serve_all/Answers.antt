@@ -9,44 +9,53 @@ use Rattle.shop_engine.specs.Lists.{IsFreshPoint}
 use Rattle.shop_engine.proofs.connection.serve_all.Goals as goal
 
 pub loop-source-init : goal.loop-source-init
-loop-source-init g c = record {
-  so_far = nothing_met _ _ _ _ (ap (λ (v : Gathering). v.held) c.in-Ok.ensures) c.requires;
-  ended = ap (λ (v : Gathering). v.ended) c.in-Ok.ensures;
-  few = omega (arith, ap length c.requires);
-  caller = refl;
-  reads = omega arith;
-  writes = omega arith;
-  marks = keeps_self _ _;
-  fresh = subst (All (IsFreshPoint _ _)) (sym c.requires) (All-nil (IsFreshPoint _ _));
-  failures = rw c.requires (omega arith);
-  asks = omega arith;
-}
+loop-source-init g c =
+    let none = c.new-points.ensures.items in
+    record {
+      so_far = nothing_met _ _ _ _ (ap (λ (v : Gathering). v.held) c.in-Ok.ensures) none;
+      ended = ap (λ (v : Gathering). v.ended) c.in-Ok.ensures;
+      few = omega (arith, ap length none);
+      caller = refl;
+      reads = omega arith;
+      writes = omega arith;
+      marks = keeps_self _ _;
+      fresh = subst (All (IsFreshPoint _ _)) (sym none) (All-nil (IsFreshPoint _ _));
+      failures = rw none (omega arith);
+      asks = omega arith;
+    }
 
 pub returns-in_default-clause-served : goal.returns-in_default-clause-served
-returns-in_default-clause-served g c = Served-memory _ _ _ _ [] _ (nothing_met _ _ [] _ refl c.requires) _ _ [] (omega (arith, ap length c.requires)) (Consumes-nothing _) (inl refl)
+returns-in_default-clause-served g c =
+    rw c.of.ensures (Served-memory _ _ _ _ [] _ (nothing_met _ _ [] _ refl c.new-points.ensures.items) _ _ [] (omega (arith, ap length c.new-points.ensures.items)) (Consumes-nothing _) (inl refl))
 
 pub returns-in-End-clause-served : goal.returns-in-End-clause-served
-returns-in-End-clause-served g c = Served-closed _ _ _ _ _ _ c.loop-source.invariant.so_far _ _ (omega (arith, c.len.ensures, c.loop-source-test.true)) c.in-End.ensures.next
+returns-in-End-clause-served g c =
+    rw c.of-in-End.ensures (Served-closed _ _ _ _ _ _ c.loop-source.invariant.so_far _ _ (omega (arith, c.len.ensures, c.loop-source-test.true)) c.in-End.ensures.next)
 
 pub returns-in-Cut-clause-served : goal.returns-in-Cut-clause-served
-returns-in-Cut-clause-served g c = Served-inside _ _ _ _ _ _ c.loop-source.invariant.so_far _ _ (omega (arith, c.len.ensures, c.loop-source-test.true)) c.in-Cut.ensures.next
+returns-in-Cut-clause-served g c =
+    rw c.of-in-Cut.ensures (Served-inside _ _ _ _ _ _ c.loop-source.invariant.so_far _ _ (omega (arith, c.len.ensures, c.loop-source-test.true)) c.in-Cut.ensures.next)
 
 pub returns-in-Bad-clause-served : goal.returns-in-Bad-clause-served
 returns-in-Bad-clause-served g c =
-    Served-refusal _ _ _ _ _ _ c.loop-source.invariant.so_far c.refuse.result _ _ _ _ _ _ (omega (arith, c.len.ensures, c.loop-source-test.true)) c.in-Bad.ensures.next c.refuse.ensures.told
-    (still_standing g.St.Store.seat c.loop-source.worker c.refuse.new.worker _ _ c.refuse.ensures.worker)
+    rw c.of-in-Bad.ensures
+    (Served-refusal _ _ _ _ _ _ c.loop-source.invariant.so_far c.refuse-end.result _ _ _ _ _ _ (omega (arith, c.len.ensures, c.loop-source-test.true)) c.in-Bad.ensures.next c.refuse-end.ensures.told
+    (still_standing g.St.Store.seat c.loop-source.worker c.refuse-end.new.worker _ _ c.refuse-end.ensures.worker))
 
 pub returns-in-ReadFault-clause-served : goal.returns-in-ReadFault-clause-served
-returns-in-ReadFault-clause-served g c = Served-broken _ _ _ _ _ _ c.loop-source.invariant.so_far _ _ (omega (arith, c.len.ensures, c.loop-source-test.true)) c.in-ReadFault.ensures.next
+returns-in-ReadFault-clause-served g c =
+    rw c.of-in-ReadFault.ensures (Served-broken _ _ _ _ _ _ c.loop-source.invariant.so_far _ _ (omega (arith, c.len.ensures, c.loop-source-test.true)) c.in-ReadFault.ensures.next)
 
 pub returns-in-Memory-clause-served : goal.returns-in-Memory-clause-served
 returns-in-Memory-clause-served g c =
-    Served-memory _ _ _ _ _ _ c.loop-source.invariant.so_far _ _ c.in-Memory.ensures.next.piece (omega (arith, c.len.ensures, c.loop-source-test.true)) c.in-Memory.ensures.next.taken (inl refl)
+    rw c.of-in-Memory.ensures
+    (Served-memory _ _ _ _ _ _ c.loop-source.invariant.so_far _ _ c.in-Memory.ensures.next.piece (omega (arith, c.len.ensures, c.loop-source-test.true)) c.in-Memory.ensures.next.taken (inl refl))
 
 pub returns-in-Some-clause-served : goal.returns-in-Some-clause-served
 returns-in-Some-clause-served g c =
-    Served-message c.in-Some.end _ _ _ _ _ _ _ _ _ _ _ _ _ c.loop-source.invariant.so_far (omega (arith, c.len.ensures, c.loop-source-test.true))
-    refl c.in-Message.ensures.next c.in-Some.ensures.message
+    rw c.of-in-Some.ensures
+    (Served-message c.in-Some.end _ _ _ _ _ _ _ _ _ _ _ _ _ c.loop-source.invariant.so_far (omega (arith, c.len.ensures, c.loop-source-test.true))
+    refl c.in-Message.ensures.next c.in-Some.ensures.message)
 
 pub loop-source-preserved : goal.loop-source-preserved
 loop-source-preserved g c =
@@ -66,4 +75,4 @@ loop-source-preserved g c =
 
 pub returns-clause-served : goal.returns-clause-served
 returns-clause-served g c =
-    Served-spent _ _ _ _ _ _ c.loop-source.invariant.so_far _ [] (omega (arith, c.len.ensures, c.loop-source.invariant.few, c.loop-source-test.false)) (Consumes-nothing _)
+    rw c.of-2.ensures (Served-spent _ _ _ _ _ _ c.loop-source.invariant.so_far _ [] (omega (arith, c.len.ensures, c.loop-source.invariant.few, c.loop-source-test.false)) (Consumes-nothing _))

@@ -1,6 +1,5 @@
-use Rattle.std.proofs.Common.{subst, sym}
+use Rattle.std.proofs.Common.{subst}
 use Rattle.shop_history.specs.Lawful.{IsLawful}
-use Rattle.shop_engine.specs.Undisturbed.{AreWhole}
 use Rattle.shop_engine.specs.Workers.{WorkerState}
 use Rattle.shop_engine.proofs.Steps.{lawful}
 use Rattle.shop_engine.proofs.Undisturbed.{all_whole}
@@ -13,5 +12,5 @@ returns-clause-lawful g c =
 
 pub returns-clause-complete : goal.returns-clause-complete
 returns-clause-complete g c quiet kept =
-    let served = c.serve_all-end.ensures in
-    subst AreWhole (sym c.from_vec.ensures) (all_whole _ _ _ _ c.serve_all-end.result _ _ _ served.served quiet served.failures kept)
+    let served = c.serve_all-report.ensures in
+    all_whole _ _ _ _ c.serve_all-report.result.end _ _ _ served.served quiet served.failures kept
