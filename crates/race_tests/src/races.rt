@@ -1,7 +1,8 @@
 //! Races: what they print, and what is told where they don't end well.
-use shop_app::{Status, run_shared};
-use shop_edges::{BytesOut, ListClock, Spawner, Way};
-use shop_text::{Listed, Memory, Text};
+use crate::runs::{Outcome, is_told, run, run_into};
+use shop_app::Status;
+use shop_edges::{BytesOut, NoListener, Way};
+use shop_text::{Listed, Memory};
 use std::alloc::Global;
 use std::sync::Wait;
 use std::test::Fail;
@@ -10,77 +11,14 @@ use std::thread::Threads;
 /// Four browsers that mostly order, a hundred requests each.
 const ORDERING: &str = "race --workers 4 --steps 100 --mix ordering";
 
-/// What came of words: the status, how often a job was started and how often not, and what was printed and
-/// told.
-#[derive(Drop)]
-struct Outcome {
-    status: Status,
-    starts: (u64, u64),
-    printed: BytesOut,
-    told: BytesOut,
-}
-
-/// The words between blanks.
-fn words_of(alloc: Global, line: &str) -> Result<Vec<Text>, Memory> {
-    let mut words = Vec::new(alloc);
-    for word in line.split_whitespace() {
-        words.push(Text::copy(alloc, word.as_bytes())?)?;
-    }
-    Ok(words)
-}
-
-/// What comes of words, where the jobs are run in this way, and this sink takes what is printed.
-fn run_into<R: Threads + Wait + Clone + Drop + Send + 'static>(
-    rt: &R,
-    alloc: Global,
-    line: &str,
-    way: Way,
-    printed: BytesOut,
-) -> Result<Outcome, Memory> {
-    let words = words_of(alloc, line)?;
-    let clock = ListClock::new(alloc, Listed::from_vec(vec![in alloc; 1_000]?))?;
-    let mut spawner = Spawner::new(way);
-    let mut printed = printed;
-    let mut told = BytesOut::new(alloc, 1_000, Listed::new(alloc));
-    let status = run_shared(
-        rt,
-        alloc,
-        &words,
-        &mut spawner,
-        &mut printed,
-        &mut told,
-        &clock,
-    );
-    Ok(Outcome {
-        status,
-        starts: (spawner.starts(), spawner.faults()),
-        printed,
-        told,
-    })
-}
-
-/// What comes of words, where the jobs are run in this way.
-fn run<R: Threads + Wait + Clone + Drop + Send + 'static>(
+/// What comes of words that open no port, where the jobs are run in this way.
+fn run_race<R: Threads + Wait + Clone + Drop + Send + 'static>(
     rt: &R,
     alloc: Global,
     line: &str,
     way: Way,
 ) -> Result<Outcome, Memory> {
-    let sink = BytesOut::new(alloc, 1_000, Listed::new(alloc));
-    run_into(rt, alloc, line, way, sink)
-}
-
-/// Whether this is what came, printed and told.
-fn is_told(
-    outcome: &Outcome,
-    status: Status,
-    starts: (u64, u64),
-    printed: &str,
-    told: &str,
-) -> bool {
-    (outcome.status, outcome.starts) == (status, starts)
-        && outcome.printed.bytes() == printed.as_bytes()
-        && outcome.told.bytes() == told.as_bytes()
+    run(rt, alloc, line, way, &mut NoListener::new())
 }
 
 /// The number of entries that was printed, and the sum of those of the callers.
@@ -116,7 +54,7 @@ fn a_worker_that_is_not_started_is_told_and_nothing_is_printed(
     let alloc = rt.alloc();
     let second = Listed::from_vec(vec![in alloc; 2]?);
     let line = "race --workers 2 --steps 1";
-    let outcome = run(&rt, alloc, line, Way::Failing(second))?;
+    let outcome = run_race(&rt, alloc, line, Way::Failing(second))?;
     assert!(rt;
         is_told(
             &outcome,
@@ -132,7 +70,7 @@ fn a_worker_that_is_not_started_is_told_and_nothing_is_printed(
 
 #[test]
 fn two_workers_race_where_no_number_is_given(rt: HostRuntime) -> Result<(), Fail> {
-    let outcome = run(&rt, rt.alloc(), "race --steps 1", Way::AtOnce)?;
+    let outcome = run_race(&rt, rt.alloc(), "race --steps 1", Way::AtOnce)?;
     let lines = "entries 0\norders 0\ncents 0\ncaller 1 0\ncaller 2 0\n";
     assert!(rt; is_told(&outcome, Status::Done, (2, 0), lines, ""));
     assert!(rt; outcome.status.code() == 0);
@@ -157,7 +95,7 @@ fn is_printed<R: Threads + Wait + Clone + Drop + Send + 'static>(
     line: &str,
     lines: &str,
 ) -> Result<bool, Memory> {
-    let outcome = run(rt, alloc, line, Way::AtOnce)?;
+    let outcome = run_race(rt, alloc, line, Way::AtOnce)?;
     Ok(is_told(&outcome, Status::Done, (4, 0), lines, ""))
 }
 
@@ -177,7 +115,7 @@ fn a_race_goes_on_behind_the_last_change_of_its_log(rt: HostRuntime) -> Result<(
 
 #[test]
 fn each_entry_of_a_race_in_threads_is_of_a_caller(rt: HostRuntime) -> Result<(), Fail> {
-    let outcome = run(&rt, rt.alloc(), ORDERING, Way::Threads)?;
+    let outcome = run_race(&rt, rt.alloc(), ORDERING, Way::Threads)?;
     assert!(rt; (outcome.status, outcome.starts) == (Status::Done, (4, 0)));
     assert!(rt; outcome.told.bytes().is_empty());
     assert!(rt; has_entries_of_callers(outcome.printed.bytes()));
@@ -190,7 +128,7 @@ fn is_refused<R: Threads + Wait + Clone + Drop + Send + 'static>(
     alloc: Global,
     line: &str,
 ) -> Result<bool, Memory> {
-    let outcome = run(rt, alloc, line, Way::AtOnce)?;
+    let outcome = run_race(rt, alloc, line, Way::AtOnce)?;
     Ok(is_told(&outcome, Status::BadWords, (0, 0), "", "tpcw: bad words\n"))
 }
 
@@ -209,7 +147,14 @@ fn a_sink_that_fails_holds_a_front_of_the_lines(rt: HostRuntime) -> Result<(), F
     let alloc = rt.alloc();
     let third = Listed::from_vec(vec![in alloc; 3]?);
     let sink = BytesOut::new(alloc, 8, third);
-    let outcome = run_into(&rt, alloc, "race --steps 1", Way::AtOnce, sink)?;
+    let outcome = run_into(
+        &rt,
+        alloc,
+        "race --steps 1",
+        Way::AtOnce,
+        &mut NoListener::new(),
+        sink,
+    )?;
     let lines = "entries 0\norders";
     assert!(rt;
         is_told(

@@ -8,11 +8,13 @@ use Rattle.shop_history.proofs.cited.GoodTables.{room_less}
 use Rattle.shop_book.specs.Openings.{IsOpening, most_entries}
 use Rattle.shop_text.specs.Numbers.{number_of}
 use Rattle.shop_words.specs.declared.command.Race.{Race}
+use Rattle.shop_words.specs.declared.command.Serve.{Serve}
 use Rattle.shop_words.specs.declared.command.Session.{Session}
-use Rattle.shop_words.specs.Commands.{Chooses, IsRace}
+use Rattle.shop_words.specs.Commands.{Chooses, IsRace, IsServe}
 use Rattle.shop_words.specs.Options.{IsChosen}
-use Rattle.shop_words.specs.Values.{limit_of, steps_of, within, workers_of}
+use Rattle.shop_words.specs.Values.{connections_of, limit_of, steps_of, within, workers_of}
 use Rattle.shop_app.specs.Racing.{IsWithin}
+use Rattle.shop_app.specs.Serving.{IsServable}
 
 within_is : (low high : ℕ) (o : Option ℕ) (n : ℕ) → within low high o ≡ Some n → (low ≤ n) × (n ≤ high)
 within_is low high None n is = absurd cc
@@ -45,6 +47,18 @@ within_words words race is =
     (λ (given : (text : List ℕ) × (steps_of text ≡ Some race.steps)). (within_is 1 100_000 (number_of given.0) race.steps given.1).1)
     (chosen_is steps_of 100 _ race.steps is.chooses.workload.steps) in
     record { one = workers.0; workers = workers.1; steps = steps; limit = limit_chosen _ race.shop is.chooses.workload.shop }
+
+pub servable_words : (words : List (List ℕ)) (serve : Serve) → IsServe words serve → IsServable serve
+servable_words words serve is =
+    let workers : (1 ≤ serve.workers) × (serve.workers ≤ 16) = ⊎_elim
+    (λ (four : serve.workers ≡ 4). (omega (arith, four), omega (arith, four)))
+    (λ (given : (text : List ℕ) × (workers_of text ≡ Some serve.workers)). within_is 1 16 (number_of given.0) serve.workers given.1)
+    (chosen_is workers_of 4 _ serve.workers is.chooses.workers) in
+    let connections : serve.connections ≤ 1_000_000 = ⊎_elim
+    (λ (one : serve.connections ≡ 1). omega (arith, one))
+    (λ (given : (text : List ℕ) × (connections_of text ≡ Some serve.connections)). (within_is 1 1_000_000 (number_of given.0) serve.connections given.1).1)
+    (chosen_is connections_of 1 _ serve.connections is.chooses.connections) in
+    record { one = workers.0; workers = workers.1; connections = connections; limit = limit_chosen _ serve.shop is.chooses.shop }
 
 -- so a book opens over a population
 pub opens_at : (t : Tables) (limit : ℕ) → limit ≤ most_entries → Sound t → Room t 1_000_001 → t.born_orders ≡ length t.orders → IsOpening (record { tables = t; limit = limit })

@@ -1,5 +1,5 @@
 -- Over a shop that one caller has, each turn of a browser is settled at once, and the log is what the changes made.
-use Rattle.std.proofs.Common.{◌≡◌, false, true, ℕ, ◌≤◌, List, [], ◌∷◌, ◌++◌, map, Option, Some, Result, Ok, Err, OnErr, ◌⊎◌, inl, inr, arith, refl, sym, subst, ◌∙◌, ap}
+use Rattle.std.proofs.Common.{◌≡◌, ℕ, ◌≤◌, List, [], ◌∷◌, ◌++◌, map, Option, Some, Result, Ok, Err, OnErr, ◌⊎◌, inl, inr, arith, refl, sym, subst, ◌∙◌, ap}
 use Rattle.std.specs.Prelude.{All, IsErr, MatchResult, flat_map}
 use Rattle.std.proofs.lemmas.List.{map-append}
 use Rattle.std.proofs.lemmas.List.Elements.{All-cons, All-nil}

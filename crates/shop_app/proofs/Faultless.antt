@@ -1,17 +1,15 @@
 -- A run whose counts of faults did not rise tells no fault.
-use Rattle.std.proofs.Common.{◌≡◌, ◌⊎◌, inl, inr, ℕ, List, Option, refl}
+use Rattle.std.proofs.Common.{◌≡◌, inl, inr, ℕ, List, refl}
 use Rattle.std.specs.Prelude.{◌≢◌}
 use Rattle.shop_edges.specs.Causes.{Rose}
 use Rattle.shop_gateway.specs.declared.served.Served.{Served}
 use Rattle.shop_gateway.specs.declared.served.Served.TheVariants as ends
 use Rattle.shop_words.specs.declared.command.Command.{Command}
 use Rattle.shop_words.specs.declared.command.Command.TheVariants as command
-use Rattle.shop_words.specs.declared.command.Race.{Race}
 use Rattle.shop_app.specs.declared.status.Status.{Status}
 use Rattle.shop_app.specs.declared.status.Status.TheVariants as status
 use Rattle.shop_app.specs.Outside.{Run}
 use Rattle.shop_app.specs.Paying.{status_of_lines}
-use Rattle.shop_app.specs.Racing.{IsDone, IsRaced, IsSharedRun, Shared}
 use Rattle.shop_app.specs.Runs.{IsRun, Obeys}
 use Rattle.shop_app.specs.Statuses.{IsFaultless}
 
@@ -31,6 +29,7 @@ obeyed (command.Session session) old new status.Unserved good did no_read no_wri
 obeyed (command.Session session) old new status.BadWords good did no_read no_write = absurd (good refl)
 obeyed (command.Session session) old new status.ReadFault good did no_read no_write = absurd (no_read did.0)
 obeyed (command.Session session) old new status.WriteFault good did no_read no_write = absurd (no_write did.0)
+obeyed (command.Session session) old new status.NetworkFault good did no_read no_write = absurd did
 obeyed (command.Session session) old new status.WorkerFault good did no_read no_write = absurd did
 obeyed (command.Session session) old new status.Memory good did no_read no_write = inr (inr refl)
 obeyed (command.Drive drive) old new status.Done good did no_read no_write = inl refl
@@ -38,27 +37,13 @@ obeyed (command.Drive drive) old new status.Unserved good did no_read no_write =
 obeyed (command.Drive drive) old new status.BadWords good did no_read no_write = absurd (good refl)
 obeyed (command.Drive drive) old new status.ReadFault good did no_read no_write = absurd did
 obeyed (command.Drive drive) old new status.WriteFault good did no_read no_write = absurd (no_write did.4)
+obeyed (command.Drive drive) old new status.NetworkFault good did no_read no_write = absurd did
 obeyed (command.Drive drive) old new status.WorkerFault good did no_read no_write = absurd did
 obeyed (command.Drive drive) old new status.Memory good did no_read no_write = inr (inr refl)
 obeyed (command.Race race) old new outcome good did no_read no_write = absurd did
+obeyed (command.Serve serve) old new outcome good did no_read no_write = absurd did
 obeyed command.Gateway old new outcome good did no_read no_write = let p = did.pays in paid p.end outcome p.status_is (λ e. no_read (p.read_fault e)) (λ e. no_write (p.write_fault e))
 
 pub faultless : (words : List (List ℕ)) (old new : Run) (outcome : Status) → outcome ≢ status.BadWords → IsRun words old new outcome → (Rose old.reads new.reads → ⊥) → (Rose old.writes new.writes → ⊥) → IsFaultless outcome
 faultless words old new outcome good (inl none) no_read no_write = inr (inr none.0)
 faultless words old new outcome good (inr (given, is, did)) no_read no_write = obeyed given old new outcome good did no_read no_write
-
--- what came of a race
-raced : (race : Race) (clock : Option (List ℕ)) (old new : Shared) (outcome : Status) → outcome ≢ status.BadWords → IsRaced race clock old new outcome
-    → (Rose old.spawning.faults new.spawning.faults → ⊥) → (Rose old.writes new.writes → ⊥) → IsDone outcome
-raced race clock old new status.Done good did no_start no_write = inl refl
-raced race clock old new status.Unserved good did no_start no_write = absurd did
-raced race clock old new status.BadWords good did no_start no_write = absurd (good refl)
-raced race clock old new status.ReadFault good did no_start no_write = absurd did
-raced race clock old new status.WriteFault good did no_start no_write = absurd (no_write did.4)
-raced race clock old new status.WorkerFault good did no_start no_write = absurd (no_start did.0)
-raced race clock old new status.Memory good did no_start no_write = inr refl
-
-pub all_done : (words : List (List ℕ)) (clock : Option (List ℕ)) (old new : Shared) (outcome : Status) → outcome ≢ status.BadWords → IsSharedRun words clock old new outcome
-    → (Rose old.spawning.faults new.spawning.faults → ⊥) → (Rose old.writes new.writes → ⊥) → IsDone outcome
-all_done words clock old new outcome good (inl none) no_start no_write = inr none.0
-all_done words clock old new outcome good (inr (race, is, did)) no_start no_write = raced race clock old new outcome good did no_start no_write

@@ -7,6 +7,10 @@ pub mod Summaries
 pub mod Driving
 pub mod Noted
 pub mod Meanings
+pub mod NewShops
+pub mod Shared
 pub mod Racing
+pub mod Serving
 pub mod RaceEnds
 pub mod Runs
+pub mod SharedRuns

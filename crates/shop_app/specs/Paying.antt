@@ -1,5 +1,5 @@
 -- What the command `gateway` does.
-use Rattle.std.specs.Prelude.{◌≡◌, ℕ, List, [], Option}
+use Rattle.std.specs.Prelude.{◌≡◌, ℕ, []}
 use Rattle.shop_edges.specs.Causes.{Rose}
 use Rattle.shop_edges.specs.declared.sink.Sink as sink
 use Rattle.shop_edges.specs.declared.source.Source as source

@@ -1,42 +1,28 @@
 -- What a race does, by its status.
-use Rattle.std.specs.Prelude.{◌≡◌, ◌⊎◌, ℕ, ◌+◌, ◌<◌, ◌≤◌, get_or, List, [], ◌∷◌, ◌++◌, length, flat_map, All, Option, Some, None}
+use Rattle.std.specs.Prelude.{◌≡◌, ℕ, ◌+◌, ◌≤◌, List, [], ◌∷◌, ◌++◌, flat_map, All, Option, Some}
 use Rattle.std.specs.List.{AllZip}
-use Rattle.std.specs.Io.KnownBytes.{Appends}
-use Rattle.atomic_table.specs.Seated.{TableId}
 use Rattle.shop_log.specs.Histories.{Extends}
-use Rattle.shop_edges.specs.declared.sink.Sink.{Ghosts}
-use Rattle.shop_edges.specs.Causes.{Rose}
-use Rattle.shop_edges.specs.Starts.{Spawning}
-use Rattle.shop_edges.specs.Streams.{AppendsFront}
 use Rattle.shop_gateway.specs.Verdicts.{verdict}
 use Rattle.shop_model.specs.population.Population.{populated}
 use Rattle.shop_history.specs.declared.acts.Entry.{Entry}
 use Rattle.shop_history.specs.Lawful.{IsLawful}
 use Rattle.shop_history.specs.Logs.{entries_of}
-use Rattle.shop_attempt.specs.Seats.{Seat, IsSeat}
 use Rattle.shop_book.specs.Books.{BookValue}
 use Rattle.shop_book.specs.Openings.{most_entries}
-use Rattle.shop_turn.specs.Desks.{DeskValue, seat_of}
-use Rattle.shop_turn.specs.Shops.{Opens, new_desk}
+use Rattle.shop_turn.specs.Desks.{DeskValue}
+use Rattle.shop_turn.specs.Shops.{Opens}
 use Rattle.shop_browsers.specs.Browsers.{new_browser}
 use Rattle.shop_engine.specs.Failures.{failures}
 use Rattle.shop_engine.specs.Fresh.{IsFreshIn}
-use Rattle.shop_engine.specs.Workers.{Caller, at_first}
 use Rattle.shop_drive.specs.declared.tally.Tally.{Tally}
 use Rattle.shop_drive.specs.Drives.{Drove, greatest_moment, points_of}
 use Rattle.shop_drive.specs.Turns.{Stage}
-use Rattle.shop_tasks.specs.Counts.{counted}
 use Rattle.shop_tasks.specs.TaskValues.{TaskValue}
 use Rattle.shop_words.specs.declared.command.Race.{Race}
-use Rattle.shop_words.specs.declared.command.Session.{Session}
-use Rattle.shop_words.specs.Commands.{IsRace}
 use Rattle.shop_app.specs.declared.status.Status.{Status}
-use Rattle.shop_app.specs.declared.status.Status.TheVariants as status
+use Rattle.shop_app.specs.NewShops.{caller_of, first_standing_at, new_book}
+use Rattle.shop_app.specs.Shared.{Comes, Shared}
 use Rattle.shop_app.specs.Summaries.{race_lines}
-
--- the book of a shop that nobody has used
-unfoldable pub new_book : Session → BookValue
-new_book session = record { opening = record { tables = populated session.seed session.scale; limit = session.limit }; log = []; latest = 0 }
 
 -- as many workers, steps and changes as words may ask for
 pub record IsWithin (race : Race) : Type 0 where
@@ -45,30 +31,10 @@ pub record IsWithin (race : Race) : Type 0 where
   pub steps : race.steps ≤ 100_000
   pub limit : race.shop.limit ≤ most_entries
 
--- a caller of the shop that the words choose
-abbrev pub caller_of : Session → ℕ → Caller
-caller_of session number = record { number = number; seed = session.seed; scale = session.scale }
-
--- the seat of a caller, at a desk that it has not used: over the population, with a log that is empty and may have as
--- many entries as the words say; others may come at any time, so that no latest stamp is known
-unfoldable pub first_seat_at : List ℕ → Session → ℕ → Seat
-first_seat_at shop session number = record {
-  shop = shop;
-  opening = populated session.seed session.scale;
-  limit = session.limit;
-  caller = number;
-  seen = [];
-  own = [];
-  calls = 0;
-  settles = 0;
-  greatest = 0;
-  latest = None;
-}
-
 -- where a caller's worker and its browser stand before the race
 abbrev pub first_stage_at : List ℕ → Race → ℕ → Option (List ℕ) → Stage
 first_stage_at shop race number clock = record {
-  worker = record { caller = caller_of race.shop number; progress = at_first; kept = []; seat = first_seat_at shop race.shop number; clock = clock; told = Some [] };
+  worker = first_standing_at shop race.shop number clock (Some []);
   browsers = new_browser race.shop.seed number race.mix race.shop.scale ∷ [];
   failures = 0;
 }
@@ -80,12 +46,6 @@ pub record IsFirstTask {C : Type 0} (readings : C → Option (List ℕ)) (race :
   pub readings_are : readings task.clock ≡ clock
   pub mix_is : task.mix ≡ race.mix
   pub steps_are : task.steps ≡ race.steps
-
--- the first desks of a new shop for so many callers
-pub record AreNewDesks (session : Session) (callers : ℕ) (desks : List DeskValue) : Type 0 where
-  pub table : TableId
-  pub at : (place : ℕ) (other : DeskValue) → place < length desks → get_or desks place other ≡ new_desk table (new_book session) callers (place + 1)
-  pub valid : All (λ desk. IsSeat (seat_of desk)) desks
 
 -- the tasks of the callers at these desks
 abbrev pub AreFirstTasks : {C : Type 0} → (C → Option (List ℕ)) → Race → Option (List ℕ) → List DeskValue → List (TaskValue C) → Type 0
@@ -123,36 +83,6 @@ pub record RacedTo (race : Race) (clock : Option (List ℕ)) (lines : List ℕ) 
       × (e.stamp ≤ greatest_moment (points_of (each number one most).drove.turns))) book.log
   pub printed : lines ≡ race_lines race.workers book
 
--- what a run over threads is run on: what the sink holds, how often it failed, and the spawner's counts
-pub record Shared : Type 0 where
-  pub held : Option (List ℕ)
-  pub writes : ℕ
-  pub spawning : Spawning
-
-abbrev pub shared : {K : Type 0} → Ghosts K → K → Spawning → Shared
-shared meaning sink spawner = record { held = meaning.held sink; writes = meaning.faults sink; spawning = spawner }
-
--- why there are no lines
-abbrev pub IsUnraced : Spawning → Spawning → Status → Type 0
-IsUnraced old new status.WorkerFault = Rose old.faults new.faults
-IsUnraced old new status.Memory = Unit {0}
-IsUnraced old new _ = ⊥
-
--- what the status of a race says; unless all browsers took their turns, nothing is written
+-- what the status of a race says
 abbrev pub IsRaced : Race → Option (List ℕ) → Shared → Shared → Status → Type 0
-IsRaced race clock old new status.Done = (lines : List ℕ) × RacedTo race clock lines × Appends old.held new.held lines
-    × (new.spawning.starts ≡ counted race.workers old.spawning.starts)
-IsRaced race clock old new status.WriteFault = (lines : List ℕ) × RacedTo race clock lines × AppendsFront old.held new.held lines
-    × (new.spawning.starts ≡ counted race.workers old.spawning.starts) × Rose old.writes new.writes
-IsRaced race clock old new status.WorkerFault = Rose old.spawning.faults new.spawning.faults × (new.held ≡ old.held)
-IsRaced race clock old new status.Memory = new.held ≡ old.held
-IsRaced race clock old new _ = ⊥
-
--- the words give a race, and this is what came of it, or memory ran out before they were read
-abbrev pub IsSharedRun : List (List ℕ) → Option (List ℕ) → Shared → Shared → Status → Type 0
-IsSharedRun words clock old new outcome =
-    ((outcome ≡ status.Memory) × (new ≡ old)) ⊎ ((race : Race) × IsRace words race × IsRaced race clock old new outcome)
-
--- a run of several callers: all was served, or memory ran out
-abbrev pub IsDone : Status → Type 0
-IsDone outcome = (outcome ≡ status.Done) ⊎ (outcome ≡ status.Memory)
+IsRaced race clock = Comes (RacedTo race clock) race.workers ⊥

@@ -16,6 +16,7 @@ abbrev pub Obeys : Command → Run → Run → Status → Type 0
 Obeys (command.Session session) old new outcome = IsSession session old new outcome
 Obeys (command.Drive drive) old new outcome = IsDriven drive old new outcome
 Obeys (command.Race race) old new outcome = ⊥
+Obeys (command.Serve serve) old new outcome = ⊥
 Obeys command.Gateway old new outcome = IsPaying old new outcome
 
 -- the words give a command of one caller, and this is what came of it, or memory ran out before they were read

@@ -98,6 +98,7 @@ IsSession session old new status.Unserved =
     ServedTo session old new ended.Cut ⊎ ((number : ℕ) × ServedTo session old new (ended.Refused number))
     ⊎ ServedTo session old new ended.Spent
 IsSession session old new status.BadWords = ⊥
+IsSession session old new status.NetworkFault = ⊥
 IsSession session old new status.WorkerFault = ⊥
 IsSession session old new status.ReadFault = Rose old.reads new.reads × ServedTo session old new ended.ReadFault
 IsSession session old new status.WriteFault = Rose old.writes new.writes × ServedTo session old new ended.WriteFault

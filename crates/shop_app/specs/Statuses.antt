@@ -11,6 +11,7 @@ exit_code status.Unserved = 1
 exit_code status.BadWords = 2
 exit_code status.ReadFault = 3
 exit_code status.WriteFault = 4
+exit_code status.NetworkFault = 5
 exit_code status.WorkerFault = 6
 exit_code status.Memory = 7
 
@@ -21,6 +22,7 @@ fault_line status.Unserved = codes "tpcw: input cut or refused\n"
 fault_line status.BadWords = codes "tpcw: bad words\n"
 fault_line status.ReadFault = codes "tpcw: read fault\n"
 fault_line status.WriteFault = codes "tpcw: write fault\n"
+fault_line status.NetworkFault = codes "tpcw: network fault\n"
 fault_line status.WorkerFault = codes "tpcw: worker fault\n"
 fault_line status.Memory = codes "tpcw: out of memory\n"
 

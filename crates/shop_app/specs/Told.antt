@@ -8,13 +8,14 @@ use Rattle.shop_words.specs.declared.command.Command.TheVariants as command
 use Rattle.shop_app.specs.declared.status.Status.{Status}
 use Rattle.shop_app.specs.Statuses.{fault_line}
 
--- several callers serve the words: the first of them is `race`
+-- several callers serve the words: the first of them is `race` or `serve`
 abbrev pub IsShared : List (List ℕ) → Type 0
-IsShared words = slice_get words 0 ≡ Some (codes "race")
+IsShared words = (slice_get words 0 ≡ Some (codes "race")) ⊎ (slice_get words 0 ≡ Some (codes "serve"))
 
 -- a command of several callers
 abbrev pub IsForSeveral : Command → Type 0
 IsForSeveral (command.Race race) = Unit {0}
+IsForSeveral (command.Serve serve) = Unit {0}
 IsForSeveral _ = ⊥
 
 -- the line of a status stands on the faults sink, or that sink failed, and a front of the line stands there

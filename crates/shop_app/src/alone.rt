@@ -78,7 +78,7 @@ fn run<S: Source, K: Sink, C: Clock, G: Gateway>(
         }
         Parsed::Good(Command::Drive(asked)) => drive_browsers(alloc, asked, sink, clock, gateway),
         Parsed::Good(Command::Gateway) => answer_lines(alloc, source, sink),
-        Parsed::Good(Command::Race(_)) | Parsed::Bad => Status::BadWords,
+        Parsed::Good(Command::Race(_) | Command::Serve(_)) | Parsed::Bad => Status::BadWords,
         Parsed::Memory => Status::Memory,
     }
 }

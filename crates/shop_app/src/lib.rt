@@ -5,7 +5,9 @@ mod alone;
 mod driven;
 mod gateway;
 mod raced;
+mod served;
 mod shared;
+mod shops;
 mod status;
 mod summary;
 

@@ -1,49 +1,27 @@
 //! The command `race`.
-ghost use Rattle.std.specs.Prelude.{◌≡◌, ◌≢◌, ◌+◌, ◌≤◌, length, IfOk, OnOk, IfErr};
+ghost use Rattle.std.specs.Prelude.{◌≡◌, ◌+◌, ◌≤◌, length, IfOk};
 ghost use Rattle.std.specs.Arc.{arc_value};
-ghost use Rattle.shop_book.specs.Openings.{most_entries};
 ghost use Rattle.shop_engine.specs.Posts.{IsPosted};
 ghost use Rattle.shop_model.specs.lists.Catalogues.{catalogue};
 ghost use Rattle.shop_model.specs.population.Population.{populated};
-ghost use Rattle.shop_tasks.specs.Counts.{counted};
 ghost use Rattle.shop_turn.specs.Desks.{seat_of};
-ghost use Rattle.shop_turn.specs.Shops.{Opens, most_callers};
 ghost use Rattle.shop_app.specs.RaceEnds.{TellsOfRan};
+ghost use Rattle.shop_app.specs.NewShops.{AreNewDesks, caller_of};
 ghost use Rattle.shop_app.specs.Racing as spec;
+ghost use Rattle.shop_app.specs.Shared.{Tells};
 
 use crate::Status;
-use crate::alone::index_of;
+use crate::shops::open_shop;
 use crate::summary::race_lines;
-use shop_book::Book;
-use shop_edges::{Clock, Sink, Spawner, write_all};
-use shop_populate::populate;
+use shop_edges::{Clock, Spawner};
 use shop_search::Index;
 use shop_tasks::{Errand, Ran, Task, race};
 use shop_text::{Memory, Text};
-use shop_turn::{Desk, Shop};
+use shop_turn::Desk;
 use shop_words::{Race, Session};
 use std::alloc::Global;
 use std::sync::{Arc, Wait};
 use std::thread::Threads;
-
-/// The desks of a new shop, and the index of its items.
-fn open_shop<R: Wait + Clone + Drop>(
-    rt: &R,
-    alloc: Global,
-    asked: Session,
-    callers: u32,
-) -> Result<(Vec<Desk<R>>, Arc<Index, Global>), Memory>
-    requires callers { (1 ≤ callers) × (callers ≤ most_callers) }
-    requires limit { asked.limit ≤ most_entries }
-    ensures desks { IfOk result (λ opened. Opens (spec.new_book asked) callers opened.0.items) }
-    ensures index { IfOk result (λ opened. arc_value opened.1 ≡ catalogue (populated asked.seed asked.scale)) }
-{
-    let tables = populate(alloc, asked.seed, &asked.scale)?;
-    let index = index_of(alloc, &tables)?;
-    let book = Book::open(alloc, tables, asked.limit)?;
-    let desks = Shop::open(rt, alloc, book, callers)?;
-    Ok((desks, index))
-}
 
 /// The task of a caller at its desk.
 fn task_of<R: Wait + Drop, C: Clock + Drop>(
@@ -54,8 +32,8 @@ fn task_of<R: Wait + Drop, C: Clock + Drop>(
     index: Arc<Index, Global>,
     clock: C,
 ) -> Task<R, C>
-    requires { IsPosted (seat_of desk) (arc_value index) (spec.caller_of asked.now.shop number) }
-    ensures { result ≡ record { desk = desk; clock = clock; caller = spec.caller_of asked.now.shop number; mix = asked.now.mix; steps = asked.now.steps } }
+    requires { IsPosted (seat_of desk) (arc_value index) (caller_of asked.now.shop number) }
+    ensures { result ≡ record { desk = desk; clock = clock; caller = caller_of asked.now.shop number; mix = asked.now.mix; steps = asked.now.steps } }
 {
     let Session {
         scale,
@@ -80,7 +58,7 @@ fn tasks_of<R: Wait + Drop, C: Clock + Drop>(
     index: &Arc<Index, Global>,
     clock: &C,
 ) -> Result<Vec<Task<R, C>>, Memory>
-    requires desks { spec.AreNewDesks asked.now.shop (asked.now.workers + 1) desks.items }
+    requires desks { AreNewDesks asked.now.shop (asked.now.workers + 1) desks.items }
     requires few { length desks.items ≤ 16 }
     requires index { arc_value index.now ≡ catalogue (populated asked.now.shop.seed asked.now.shop.scale) }
     ensures { IfOk result (λ tasks. spec.AreFirstTasks C.readings asked.now (C.readings clock.now) desks.items tasks.items) }
@@ -131,43 +109,16 @@ fn lines_of(alloc: Global, ran: &Ran, workers: u32) -> Result<Text, Status>
 }
 
 /// Has the browsers take their turns; the lines that tell what came of it, or why there are none.
-fn told<R: Threads + Wait + Clone + Drop + Send + 'static, C: Clock + Drop + Send + 'static>(
-    rt: &R,
-    alloc: Global,
-    asked: &Race,
-    spawner: &mut Spawner,
-    clock: &C,
-) -> Result<Text, Status>
+pub(crate) fn race_browsers<
+    R: Threads + Wait + Clone + Drop + Send + 'static,
+    C: Clock + Drop + Send + 'static,
+>(rt: &R, alloc: Global, asked: &Race, spawner: &mut Spawner, clock: &C) -> Result<Text, Status>
     requires { spec.IsWithin asked.now }
-    ensures ok { IfOk result (spec.RacedTo asked.now (C.readings clock.now)) }
-    ensures starts { OnOk result (spawner.new.starts ≡ counted asked.now.workers spawner.old.starts) }
-    ensures err { IfErr result (spec.IsUnraced spawner.old spawner.new) }
+    ensures { Tells (spec.RacedTo asked.now (C.readings clock.now)) asked.now.workers ⊥ spawner.old spawner.new result }
 {
     let Ok((own, tasks)) = open_race(rt, alloc, asked, clock) else {
         return Err(Status::Memory);
     };
     let ran = race(rt, alloc, spawner, own, tasks);
     lines_of(alloc, &ran, asked.workers)
-}
-
-/// Has the browsers take their turns, and prints what came of it.
-pub(crate) fn race_browsers<
-    R: Threads + Wait + Clone + Drop + Send + 'static,
-    K: Sink,
-    C: Clock + Drop + Send + 'static,
->(rt: &R, alloc: Global, asked: &Race, spawner: &mut Spawner, sink: &mut K, clock: &C) -> Status
-    requires { spec.IsWithin asked.now }
-    ensures raced { spec.IsRaced asked.now (C.readings clock.now) (spec.shared K.Sink sink.old spawner.old) (spec.shared K.Sink sink.new spawner.new) result }
-    ensures good_words { result ≢ Status.BadWords }
-{
-    match told(rt, alloc, asked, spawner, clock) {
-        Ok(lines) => {
-            if write_all(sink, lines.bytes()) {
-                Status::Done
-            } else {
-                Status::WriteFault
-            }
-        }
-        Err(status) => status,
-    }
 }

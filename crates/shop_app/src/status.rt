@@ -11,6 +11,8 @@ pub enum Status {
     ReadFault,
     /// The sink failed.
     WriteFault,
+    /// The listener failed.
+    NetworkFault,
     /// A job could not be started.
     WorkerFault,
     /// Memory ran out.
@@ -31,6 +33,7 @@ impl Status {
             Status::BadWords => 2,
             Status::ReadFault => 3,
             Status::WriteFault => 4,
+            Status::NetworkFault => 5,
             Status::WorkerFault => 6,
             Status::Memory => 7,
         }
@@ -46,6 +49,7 @@ impl Status {
             Status::BadWords => b"tpcw: bad words\n",
             Status::ReadFault => b"tpcw: read fault\n",
             Status::WriteFault => b"tpcw: write fault\n",
+            Status::NetworkFault => b"tpcw: network fault\n",
             Status::WorkerFault => b"tpcw: worker fault\n",
             Status::Memory => b"tpcw: out of memory\n",
         }

@@ -2,13 +2,16 @@
 use Rattle.std.proofs.Common.{◌≡◌, ℕ, ◌+◌, ◌<◌, List, [], ◌∷◌, ◌++◌, map, length, get_or, set, Option, Some, None, refl, sym, ap, ap₂, ◌∙◌, arith, append-nil, append_assoc, length-append}
 use Rattle.std.proofs.lemmas.List.{map-append}
 use Rattle.std.specs.Prelude.{option_map, slice_get}
+use Rattle.shop_edges.specs.Causes.{count_up}
 use Rattle.shop_edges.specs.Links.{Links, Returned, got_back}
+use Rattle.shop_places.specs.Counts.{counted}
 use Rattle.shop_places.specs.Listening.{Gave, GaveNone, Listening, TookBack, gave_more}
 use Rattle.shop_places.specs.Since.{Since, Start}
 use Rattle.shop_places.specs.Spots.{put_free}
 use Rattle.shop_places.specs.Visits.{Visit, returned, went}
 use Rattle.shop_places.specs.declared.spot.Spot.{Spot}
 use Rattle.shop_places.specs.declared.spot.Spot.TheVariants.{Free, Busy, Gone}
+use Rattle.shop_places.proofs.cited.Counts.{counted_more}
 use Rattle.shop_places.proofs.cited.Going.{accepts, begins, goes, joins, starts}
 
 -- what went, and then something more
@@ -36,7 +39,7 @@ module _ {S T I O P : Type 0} (Serves : S → I → O → S → I → O → P �
     visits = [];
     going = begins Serves IsTicket start.stations;
     links = went_none S I O P start.seen.links;
-    accepted = omega arith;
+    accepted = refl;
     dialled = refl;
   }
 
@@ -47,7 +50,7 @@ module _ {S T I O P : Type 0} (Serves : S → I → O → S → I → O → P �
       visits = since.visits;
       going = accepts Serves IsTicket start.stations spots pairs (pair ∷ []) since.visits started since.going;
       links = gave.links ∙ ap (option_map (gave_more (pair ∷ []))) since.links ∙ went_gave S I O P pairs (pair ∷ []) since.visits start.seen.links;
-      accepted = omega (arith, since.accepted, gave.accepted, length-append pairs (pair ∷ []));
+      accepted = gave.accepted ∙ ap count_up since.accepted ∙ sym (counted_more pairs pair start.seen.accepted);
       dialled = gave.dialled ∙ since.dialled;
     }
 
@@ -57,7 +60,7 @@ module _ {S T I O P : Type 0} (Serves : S → I → O → S → I → O → P �
       visits = since.visits;
       going = accepts Serves IsTicket start.stations spots pairs [] since.visits started since.going;
       links = gave.links ∙ ap (option_map (gave_more [])) since.links ∙ went_gave S I O P pairs [] since.visits start.seen.links;
-      accepted = omega (arith, since.accepted, gave.accepted, length-append {A = I × O} pairs []);
+      accepted = gave.accepted ∙ since.accepted ∙ ap (λ (ps : List (I × O)). counted (length ps) start.seen.accepted) (sym (append-nil pairs));
       dialled = gave.dialled ∙ since.dialled;
     }
 
@@ -76,7 +79,7 @@ module _ {S T I O P : Type 0} (Serves : S → I → O → S → I → O → P �
           going = joined.6;
           links = took.links ∙ ap (λ (r : Returned I O). option_map (got_back r) before.links) told
               ∙ ap (option_map (got_back (returned v))) since.links ∙ went_back S I O P pairs since.visits v start.seen.links;
-          accepted = omega (arith, since.accepted, took.accepted);
+          accepted = took.accepted ∙ since.accepted;
           dialled = took.dialled ∙ since.dialled;
         }
 

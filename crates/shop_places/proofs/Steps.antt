@@ -3,6 +3,7 @@ use Rattle.std.proofs.Common.{◌≡◌, ◌≢◌, ℕ, zero, suc, ◌+◌, ◌
 use Rattle.std.specs.Prelude.{slice_get, All, Result, Ok}
 use Rattle.std.specs.Result.{IsErrAnd}
 use Rattle.std.proofs.lemmas.List.Elements.{All-map, All-same, All-set}
+use Rattle.shop_places.specs.Counts.{counted}
 use Rattle.shop_places.specs.Listening.{Gave, GaveNone, Listening}
 use Rattle.shop_places.specs.Outcomes.{AreDone, AreStarted, AreStopped, IsNoMore, IsOneMore, IsStopped, MayLose}
 use Rattle.shop_places.specs.Places.{Continues, Idles, IsJobAt, Settles, SinceBy, SpotBy, StartsAt}
@@ -244,7 +245,7 @@ module _ {R S I O P : Type 0} (Serves : S → I → O → S → I → O → P �
                 (subst (λ (spots : Places R S I O P). Going Serves (IsTicket {R = R} Serves) firsts spots so_far.0 now.visits links) are now.going);
             many = omega (arith, so_far.1);
             links = now.links;
-            accepted = omega (arith, now.accepted, so_far.1);
+            accepted = now.accepted ∙ ap (λ n. counted n before.accepted) (so_far.1 ∙ omega arith);
             dialled = now.dialled;
           }
 
@@ -264,7 +265,7 @@ module _ {R S I O P : Type 0} (Serves : S → I → O → S → I → O → P �
             are = last.1;
             many = many;
             links = now.links;
-            accepted = omega (arith, now.accepted, many);
+            accepted = now.accepted ∙ ap (λ n. counted n before.accepted) many;
             dialled = now.dialled;
           },
         )

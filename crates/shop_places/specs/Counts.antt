@@ -1,6 +1,8 @@
--- A stored counter that went up several times.
-use Rattle.std.specs.Prelude.{ℕ, ◌+◌, ◌-◌, ◌^◌, ◌≤◌, min}
+-- A stored counter that goes up several times.
+use Rattle.std.specs.Prelude.{ℕ, zero, suc}
+use Rattle.shop_edges.specs.Causes.{count_up}
 
--- it rose by so many at least, or stands at its last value
-abbrev pub RoseBy : ℕ → ℕ → ℕ → Type 0
-RoseBy before more now = min (before + more) (2 ^ 64 - 1) ≤ now
+-- after so many more; it stands still at its type's end
+abbrev pub counted : ℕ → ℕ → ℕ
+counted zero n = n
+counted (suc more) n = count_up (counted more n)

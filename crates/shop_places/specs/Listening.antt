@@ -2,6 +2,7 @@
 use Rattle.std.specs.Prelude.{◌≡◌, ℕ, ◌≤◌, List, [], ◌∷◌, ◌++◌, Option, option_map}
 use Rattle.shop_edges.specs.Causes.{count_up}
 use Rattle.shop_edges.specs.Links.{Links, Returned, got_back}
+use Rattle.shop_edges.specs.declared.listener.Listener as listener
 
 -- its links, where they are known, and its counts
 pub record Listening (I O : Type 0) : Type 0 where
@@ -13,6 +14,10 @@ pub record Listening (I O : Type 0) : Type 0 where
 abbrev pub seen_by : {L I O : Type 0} → (L → Option (Links I O)) → (L → ℕ) → (L → ℕ) → (L → ℕ) → L → Listening I O
 seen_by links faults accepted dialled listener =
     record { links = links listener; faults = faults listener; accepted = accepted listener; dialled = dialled listener }
+
+-- the same by its meanings
+abbrev pub listening : {L I O : Type 0} → listener.Ghosts L I O → L → Listening I O
+listening by listener = seen_by by.links by.faults by.accepted by.dialled listener
 
 -- so many more links were given
 abbrev pub gave_more : {I O : Type 0} → List (I × O) → Links I O → Links I O

@@ -1,6 +1,6 @@
 -- What comes of links that are to be served.
 use Rattle.std.specs.Prelude.{◌≡◌, ⊤, ℕ, ◌+◌, ◌≤◌, List, [], ◌∷◌, ◌++◌, length, option_map, Result, Ok, Err, Vec}
-use Rattle.shop_places.specs.Counts.{RoseBy}
+use Rattle.shop_places.specs.Counts.{counted}
 use Rattle.shop_places.specs.Listening.{Listening}
 use Rattle.shop_places.specs.Places.{SinceBy, SpotBy}
 use Rattle.shop_places.specs.Since.{Start}
@@ -59,7 +59,7 @@ module _ {S I O P : Type 0} (Serves : S → I → O → S → I → O → P → 
     pub are : AreServed Serves firsts lasts pairs visits served
     pub many : length pairs ≡ served + lost
     pub links : after.links ≡ option_map (went pairs visits) before.links
-    pub accepted : RoseBy before.accepted (served + lost) after.accepted
+    pub accepted : after.accepted ≡ counted (served + lost) before.accepted
     pub dialled : after.dialled ≡ before.dialled
 
   -- no more links were accepted: so many were served, and the stations are dropped

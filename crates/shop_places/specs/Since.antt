@@ -1,6 +1,6 @@
 -- What happened since places began with their stations.
 use Rattle.std.specs.Prelude.{◌≡◌, ℕ, List, length, option_map}
-use Rattle.shop_places.specs.Counts.{RoseBy}
+use Rattle.shop_places.specs.Counts.{counted}
 use Rattle.shop_places.specs.Listening.{Listening}
 use Rattle.shop_places.specs.Spots.{Going}
 use Rattle.shop_places.specs.Visits.{Visit, went}
@@ -18,5 +18,5 @@ module _ {S T I O P : Type 0} (Serves : S → I → O → S → I → O → P �
     pub visits : List (Visit S I O P)
     pub going : Going Serves IsTicket start.stations spots pairs visits started
     pub links : seen.links ≡ option_map (went pairs visits) start.seen.links
-    pub accepted : RoseBy start.seen.accepted (length pairs) seen.accepted
+    pub accepted : seen.accepted ≡ counted (length pairs) start.seen.accepted
     pub dialled : seen.dialled ≡ start.seen.dialled

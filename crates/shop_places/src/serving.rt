@@ -1,7 +1,7 @@
 ghost use Rattle.std.specs.Prelude.{◌≡◌, ◌≢◌, ◌+◌, ◌≤◌, [], All, Err, IfOk, OnErr, OnOk, length, map};
 ghost use Rattle.std.specs.Vec.{vec_len, vec_capacity};
 ghost use Rattle.shop_edges.specs.Causes.{Rose, count_up};
-ghost use Rattle.shop_places.specs.Counts.{RoseBy};
+ghost use Rattle.shop_places.specs.Counts.{counted};
 ghost use Rattle.shop_places.specs.Listening.{Gave, GaveNone, seen_by};
 ghost use Rattle.shop_places.specs.Outcomes as spec;
 ghost use Rattle.shop_places.specs.Spots.{IsFree, put_free};
@@ -96,7 +96,7 @@ fn serve_links<
 ) -> Result<(), Stop>
     ensures served { let seen = seen_by L.links L.faults L.accepted L.dialled in
         spec.ServesLinks S.serves links spots.old.items spots.new.items (seen listener.old) (seen listener.new) result }
-    ensures starts { OnOk result (RoseBy spawner.old.starts links spawner.new.starts) }
+    ensures starts { OnOk result (spawner.new.starts ≡ counted links spawner.old.starts) }
     ensures no_link { result ≡ Err Stop.NoLink → Rose (L.faults listener.old) (L.faults listener.new) }
     ensures not_started { result ≡ Err Stop.NotStarted → Rose spawner.old.faults spawner.new.faults }
 {
@@ -155,7 +155,7 @@ pub fn serve<
 ) -> Result<Vec<S>, Stop>
     ensures served { let seen = seen_by L.links L.faults L.accepted L.dialled in
         spec.Outcome S.serves links stations.items (seen listener.old) (seen listener.new) result }
-    ensures starts { OnOk result (RoseBy spawner.old.starts links spawner.new.starts) }
+    ensures starts { OnOk result (spawner.new.starts ≡ counted links spawner.old.starts) }
     ensures no_link { result ≡ Err Stop.NoLink → Rose (L.faults listener.old) (L.faults listener.new) }
     ensures not_started { result ≡ Err Stop.NotStarted → Rose spawner.old.faults spawner.new.faults }
 {

@@ -18,7 +18,7 @@ use Rattle.shop_turn.specs.Desks.{DeskValue, IsOneShop, seat_of}
 use Rattle.shop_text.specs.declared.memory.Memory.{Memory}
 use Rattle.shop_edges.specs.Starts.{MayGive}
 use Rattle.shop_edges.specs.declared.ticket.Begun.{Begun}
-use Rattle.shop_tasks.specs.Counts.{counted}
+use Rattle.shop_places.specs.Counts.{counted}
 use Rattle.shop_tasks.specs.TaskValues.{RacedValue, TaskValue}
 use Rattle.shop_tasks.specs.Tasks.{AreDone, AreStopped, IsBack, IsGiven, IsTicketOf, Joins, Promises, Races, RanAs, Starts, ended, first_stage, stage_of}
 
@@ -34,10 +34,6 @@ pub begun : (marked : ℕ → ℕ → Type 0) (worker : WorkerState DeskValue) (
     → Drives marked (stage_of worker clock browser) after steps (Ok tally)
 begun marked worker clock browser answers after steps tally none =
     subst (λ (a : List Answer). Drives marked (record { worker = standing seat_of worker clock (Some a); browsers = browser ∷ []; failures = 0 }) after steps (Ok tally)) none
-
--- a counter after one task more
-pub counted_more : {A : Type 0} (xs : List A) (x : A) (n : ℕ) → counted (length (xs ++ x ∷ [])) n ≡ count_up (counted (length xs) n)
-counted_more xs x n = let one : length (xs ++ x ∷ []) ≡ suc (length xs) = omega (arith, length-append xs (x ∷ [])) in ap (λ m. counted m n) one
 
 -- the desks that tickets gave, and one more
 

@@ -1,4 +1,3 @@
-pub mod Counts
 pub mod TaskValues
 pub mod Tasks
 pub mod Tills

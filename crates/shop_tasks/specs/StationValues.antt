@@ -9,5 +9,8 @@ pub record StationValue (C I O : Type 0) : Type 0 where
   pub clock : C
   pub till : Till I O
 
+abbrev pub desk_of : {C I O : Type 0} → StationValue C I O → DeskValue
+desk_of station = station.worker.store
+
 abbrev pub station_of : {C I O : Type 0} → WorkerState DeskValue → C → Till I O → StationValue C I O
 station_of worker clock till = record { worker = worker; clock = clock; till = till }

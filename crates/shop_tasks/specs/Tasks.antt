@@ -16,7 +16,7 @@ use Rattle.shop_turn.specs.Desks.{DeskValue, marks_of, seat_of}
 use Rattle.shop_turn.specs.Shops.{Closes}
 use Rattle.shop_tasks.specs.declared.running.Ran.{Ran}
 use Rattle.shop_tasks.specs.declared.running.Ran.TheVariants.{Done, NotStarted, Memory}
-use Rattle.shop_tasks.specs.Counts.{counted}
+use Rattle.shop_places.specs.Counts.{counted}
 use Rattle.shop_tasks.specs.TaskValues.{RacedValue, TaskValue}
 
 -- what came of tasks, by whether all were started, and memory ran out in none

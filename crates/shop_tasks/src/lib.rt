@@ -2,12 +2,14 @@
 //! which serves one connection after another.
 #![tactic(auto)]
 
+mod closing;
 mod job;
 mod running;
 mod station;
 mod task;
 mod till;
 
+pub use closing::close;
 pub use running::{Ran, race};
 pub use station::Station;
 pub use task::{Errand, Raced, Task};

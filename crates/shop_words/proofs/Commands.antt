@@ -1,5 +1,5 @@
 -- Commands with options: their words are read as they stand, and in one way.
-use Rattle.std.proofs.Common.{◌≡◌, ◌≢◌, ◌∙◌, ◌<◌, ◌==◌, ℕ, true, false, not, refl, sym, ap, subst, List, [], ◌∷◌, drop, map, length, Option, Some, None, codes, true≢false, arith, ltb-true, Bor, Err, IsErrAnd, Ok, Result, get_or}
+use Rattle.std.proofs.Common.{◌≡◌, ◌≢◌, ◌∙◌, ◌<◌, ◌==◌, ℕ, true, false, not, refl, sym, ap, ap₂, subst, List, [], ◌∷◌, drop, map, length, Option, Some, None, codes, true≢false, arith, ltb-true, Bor, Err, IsErrAnd, Ok, Result, get_or}
 use Rattle.std.specs.Prelude.{nat_lt, slice_index}
 use Rattle.std.specs.List.{All, AllByRecursion, Contains, IsDistinct, list_all}
 use Rattle.std.specs.Str.{bytes_eq, IsAscii}
@@ -88,6 +88,23 @@ module _ {A B C : Type 0} {Inner : (Text → Option Text) → A → Type 0} {Out
         let parts = more.apart values chosen chooses in
         (chosen-plain form fallback values name (more.own chosen) plain parts.1, inner.plain values (more.part chosen) parts.0);
   }
+
+-- one option more, beside what others choose
+abbrev pub Beside : {A B : Type 0} → ((Text → Option Text) → A → Type 0) → Text → (Text → Option B) → B → (Text → Option Text) → A × B → Type 0
+Beside Inner name form fallback values p = Inner values p.0 × IsChosen form fallback (values name) p.1
+
+pub beside-form : {A B : Type 0} {Inner : (Text → Option Text) → A → Type 0} {names : List Text} → IsForm names Inner → (name : Text) (form : Text → Option B) (fallback : B)
+    → IsOptionName name → ((text : Text) (x : B) → form text ≡ Some x → IsPlain text) → IsForm (name ∷ names) (Beside Inner name form fallback)
+beside-form {names} inner name form fallback =
+    more-form
+    (record {
+      part = λ p. p.0;
+      own = λ p. p.1;
+      whole = λ one other rest own. ap₂ (λ rest own. (rest, own)) rest own;
+      apart = λ values p chooses. chooses;
+      joined = λ values p rest own. (rest, own);
+    })
+    names inner
 
 -- each option's value is that of its name
 own-value : (given : List Given) → IsDistinct bytes_eq (map name_of given) → AllByRecursion (λ g. value_for given (name_of g) ≡ Some (value_of g)) given

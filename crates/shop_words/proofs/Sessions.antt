@@ -1,5 +1,6 @@
 -- Commands in words: what their options choose.
-use Rattle.std.proofs.Common.{◌≡◌, ◌≢◌, ◌∙◌, Bool, get_or, true, false, refl, sym, ap, ap₂, subst, List, [], ◌∷◌, Option, Some, None, Ok, Err, Bor, map, codes, arith, ℕ}
+use Rattle.std.proofs.Common.{◌≡◌, ◌∙◌, Bool, true, false, refl, sym, ap, ap₂, subst, List, [], ◌∷◌, Option, Some, None, Ok, Err, Bor, map, codes, arith, ℕ}
+use Rattle.std.proofs.lemmas.Bool.{false≢true}
 use Rattle.std.specs.List.{All}
 use Rattle.std.specs.Prelude.{⊤}
 use Rattle.std.specs.Str.{bytes_eq}
@@ -12,13 +13,13 @@ use Rattle.shop_words.specs.declared.command.Command.{Command}
 use Rattle.shop_words.specs.declared.command.Command.TheVariants as command
 use Rattle.shop_words.specs.declared.command.Session.{Session}
 use Rattle.shop_words.specs.declared.options.Refusal.TheVariants as refusal
-use Rattle.shop_words.specs.Commands.{Chooses, ChoosesDrive, ChoosesRace, ChoosesWorkload, IsCommand, IsDrive, IsGateway, IsGiven, IsRace, IsRead, IsSession, drive_options, race_options, session_options, workload_of_drive, workload_of_race, workload_options}
-use Rattle.shop_words.specs.Options.{AreOptions, Given, IsChosen, IsPlain, IsReading, IsWord, value_of}
+use Rattle.shop_words.specs.Commands.{Chooses, ChoosesDrive, ChoosesRace, ChoosesServe, ChoosesWorkload, IsCommand, IsDrive, IsGateway, IsGiven, IsRace, IsRead, IsServe, IsSession, drive_options, race_options, serve_options, session_options, workload_of_drive, workload_of_race, workload_options}
+use Rattle.shop_words.specs.Options.{AreOptions, Given, IsPlain, IsReading, IsWord, value_of}
 use Rattle.shop_text.specs.Numbers.{number_of}
-use Rattle.shop_words.specs.Values.{limit_of, mix_of, scale_of, within}
-use Rattle.shop_words.proofs.Commands.{IsForm, more-form, chosen-along, chosen-plain, chosen-same, chosen-by, given-words, is-given, name-from, no-options, one-given, plain-from, rest-of, texts, word-from}
+use Rattle.shop_words.specs.Values.{connections_of, gateway_of, limit_of, mix_of, scale_of, within, workers_of}
+use Rattle.shop_words.proofs.Commands.{Beside, IsForm, beside-form, more-form, chosen-along, chosen-plain, chosen-same, chosen-by, given-words, is-given, name-from, no-options, one-given, plain-from, rest-of, texts, word-from}
 use Rattle.shop_words.proofs.Numbers.{number-plain}
-use Rattle.shop_words.proofs.Rules.{same-text}
+use Rattle.shop_words.proofs.Rules.{same-text, text-same}
 use Rattle.shop_words.proofs.ScaleNames.{scale-plain}
 
 -- ---- values in their forms are plain
@@ -65,17 +66,8 @@ session-form = record {
   );
 }
 
-mixed-form : IsForm (codes "mix" ∷ session_options) (λ values (p : Session × Mix). Chooses values p.0 × IsChosen mix_of Shopping (values (codes "mix")) p.1)
-mixed-form =
-    more-form
-    (record {
-      part = λ p. p.0;
-      own = λ p. p.1;
-      whole = λ one other shop mix. ap₂ (λ shop mix. (shop, mix)) shop mix;
-      apart = λ values p chooses. chooses;
-      joined = λ values p shop mix. (shop, mix);
-    })
-    session_options session-form (name-from (codes "mix") (omega arith) refl refl) mix-plain
+mixed-form : IsForm (codes "mix" ∷ session_options) (Beside Chooses (codes "mix") mix_of Shopping)
+mixed-form = beside-form session-form (codes "mix") mix_of Shopping (name-from (codes "mix") (omega arith) refl refl) mix-plain
 
 workload-form : IsForm workload_options ChoosesWorkload
 workload-form =
@@ -113,6 +105,22 @@ race-form =
     })
     workload_options workload-form (name-from (codes "workers") (omega arith) refl refl) (within-plain 1 16)
 
+pub serve-form : IsForm serve_options ChoosesServe
+serve-form =
+    let gateway = beside-form session-form (codes "gateway") gateway_of 0 (name-from (codes "gateway") (omega arith) refl refl) (within-plain 0 65_535) in
+    let connections = beside-form gateway (codes "connections") connections_of 1 (name-from (codes "connections") (omega arith) refl refl) (within-plain 1 1_000_000) in
+    let workers = beside-form connections (codes "workers") workers_of 4 (name-from (codes "workers") (omega arith) refl refl) (within-plain 1 16) in
+    more-form
+    (record {
+      part = λ serve. (((serve.shop, serve.gateway), serve.connections), serve.workers);
+      own = λ serve. serve.port;
+      whole = λ one other rest port. ap₂
+          (λ (p : ((Session × ℕ) × ℕ) × ℕ) (n : ℕ). record { shop = p.0.0.0; port = n; workers = p.1; connections = p.0.1; gateway = p.0.0.1 }) rest port;
+      apart = λ values serve chooses. ((((chooses.shop, chooses.gateway), chooses.connections), chooses.workers), chooses.port);
+      joined = λ values serve rest port. record { shop = rest.0.0.0; port = port; workers = rest.1; connections = rest.0.1; gateway = rest.0.0.1 };
+    })
+    (codes "workers" ∷ codes "connections" ∷ codes "gateway" ∷ session_options) workers (name-from (codes "port") (omega arith) refl refl) (within-plain 1 65_535)
+
 gateway-form : IsForm [] (λ values (nothing : ⊤). ⊤)
 gateway-form = record { known = tt; along = λ values others same chosen chooses. tt; same = λ values one other x y. refl; plain = λ values chosen chooses. tt }
 
@@ -124,14 +132,28 @@ command-words words (command.Session session) is =
     given-words (codes "session") session_options Chooses session-form words (word-from (codes "session") refl (λ e. cc)) session is
 command-words words (command.Drive drive) is = given-words (codes "drive") drive_options ChoosesDrive drive-form words (word-from (codes "drive") refl (λ e. cc)) drive is
 command-words words (command.Race race) is = given-words (codes "race") race_options ChoosesRace race-form words (word-from (codes "race") refl (λ e. cc)) race is
+command-words words (command.Serve serve) is = given-words (codes "serve") serve_options ChoosesServe serve-form words (word-from (codes "serve") refl (λ e. cc)) serve is
 command-words words command.Gateway is = given-words (codes "gateway") [] (λ values nothing. ⊤) gateway-form words (word-from (codes "gateway") refl (λ e. cc)) tt is
 
-two-names : (a b : Text) (words rest more : List Text) → words ≡ a ∷ rest → words ≡ b ∷ more → a ≡ b
-two-names a b words rest more x y = let both : a ∷ rest ≡ b ∷ more = sym x ∙ y in cc
+-- words begin with one name
+same-name : (a b : Text) (words rest more : List Text) → words ≡ a ∷ rest → words ≡ b ∷ more → bytes_eq a b ≡ true
+same-name a b words rest more x y =
+    let both : a ∷ rest ≡ b ∷ more = sym x ∙ y in
+    let same : a ≡ b = cc in
+    subst (λ n. bytes_eq a n ≡ true) same (text-same a)
 
--- words that begin with one name begin with no other
-other-first : (a b : Text) (words rest more : List Text) → words ≡ a ∷ rest → words ≡ b ∷ more → get_or a 0 0 ≢ get_or b 0 0 → ⊥
-other-first a b words rest more x y other = other (ap (λ t. get_or t 0 0) (two-names a b words rest more x y))
+-- the word that a command begins with
+abbrev name-of : Command → Text
+name-of (command.Session session) = codes "session"
+name-of (command.Drive drive) = codes "drive"
+name-of (command.Race race) = codes "race"
+name-of (command.Serve serve) = codes "serve"
+name-of command.Gateway = codes "gateway"
+
+-- words that begin with a name give a command with that name
+named-so : (first : Text) (words : List Text) → words ≡ first ∷ rest-of words → (other : Command) → IsCommand words other → bytes_eq first (name-of other) ≡ true
+named-so first words named (command.Session session) is = same-name first _ words _ is.rest named is.named
+named-so first words named other is = same-name first _ words _ is.rest named is.named
 
 -- what words give, where they begin with its name
 pub record Only {A : Type 0} (made : A → Command) (Given : A → Type 0) (other : Command) : Type 0 where
@@ -143,31 +165,27 @@ pub record Only {A : Type 0} (made : A → Command) (Given : A → Type 0) (othe
 pub record IsKind {A : Type 0} (first : Text) (names : List Text) (Choose : (Text → Option Text) → A → Type 0) (made : A → Command) : Type 0 where
   pub form : IsForm names Choose
   pub stands : (words : List Text) (chosen : A) → IsGiven first names Choose words chosen → IsCommand words (made chosen)
-  pub only : (words : List Text) → words ≡ first ∷ rest-of words → (other : Command) → IsCommand words other → Only made (IsGiven first names Choose words) other
+  pub only : (words : List Text) (other : Command) → IsCommand words other → bytes_eq first (name-of other) ≡ true → Only made (IsGiven first names Choose words) other
 
-only-session : (words : List Text) → words ≡ codes "session" ∷ rest-of words → (other : Command) → IsCommand words other → Only command.Session (IsSession words) other
-only-session words named (command.Session session) is = record { chosen = session; is = refl; given = is }
-only-session words named (command.Drive drive) is = let same : codes "session" ≡ codes "drive" = two-names _ _ words _ is.rest named is.named in absurd (cc)
-only-session words named (command.Race race) is = let same : codes "session" ≡ codes "race" = two-names _ _ words _ is.rest named is.named in absurd (cc)
-only-session words named command.Gateway is = absurd (other-first (codes "session") (codes "gateway") words _ _ named is.named (omega arith))
+only-session : (words : List Text) (other : Command) → IsCommand words other → bytes_eq (codes "session") (name-of other) ≡ true → Only command.Session (IsSession words) other
+only-session words (command.Session session) is same = record { chosen = session; is = refl; given = is }
+only-session words other is same = absurd (false≢true same)
 
-only-drive : (words : List Text) → words ≡ codes "drive" ∷ rest-of words → (other : Command) → IsCommand words other → Only command.Drive (IsDrive words) other
-only-drive words named (command.Drive drive) is = record { chosen = drive; is = refl; given = is }
-only-drive words named (command.Session session) is = let same : codes "drive" ≡ codes "session" = two-names _ _ words _ is.rest named is.named in absurd (cc)
-only-drive words named (command.Race race) is = let same : codes "drive" ≡ codes "race" = two-names _ _ words _ is.rest named is.named in absurd (cc)
-only-drive words named command.Gateway is = absurd (other-first (codes "drive") (codes "gateway") words _ _ named is.named (omega arith))
+only-drive : (words : List Text) (other : Command) → IsCommand words other → bytes_eq (codes "drive") (name-of other) ≡ true → Only command.Drive (IsDrive words) other
+only-drive words (command.Drive drive) is same = record { chosen = drive; is = refl; given = is }
+only-drive words other is same = absurd (false≢true same)
 
-only-race : (words : List Text) → words ≡ codes "race" ∷ rest-of words → (other : Command) → IsCommand words other → Only command.Race (IsRace words) other
-only-race words named (command.Race race) is = record { chosen = race; is = refl; given = is }
-only-race words named (command.Session session) is = let same : codes "race" ≡ codes "session" = two-names _ _ words _ is.rest named is.named in absurd (cc)
-only-race words named (command.Drive drive) is = let same : codes "race" ≡ codes "drive" = two-names _ _ words _ is.rest named is.named in absurd (cc)
-only-race words named command.Gateway is = absurd (other-first (codes "race") (codes "gateway") words _ _ named is.named (omega arith))
+only-race : (words : List Text) (other : Command) → IsCommand words other → bytes_eq (codes "race") (name-of other) ≡ true → Only command.Race (IsRace words) other
+only-race words (command.Race race) is same = record { chosen = race; is = refl; given = is }
+only-race words other is same = absurd (false≢true same)
 
-only-gateway : (words : List Text) → words ≡ codes "gateway" ∷ rest-of words → (other : Command) → IsCommand words other → Only (λ nothing. command.Gateway) (IsGateway words) other
-only-gateway words named command.Gateway is = record { chosen = tt; is = refl; given = is }
-only-gateway words named (command.Session session) is = absurd (other-first (codes "gateway") (codes "session") words _ _ named is.named (omega arith))
-only-gateway words named (command.Drive drive) is = absurd (other-first (codes "gateway") (codes "drive") words _ _ named is.named (omega arith))
-only-gateway words named (command.Race race) is = absurd (other-first (codes "gateway") (codes "race") words _ _ named is.named (omega arith))
+only-serve : (words : List Text) (other : Command) → IsCommand words other → bytes_eq (codes "serve") (name-of other) ≡ true → Only command.Serve (IsServe words) other
+only-serve words (command.Serve serve) is same = record { chosen = serve; is = refl; given = is }
+only-serve words other is same = absurd (false≢true same)
+
+only-gateway : (words : List Text) (other : Command) → IsCommand words other → bytes_eq (codes "gateway") (name-of other) ≡ true → Only (λ nothing. command.Gateway) (IsGateway words) other
+only-gateway words command.Gateway is same = record { chosen = tt; is = refl; given = is }
+only-gateway words other is same = absurd (false≢true same)
 
 pub session-kind : IsKind (codes "session") session_options Chooses command.Session
 session-kind = record { form = session-form; stands = λ words session is. is; only = only-session }
@@ -177,6 +195,9 @@ drive-kind = record { form = drive-form; stands = λ words drive is. is; only = 
 
 pub race-kind : IsKind (codes "race") race_options ChoosesRace command.Race
 race-kind = record { form = race-form; stands = λ words race is. is; only = only-race }
+
+pub serve-kind : IsKind (codes "serve") serve_options ChoosesServe command.Serve
+serve-kind = record { form = serve-form; stands = λ words serve is. is; only = only-serve }
 
 pub gateway-kind : IsKind (codes "gateway") [] (λ values (nothing : ⊤). ⊤) (λ nothing. command.Gateway)
 gateway-kind = record { form = gateway-form; stands = λ words nothing is. is; only = only-gateway }
@@ -188,7 +209,7 @@ module _ {A : Type 0} {first : Text} {names : List Text} {Choose : (Text → Opt
   -- no options: nothing is given
   pub none-read : ((given : List Given) → AreOptions names (rest-of (texts read)) given → ¬ (All IsPlain (map value_of given))) → (other : Command) → ¬ (IsCommand words other)
   none-read none other is =
-      let only = kind.only words named other is in
+      let only = kind.only words other is (named-so first words named other is) in
       no-options first names Choose kind.form words (subst (λ ws. (given : List Given) → AreOptions names (rest-of ws) given → ¬ (All IsPlain (map value_of given))) are none) only.chosen only.given
 
   module _ (values : Text → Option Text) (reading : IsReading names (rest-of (texts read)) values) where
@@ -199,11 +220,11 @@ module _ {A : Type 0} {first : Text} {names : List Text} {Choose : (Text → Opt
     chosen-read chosen chooses = (
       kind.stands words chosen (is-given first names Choose kind.form words values same-reading named chosen chooses),
       λ other is.
-          let only = kind.only words named other is in
+          let only = kind.only words other is (named-so first words named other is) in
           only.is ∙ ap made (one-given first names Choose kind.form words values same-reading chosen chooses only.chosen only.given),
     )
 
     pub none-chosen : ((chosen : A) → ¬ (Choose values chosen)) → IsRead (IsCommand words) (Err refusal.Bad)
     none-chosen none other is =
-        let only = kind.only words named other is in
+        let only = kind.only words other is (named-so first words named other is) in
         none only.chosen (chosen-by first names Choose kind.form words values same-reading only.chosen only.given)

@@ -4,11 +4,12 @@ use Rattle.shop_model.specs.population.Scales.{desk}
 use Rattle.shop_browsers.specs.declared.mix.Mix.TheVariants.{Shopping}
 use Rattle.shop_words.specs.Options.{Given, AreOptions, IsChosen, value_for}
 use Rattle.shop_text.specs.Numbers.{number_of}
-use Rattle.shop_words.specs.Values.{browsers_of, limit_of, mix_of, scale_of, steps_of, workers_of}
+use Rattle.shop_words.specs.Values.{browsers_of, connections_of, gateway_of, limit_of, mix_of, port_of, scale_of, steps_of, workers_of}
 use Rattle.shop_words.specs.declared.choices.Workload.{Workload}
 use Rattle.shop_words.specs.declared.command.Session.{Session}
 use Rattle.shop_words.specs.declared.command.Drive.{Drive}
 use Rattle.shop_words.specs.declared.command.Race.{Race}
+use Rattle.shop_words.specs.declared.command.Serve.{Serve}
 use Rattle.shop_words.specs.declared.command.Command.{Command}
 use Rattle.shop_words.specs.declared.command.Command.TheVariants as command
 use Rattle.shop_words.specs.declared.command.Parsed.{Parsed}
@@ -82,6 +83,24 @@ pub record ChoosesRace (values : List ℕ → Option (List ℕ)) (race : Race) :
 abbrev pub IsRace : List (List ℕ) → Race → Type 0
 IsRace = IsGiven (codes "race") race_options ChoosesRace
 
+-- ---- serving a port
+
+abbrev pub serve_options : List (List ℕ)
+serve_options = codes "port" ∷ codes "workers" ∷ codes "connections" ∷ codes "gateway" ∷ session_options
+
+-- the shop that option values choose, the port, 8080 by default, how many workers, 4 by default, how many connections,
+-- 1 by default, and the gateway's port, 0 by default
+pub record ChoosesServe (values : List ℕ → Option (List ℕ)) (serve : Serve) : Type 0 where
+  pub shop : Chooses values serve.shop
+  pub port : IsChosen port_of 8080 (values (codes "port")) serve.port
+  pub workers : IsChosen workers_of 4 (values (codes "workers")) serve.workers
+  pub connections : IsChosen connections_of 1 (values (codes "connections")) serve.connections
+  pub gateway : IsChosen gateway_of 0 (values (codes "gateway")) serve.gateway
+
+-- `serve` and its options
+abbrev pub IsServe : List (List ℕ) → Serve → Type 0
+IsServe = IsGiven (codes "serve") serve_options ChoosesServe
+
 -- ---- a gateway
 
 -- `gateway`, and no options
@@ -95,6 +114,7 @@ abbrev pub IsCommand : List (List ℕ) → Command → Type 0
 IsCommand words (command.Session session) = IsSession words session
 IsCommand words (command.Drive drive) = IsDrive words drive
 IsCommand words (command.Race race) = IsRace words race
+IsCommand words (command.Serve serve) = IsServe words serve
 IsCommand words command.Gateway = IsGateway words tt
 
 -- what holds of what the words ask for, where they are good

@@ -38,6 +38,18 @@ browsers_of text = within 1 64 (number_of text)
 abbrev pub workers_of : List ℕ → Option ℕ
 workers_of text = within 1 16 (number_of text)
 
+-- how many connections are served: 1 to 1,000,000
+abbrev pub connections_of : List ℕ → Option ℕ
+connections_of text = within 1 1_000_000 (number_of text)
+
+-- a port: 1 to 65,535
+abbrev pub port_of : List ℕ → Option ℕ
+port_of text = within 1 65_535 (number_of text)
+
+-- the port of a gateway, or 0 for none: 0 to 65,535
+abbrev pub gateway_of : List ℕ → Option ℕ
+gateway_of text = within 0 65_535 (number_of text)
+
 -- how many changes the log may hold: 1 to 1,000,000
 abbrev pub limit_of : List ℕ → Option ℕ
 limit_of text = within 1 1_000_000 (number_of text)

@@ -1,10 +1,13 @@
 //! What the values of options choose.
 ghost use Rattle.std.specs.Prelude.{IfSome, IfNone};
 ghost use Rattle.clap.specs.Words.{first_value, found_of};
-ghost use Rattle.shop_words.specs.Commands.{Chooses, ChoosesDrive, ChoosesRace, ChoosesWorkload};
+ghost use Rattle.shop_words.specs.Commands.{Chooses, ChoosesDrive, ChoosesRace, ChoosesServe, ChoosesWorkload};
 
-use crate::command::{Drive, Race, Session};
-use crate::values::{browsers_of, limit_of, mix_of, scale_of, steps_of, workers_of};
+use crate::command::{Drive, Race, Serve, Session};
+use crate::values::{
+    browsers_of, connections_of, gateway_of, limit_of, mix_of, port_of, scale_of, steps_of,
+    workers_of,
+};
 use clap::ArgMatches;
 use shop_browsers::Mix;
 use shop_model::Scale;
@@ -84,5 +87,35 @@ pub(crate) fn race_of(found: &ArgMatches) -> Option<Race>
         workers,
         steps,
         mix,
+    })
+}
+
+pub(crate) fn serve_of(found: &ArgMatches) -> Option<Serve>
+    ensures some { IfSome result (ChoosesServe (first_value (found_of found.now))) }
+    ensures none { IfNone result ((serve : Serve) → ¬ (ChoosesServe (first_value (found_of found.now)) serve)) }
+{
+    let shop = session_of(found)?;
+    let port = match found.get_str("port") {
+        Some(text) => port_of(text)?,
+        None => 8080,
+    };
+    let workers = match found.get_str("workers") {
+        Some(text) => workers_of(text)?,
+        None => 4,
+    };
+    let connections = match found.get_str("connections") {
+        Some(text) => connections_of(text)?,
+        None => 1,
+    };
+    let gateway = match found.get_str("gateway") {
+        Some(text) => gateway_of(text)?,
+        None => 0,
+    };
+    Some(Serve {
+        shop,
+        port,
+        workers,
+        connections,
+        gateway,
     })
 }

@@ -17,6 +17,8 @@ pub enum Command {
     Drive(Drive),
     /// Workers on threads share a shop, each with a browser, and a summary is printed.
     Race(Race),
+    /// Connections that peers open on a port are served by workers who share a shop, and a summary is printed.
+    Serve(Serve),
     /// Lines that ask for payments are answered, from standard input to standard output.
     Gateway,
 }
@@ -53,6 +55,20 @@ pub struct Race {
     pub mix: Mix,
 }
 
+/// A port, the workers that serve its connections, and the shop that they share.
+#[derive(Clone, Copy, Debug, PartialEq, Eq)]
+pub struct Serve {
+    pub shop: Session,
+    /// Of this machine: 1 to 65,535.
+    pub port: u16,
+    /// 1 to 16.
+    pub workers: u32,
+    /// 1 to 1,000,000.
+    pub connections: u32,
+    /// The port of this machine at which payments are asked for; 0 gives each worker a gateway of its own.
+    pub gateway: u16,
+}
+
 /// What words came to.
 #[derive(Clone, Copy, Debug, PartialEq, Eq)]
 pub enum Parsed<T> {
@@ -72,6 +88,17 @@ static DRIVE: [&str; 6] = ["browsers", "steps", "mix", "scale", "seed", "limit"]
 
 /// The names of a race's options.
 static RACE: [&str; 6] = ["workers", "steps", "mix", "scale", "seed", "limit"];
+
+/// The names of the options of `serve`.
+static SERVE: [&str; 7] = [
+    "port",
+    "workers",
+    "connections",
+    "gateway",
+    "scale",
+    "seed",
+    "limit",
+];
 
 /// A gateway has no options.
 static GATEWAY: [&str; 0] = [];
@@ -114,6 +141,13 @@ fn read_command(alloc: Global, words: &[Text]) -> Result<Command, Refusal>
             let found = options_of(alloc, &RACE, texts)?;
             match choices::race_of(&found) {
                 Some(race) => Ok(Command::Race(race)),
+                None => Err(Refusal::Bad),
+            }
+        }
+        ["serve", ..] => {
+            let found = options_of(alloc, &SERVE, texts)?;
+            match choices::serve_of(&found) {
+                Some(serve) => Ok(Command::Serve(serve)),
                 None => Err(Refusal::Bad),
             }
         }

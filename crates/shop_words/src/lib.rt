@@ -6,4 +6,4 @@ mod command;
 mod options;
 mod values;
 
-pub use command::{Command, Drive, Parsed, Race, Session, command_of};
+pub use command::{Command, Drive, Parsed, Race, Serve, Session, command_of};

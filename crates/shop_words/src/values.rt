@@ -48,6 +48,31 @@ pub(crate) fn limit_of(text: &str) -> Option<u64>
     within(1, 1_000_000, number_of(text.as_bytes())).map(u64::from)
 }
 
+pub(crate) fn connections_of(text: &str) -> Option<u32>
+    ensures { result ≡ spec.connections_of text.now }
+{
+    within(1, 1_000_000, number_of(text.as_bytes()))
+}
+
+pub(crate) fn port_of(text: &str) -> Option<u16>
+    ensures { result ≡ spec.port_of text.now }
+{
+    port_from(1, number_of(text.as_bytes()))
+}
+
+pub(crate) fn gateway_of(text: &str) -> Option<u16>
+    ensures { result ≡ spec.gateway_of text.now }
+{
+    port_from(0, number_of(text.as_bytes()))
+}
+
+fn port_from(low: u16, number: Option<u32>) -> Option<u16>
+    ensures { result ≡ spec.within low 65_535 number }
+{
+    let port = u16::try_from(number?).ok()?;
+    if low <= port { Some(port) } else { None }
+}
+
 fn within(low: u32, high: u32, number: Option<u32>) -> Option<u32>
     ensures { result ≡ spec.within low high number }
 {

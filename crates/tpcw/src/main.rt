@@ -1,14 +1,16 @@
-//! The shop's program: its words, the standard streams, the system's clock, its threads and an emulated payment
-//! gateway go to the top calls.
+//! The shop's program: its words, the standard streams, the system's clock, its threads, its sockets and an emulated
+//! payment gateway go to the top calls.
 #![tactic(auto)]
 
 use shop_app::{Status, is_shared, run_alone, run_shared};
 use shop_edges::{ReaderSource, Spawner, StandardOutput, SystemClock, Way, WriterSink, write_all};
 use shop_gateway::Emulator;
+use shop_tcp::TcpLinks;
 use shop_text::{Memory, Text};
 use std::alloc::Global;
 use std::env::{self, Args, Env};
 use std::io::{self, ErrorKind};
+use std::net::{Net, TcpListener, TcpStream};
 use std::process::ExitCode;
 use std::rt::Clock;
 use std::sync::Wait;
@@ -57,16 +59,31 @@ fn alone(rt: HostRuntime, words: &[Text], sink: &mut Output, faults: &mut Output
     )
 }
 
-/// Does what the words say for several callers, each in a thread of its own.
-fn shared<R: Threads + Wait + Clock + AllocGlobal + Copy + Send + 'static>(
-    rt: R,
-    words: &[Text],
-    sink: &mut Output,
-    faults: &mut Output,
-) -> Status {
+/// Does what the words say for several callers, each in a thread of its own, over sockets where they ask for them.
+fn shared<
+    R: Threads
+        + Wait
+        + Net<Listener = TcpListener, Stream = TcpStream>
+        + Clock
+        + AllocGlobal
+        + Copy
+        + Drop
+        + Send
+        + 'static,
+>(rt: R, words: &[Text], sink: &mut Output, faults: &mut Output) -> Status {
     let mut spawner = Spawner::new(Way::Threads);
+    let mut listener = TcpLinks::new(rt, rt.alloc());
     let clock = SystemClock::new(rt);
-    run_shared(&rt, rt.alloc(), words, &mut spawner, sink, faults, &clock)
+    run_shared(
+        &rt,
+        rt.alloc(),
+        words,
+        &mut spawner,
+        &mut listener,
+        sink,
+        faults,
+        &clock,
+    )
 }
 
 fn main(rt: HostRuntime) -> ExitCode {

@@ -1,18 +1,20 @@
-use Rattle.std.proofs.Common.{arith}
+use Rattle.std.proofs.Common.{◌∙◌, refl, sym, ap, arith}
+use Rattle.shop_edges.specs.Causes.{count_up}
 use Rattle.shop_places.specs.Listening.{seen_by}
 use Rattle.shop_places.specs.Outcomes.{ServesLinks}
+use Rattle.shop_places.proofs.cited.Counts.{counted_next}
 use Rattle.shop_places.proofs.Steps.{passed_up, started_more, started_none, stopped_at}
 use Rattle.shop_places.proofs.serving.serve_links.Goals as goal
 
 pub loop-before-init : goal.loop-before-init
-loop-before-init g c = record { started = started_none g.S.Station.serves _ _; starts = omega arith; later = omega arith }
+loop-before-init g c = record { started = started_none g.S.Station.serves _ _; starts = refl; later = omega arith }
 
 pub loop-before-preserved : goal.loop-before-preserved
 loop-before-preserved g c =
     let was = c.loop-before.invariant in
     record {
       started = started_more g.S.Station.serves c.loop-before.before _ _ _ _ _ _ _ was.started c.in_ok-serve_one.ensures.served (omega (arith, c.from-link.ensures));
-      starts = omega (arith, was.starts, c.in_ok-serve_one.ensures.starts);
+      starts = c.in_ok-serve_one.ensures.starts ∙ ap count_up was.starts ∙ sym (counted_next c.loop-before.before _);
       later = omega (arith, was.later, c.serve_one.ensures.later);
     }
 

@@ -5,7 +5,7 @@ use Rattle.std.proofs.lemmas.List.{nil_from_length}
 use Rattle.shop_edges.specs.Causes.{count_up}
 use Rattle.shop_edges.specs.Starts.{Spawning}
 use Rattle.shop_tasks.specs.Tasks.{IsTicketOf}
-use Rattle.shop_tasks.proofs.Tasks.{counted_more}
+use Rattle.shop_places.proofs.cited.Counts.{counted_more}
 use Rattle.shop_tasks.proofs.running.start_all.Goals as goal
 
 pub loop-task-preserved : goal.loop-task-preserved

@@ -2,7 +2,7 @@ use Rattle.std.proofs.Common.{◌≡◌, ◌+◌, ◌≤◌, ◌++◌, length}
 use Rattle.std.specs.List.{AllZip}
 use Rattle.std.specs.Vec.{vec_len, vec_capacity}
 use Rattle.std.specs.Vec.Iter.{into_iter_items, into_iter_len}
-use Rattle.shop_tasks.specs.Counts.{counted}
+use Rattle.shop_places.specs.Counts.{counted}
 use Rattle.shop_tasks.specs.Tasks.{IsTicketOf}
 use Rattle.shop_tasks.proofs.running.start_all.Given as goal
 

@@ -3,7 +3,7 @@ use Rattle.clap.specs.Words.{first_value, found_of}
 use Rattle.shop_words.specs.declared.options.Refusal.{Refusal}
 use Rattle.shop_words.specs.Commands.{IsCommand}
 use Rattle.shop_words.proofs.Commands.{first-named, passed, texts}
-use Rattle.shop_words.proofs.Sessions.{chosen-read, command-words, drive-kind, gateway-kind, none-chosen, none-read, race-kind, session-kind}
+use Rattle.shop_words.proofs.Sessions.{chosen-read, command-words, drive-kind, gateway-kind, none-chosen, none-read, race-kind, serve-kind, session-kind}
 use Rattle.shop_words.proofs.command.read_command.Goals as goal
 
 pub returns-in_err-texts : goal.returns-in_err-texts
@@ -70,6 +70,26 @@ returns-in-race c =
     let are = ap texts c.as_slice-texts.ensures.value ∙ c.in_ok-texts.ensures.texts in
     none-chosen race-kind _ _ are (first-named _ _ _ _ are (omega arith) c.in-race.is-race)
     (first_value (found_of c.in_ok-found-in-race.found)) c.in_ok-found-in-race.ensures.values c.in-None-race_of.ensures.none
+
+-- ---- serving a port
+
+pub returns-in_err-found-in-serve : goal.returns-in_err-found-in-serve
+returns-in_err-found-in-serve c =
+    let are = ap texts c.as_slice-texts.ensures.value ∙ c.in_ok-texts.ensures.texts in
+    passed (IsCommand c.args.words.now) c.from_residual-in_err-found-in-serve.result c.in_err-found-in-serve.field-0.0 c.from_residual-in_err-found-in-serve.ensures.1
+    (λ bad. none-read serve-kind _ _ are (first-named _ _ _ _ are (omega arith) c.in-serve.is-serve) (c.in_err-found-in-serve.ensures.bad (ap (λ (r : Refusal). Err r) bad)))
+
+pub returns-in-Some-serve_of : goal.returns-in-Some-serve_of
+returns-in-Some-serve_of c =
+    let are = ap texts c.as_slice-texts.ensures.value ∙ c.in_ok-texts.ensures.texts in
+    chosen-read serve-kind _ _ are (first-named _ _ _ _ are (omega arith) c.in-serve.is-serve)
+    (first_value (found_of c.in_ok-found-in-serve.found)) c.in_ok-found-in-serve.ensures.values c.in-Some-serve_of.serve c.in-Some-serve_of.ensures.some
+
+pub returns-in-serve : goal.returns-in-serve
+returns-in-serve c =
+    let are = ap texts c.as_slice-texts.ensures.value ∙ c.in_ok-texts.ensures.texts in
+    none-chosen serve-kind _ _ are (first-named _ _ _ _ are (omega arith) c.in-serve.is-serve)
+    (first_value (found_of c.in_ok-found-in-serve.found)) c.in_ok-found-in-serve.ensures.values c.in-None-serve_of.ensures.none
 
 -- ---- a gateway
 

@@ -1,6 +1,6 @@
 use Rattle.shop_app.proofs.Chosen.{opens_at}
-use Rattle.shop_app.proofs.RaceLemmas.{opens_new}
-use Rattle.shop_app.proofs.raced.open_shop.Goals as goal
+use Rattle.shop_app.proofs.NewShops.{opens_new}
+use Rattle.shop_app.proofs.shops.open_shop.Goals as goal
 
 pub open-requires : goal.open-requires
 open-requires g c = opens_at c.in_ok-tables.tables c.args.asked.limit c.requires.limit c.in_ok-tables.ensures.sound c.in_ok-tables.ensures.room c.in_ok-tables.ensures.born

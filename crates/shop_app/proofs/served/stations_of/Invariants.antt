@@ -1,0 +1,16 @@
+use Rattle.std.proofs.Common.{◌≡◌, ◌++◌, length}
+use Rattle.std.specs.Vec.Iter.{into_iter_items, into_iter_len}
+use Rattle.shop_places.specs.Listening.{listening}
+use Rattle.shop_app.specs.Serving.{AreFirstStations, Dials, dials}
+use Rattle.shop_app.proofs.served.stations_of.Given as goal
+
+abbrev pub invariant-loop-desk : goal.invariant-loop-desk
+invariant-loop-desk g l = record {
+  can : (goal.iterator-loop-desk g).can_next l.desk-iterator;
+  finite : (goal.iterator-loop-desk g).is_finite l.desk-iterator;
+  split : l.yielded ++ into_iter_items l.desk-iterator ≡ into_iter_items l.initial.desk-iterator;
+  size : into_iter_len l.desk-iterator ≡ length (into_iter_items l.desk-iterator);
+  number : l.number ≡ length l.yielded;
+  are : AreFirstStations (g.C.Clock, g.I.Source, g.O.Sink) l.asked (g.C.Clock.readings l.clock) l.yielded l.stations.items;
+  dials : Dials (dials l.asked.gateway (length l.yielded)) (listening g.L.Listener l.fn.listener) (listening g.L.Listener l.listener);
+}
