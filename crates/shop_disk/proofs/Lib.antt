@@ -1,0 +1,3 @@
+pub mod cited
+mod MemoryFiles
+mod MemoryStates

@@ -1,0 +1,10 @@
+mod Appends
+mod Creating
+mod Finding
+mod Frames
+mod Looks
+mod Pieces
+mod Putting
+mod Runs
+mod Scans
+mod Spellings
