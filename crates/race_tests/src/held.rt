@@ -158,7 +158,7 @@ fn a_connection_is_served_while_an_earlier_one_waits(rt: HostRuntime) -> Result<
     let outcome = run(&rt, alloc, LINE, Way::Threads, &mut peers)?;
     let lines = "entries 0\norders 0\ncents 0\ncaller 1 0\ncaller 2 0\n";
     assert!(rt; is_told(&outcome, Status::Done, (2, 0), lines, ""));
-    assert!(rt; peers.got(1, &[ITEM]) && peers.got(2, &[ITEM]));
+    assert!(rt; peers.got(1, ITEM) && peers.got(2, ITEM));
     Ok(())
 }
 
@@ -171,6 +171,6 @@ fn an_earlier_connection_waits_in_vain_where_jobs_are_run_at_once(
     let mut peers = held_links(&rt, alloc, TURNS_ALONE)?;
     let outcome = run(&rt, alloc, LINE, Way::AtOnce, &mut peers)?;
     assert!(rt; (outcome.status, outcome.starts) == (Status::Done, (2, 0)));
-    assert!(rt; peers.got(1, &[]) && peers.got(2, &[ITEM]));
+    assert!(rt; peers.got(1, "") && peers.got(2, ITEM));
     Ok(())
 }

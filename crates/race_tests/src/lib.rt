@@ -27,6 +27,8 @@ mod races;
 #[cfg(test)]
 mod runs;
 #[cfg(test)]
+mod served;
+#[cfg(test)]
 mod serving;
 #[cfg(test)]
 mod targets;

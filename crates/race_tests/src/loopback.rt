@@ -1,5 +1,5 @@
 //! `serve` and a gateway over sockets of this machine, each in a thread of the test.
-use crate::pages::{ITEM_1, Sale, cart, order};
+use crate::pages::{Answer, ITEM_1, Sale, written_of};
 use crate::peers::requests_of;
 use crate::runs::{Outcome, is_told, run};
 use crate::targets;
@@ -69,6 +69,40 @@ fn buy<R: Net<Listener = TcpListener, Stream = TcpStream> + Drop>(
     })
 }
 
+/// A port that the system has chosen, and which is not open any more.
+fn free_port<R: Net<Listener = TcpListener, Stream = TcpStream> + Drop>(
+    rt: R,
+    alloc: Global,
+) -> Option<u16> {
+    let mut links = TcpLinks::new(rt, alloc);
+    match links.open(0) {
+        Opened::Open => links.port(),
+        Opened::Failed => None,
+    }
+}
+
+/// The port at which a gateway is open, and one at which nothing is.
+#[derive(Clone, Copy)]
+struct Ports {
+    gateway: u16,
+    shop: u16,
+}
+
+/// Opens a gateway at a port that the system chooses.
+fn open_gateway<R: Net<Listener = TcpListener, Stream = TcpStream> + Drop>(
+    rt: R,
+    alloc: Global,
+    gateway: &mut TcpLinks<R>,
+) -> Option<Ports> {
+    match gateway.open(0) {
+        Opened::Open => Some(Ports {
+            gateway: gateway.port()?,
+            shop: free_port(rt, alloc)?,
+        }),
+        Opened::Failed => None,
+    }
+}
+
 /// What comes of words. In the end the gateway is dialled once more, so that nobody waits there in vain.
 fn serve<
     R: Threads
@@ -90,18 +124,6 @@ fn serve<
     outcome
 }
 
-/// A port that the system has chosen, and which is not open any more.
-fn free_port<R: Net<Listener = TcpListener, Stream = TcpStream> + Drop>(
-    rt: R,
-    alloc: Global,
-) -> Option<u16> {
-    let mut links = TcpLinks::new(rt, alloc);
-    match links.open(0) {
-        Opened::Open => links.port(),
-        Opened::Failed => None,
-    }
-}
-
 /// The requests of a purchase, the last ones of their link.
 fn purchase(alloc: Global) -> Result<Text, Memory> {
     let mut requests = requests_of(alloc, &[targets::CART_OF_ITEM_1])?;
@@ -111,29 +133,51 @@ fn purchase(alloc: Global) -> Result<Text, Memory> {
     Ok(requests)
 }
 
+/// Whether both sides of a purchase went well.
+fn is_paid(alloc: Global, outcome: &Outcome, bought: &Bought) -> Result<bool, Memory> {
+    let lines = "entries 2\norders 1\ncents 2776\ncaller 1 2\n";
+    let answers = [Answer::Cart(1, ITEM_1), Answer::LastOrder(Sale::FIRST)];
+    let written = written_of(alloc, &answers)?;
+    Ok(
+        is_told(outcome, Status::Done, (1, 0), lines, "")
+            && (bought.end, bought.charges) == (Served::Closed, 1)
+            && bought.answer.bytes() == written.as_bytes(),
+    )
+}
+
+/// Whether a purchase that is served in one thread, and made and paid for in another, goes well.
+fn is_bought<
+    R: Threads
+        + Wait
+        + Net<Listener = TcpListener, Stream = TcpStream>
+        + Clone
+        + Drop
+        + Send
+        + Sync
+        + 'static,
+>(rt: &R, alloc: Global, gateway: &mut TcpLinks<R>, ports: Ports) -> Result<bool, Memory> {
+    let line = format!(in alloc;
+        "serve --port {} --workers 1 --gateway {}",
+        ports.shop, ports.gateway
+    )?;
+    let requests = purchase(alloc)?;
+    let mut links = TcpLinks::new(rt.clone()?, alloc);
+    let (outcome, bought) = thread::join(
+        rt,
+        || serve(rt, alloc, line.as_str(), &mut links, ports.gateway),
+        || buy(alloc, gateway, ports.shop, requests.bytes()),
+    );
+    match (outcome, bought) {
+        (Ok(outcome), Some(bought)) => is_paid(alloc, &outcome, &bought),
+        _ => Ok(false),
+    }
+}
+
 #[test]
 fn a_purchase_over_sockets_is_paid_at_a_gateway_over_sockets(rt: HostRuntime) -> Result<(), Fail> {
     let alloc = rt.alloc();
     let mut gateway = TcpLinks::new(rt, alloc);
-    assert!(rt; gateway.open(0) == Opened::Open);
-    let paid_at = gateway.port().ok_or("no port")?;
-    let port = free_port(rt, alloc).ok_or("no port")?;
-    let line = format!(in alloc; "serve --port {port} --workers 1 --gateway {paid_at}")?;
-    let requests = purchase(alloc)?;
-    let mut links = TcpLinks::new(rt, alloc);
-    let (outcome, bought) = thread::join(
-        &rt,
-        || serve(&rt, alloc, line.as_str(), &mut links, paid_at),
-        || buy(alloc, &mut gateway, port, requests.bytes()),
-    );
-    let outcome = outcome?;
-    let bought = bought.ok_or("no purchase")?;
-    let lines = "entries 2\norders 1\ncents 2776\ncaller 1 2\n";
-    assert!(rt; is_told(&outcome, Status::Done, (1, 0), lines, ""));
-    assert!(rt; bought.end == Served::Closed && bought.charges == 1);
-    let cart = cart(alloc, 1, &ITEM_1)?;
-    let order = order(alloc, &Sale::FIRST, true)?;
-    let answer = [cart.as_str(), order.as_str()].concat(alloc)?;
-    assert!(rt; bought.answer.bytes() == answer.as_bytes());
+    let ports = open_gateway(rt, alloc, &mut gateway).ok_or("no port")?;
+    assert!(rt; is_bought(&rt, alloc, &mut gateway, ports)?);
     Ok(())
 }

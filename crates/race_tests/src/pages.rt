@@ -165,7 +165,7 @@ Content-Length: {length}\r\n{end}\r\n{text}"
 }
 
 /// A cart with one unit of an item.
-pub(crate) fn cart(alloc: Global, cart: u32, item: &Shown) -> Result<String, Memory> {
+fn cart(alloc: Global, cart: u32, item: &Shown) -> Result<String, Memory> {
     let Shown {
         number,
         title,
@@ -220,7 +220,7 @@ impl Sale {
 }
 
 /// The page of a sale.
-pub(crate) fn order(alloc: Global, order: &Sale, is_last: bool) -> Result<String, Memory> {
+fn order(alloc: Global, order: &Sale, is_last: bool) -> Result<String, Memory> {
     let Sale {
         number,
         ships,
@@ -239,4 +239,29 @@ pub(crate) fn order(alloc: Global, order: &Sale, is_last: bool) -> Result<String
 </body></html>\n"
     )?;
     page(alloc, text.as_str(), is_last)
+}
+
+/// What a request is answered.
+#[derive(Clone, Copy)]
+pub(crate) enum Answer {
+    Page(&'static str),
+    /// A cart of this number, with one unit of an item.
+    Cart(u32, Shown),
+    Order(Sale),
+    /// The same, in the last answer of a link.
+    LastOrder(Sale),
+}
+
+/// What is written to a link that gets these answers.
+pub(crate) fn written_of(alloc: Global, answers: &[Answer]) -> Result<String, Memory> {
+    let mut written = String::new(alloc);
+    for answer in answers {
+        match answer {
+            Answer::Page(page) => written.push_str(page)?,
+            Answer::Cart(number, item) => written.push_str(cart(alloc, *number, item)?.as_str())?,
+            Answer::Order(sale) => written.push_str(order(alloc, sale, false)?.as_str())?,
+            Answer::LastOrder(sale) => written.push_str(order(alloc, sale, true)?.as_str())?,
+        }
+    }
+    Ok(written)
 }

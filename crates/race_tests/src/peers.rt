@@ -120,30 +120,18 @@ impl<I: LinkIn + Drop, O: LinkOut + Drop> Peers<I, O> {
         numbers.eq(links.iter().copied())
     }
 
-    /// Whether the link of this number came back, and these pages were written to it.
-    pub(crate) fn got(&self, link: u64, pages: &[&str]) -> bool
+    /// Whether the link of this number came back, and this was written to it.
+    pub(crate) fn got(&self, link: u64, written: &str) -> bool
     where
         O: Written,
     {
         for (number, sink) in &self.back {
             if *number == link {
-                return is_written(sink.written(), pages);
+                return sink.written() == written.as_bytes();
             }
         }
         false
     }
-}
-
-/// Whether these bytes are these pages, one behind the other.
-fn is_written(bytes: &[u8], pages: &[&str]) -> bool {
-    let mut rest = str::from_utf8(bytes).unwrap_or("(no text)");
-    for page in pages {
-        match rest.strip_prefix(*page) {
-            Some(behind) => rest = behind,
-            None => return false,
-        }
-    }
-    rest.is_empty()
 }
 
 /// The requests of these targets.

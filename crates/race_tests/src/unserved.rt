@@ -63,7 +63,7 @@ fn where_no_more_is_accepted_what_was_served_comes_back(rt: HostRuntime) -> Resu
     let outcome = run(&rt, alloc, line, Way::AtOnce, &mut peers)?;
     assert!(rt; is_network_fault(&outcome, 2));
     assert!(rt; peers.came_back(&[1, 2]));
-    assert!(rt; peers.got(1, &[ITEM]) && peers.got(2, &[ITEM]));
+    assert!(rt; peers.got(1, ITEM) && peers.got(2, ITEM));
     assert!(rt; peers.counts() == (2, 0, 1));
     Ok(())
 }
@@ -85,7 +85,7 @@ fn where_a_job_is_not_started_no_more_is_accepted(rt: HostRuntime) -> Result<(),
         )
     );
     assert!(rt; outcome.status.code() == 6);
-    assert!(rt; peers.came_back(&[1]) && peers.got(1, &[ITEM]));
+    assert!(rt; peers.came_back(&[1]) && peers.got(1, ITEM));
     assert!(rt; peers.counts() == (2, 0, 0));
     Ok(())
 }
@@ -98,6 +98,6 @@ fn an_accept_that_fails_before_a_start_decides(rt: HostRuntime) -> Result<(), Fa
     let line = "serve --workers 2 --connections 2";
     let outcome = run(&rt, alloc, line, second_fails(alloc)?, &mut peers)?;
     assert!(rt; is_network_fault(&outcome, 1));
-    assert!(rt; peers.came_back(&[1]) && peers.got(1, &[ITEM]));
+    assert!(rt; peers.came_back(&[1]) && peers.got(1, ITEM));
     Ok(())
 }

@@ -112,9 +112,9 @@ module _ {C I O : Type 0} (by : Meanings C I O) where
     pub unfailing : serve.gateway ≡ 0 → All (λ v. failures v.report.points ≡ 0) visits
     pub verdicts : serve.gateway ≡ 0 → All (λ a. a.verdict ≡ verdict [] a.charge) (flat_map answers_in turn.accounts)
 
-  -- so many links were accepted at an open port, and each was served once, by the station of a caller of one shop, and
-  -- came back. The log of the shop is lawful, each entry is one caller's, and its stamp is no later than the moment that
-  -- some caller's last connection left. The lines tell what the log came to
+  -- so many links were accepted behind the call that opens the port, and each was served once, by the station of a
+  -- caller of one shop, and came back. The log of the shop is lawful, each entry is one caller's, and its stamp is no later
+  -- than the moment that some caller's last connection left. The lines tell what the log came to
   pub record ServedLinks (serve : Serve) (clock : Option (List ℕ)) (before after : Listening I O) (lines : List ℕ) : Type 0 where
     pub book : BookValue
     pub opened_at : book.opening.tables ≡ populated serve.shop.seed serve.shop.scale

@@ -1,5 +1,5 @@
 -- What bytes come to that are no message yet.
-use Rattle.std.proofs.Common.{◌≡◌, ◌<◌, ⊎_elim, ℕ, List, [], length, append-nil, refl, sym, ap, ◌∙◌, subst, arith}
+use Rattle.std.proofs.Common.{◌≡◌, ◌<◌, ⊎_elim, inl, ℕ, List, [], ◌∷◌, ◌++◌, length, append-nil, refl, sym, ap, ◌∙◌, subst, arith}
 use Rattle.shop_model.specs.declared.refusal.Refusal.{Refusal}
 use Rattle.shop_message.specs.declared.gather.Gathered.{Gathered}
 use Rattle.shop_message.specs.declared.gather.Gathered.TheVariants as gathered
@@ -23,6 +23,15 @@ waits-still held wanted awaits short = record {
   unready = subst IsUnready (append-nil held) (awaits.part [] (omega (arith, short, ap length (append-nil held))));
   same = λ more. refl;
 }
+
+nothing : (bytes : List ℕ) → length bytes < 1 → IsUnready bytes
+unfolding after_line_ends
+nothing [] short = record { front = refl; part = inl refl }
+nothing (byte ∷ bytes) short = absurd (omega arith)
+
+-- no bytes are no message
+pub awaits-one : (held : List ℕ) → Awaits held 1
+awaits-one held = record { few = omega arith; part = λ piece short. nothing (held ++ piece) short }
 
 -- at the line ends' end, all the bytes are those that are held
 all_held : (before after : List ℕ) → Waits before after → after_line_ends before ≡ after

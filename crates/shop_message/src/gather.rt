@@ -71,7 +71,7 @@ impl Gather {
         Ok(Gather {
             alloc,
             buffer: Buffer::new(alloc)?,
-            wanted: 0,
+            wanted: 1,
             is_ended: false,
         })
     }
@@ -107,7 +107,7 @@ impl Gather {
         if self.buffer.len() < self.wanted {
             return self.undecided();
         }
-        self.wanted = 0;
+        self.wanted = 1;
         match look_at(self.alloc, &mut self.buffer) {
             Look::Message(message) => Gathered::Message(message),
             Look::Refused(refusal) => Gathered::Bad(refusal),

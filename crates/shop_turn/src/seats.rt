@@ -2,10 +2,7 @@
 ghost use Rattle.std.specs.Prelude.{◌≡◌, ◌≤◌, [], None, IsSome, MatchBool};
 ghost use Rattle.shop_model.specs.rows.Limits.{stamp_limit};
 ghost use Rattle.shop_attempt.specs.Faithful.{Faithful};
-ghost use Rattle.shop_book.specs.Preparing.{IsReady as IsPreparedFor};
 ghost use Rattle.shop_turn.specs.Views.{named_as, together, copy};
-ghost use Rattle.shop_turn.specs.Committed.{CommittedFrom};
-ghost use Rattle.shop_turn.specs.Shared.{at_stamp};
 ghost use Rattle.shop_turn.specs.Seats.{IsAt, IsReady, MayBeNamed, SeatIs, Found, Finds, Reads, Settled};
 
 use crate::rule::{
@@ -16,7 +13,7 @@ use crate::sleepers::Sleepers;
 use crate::turns::{count_one, gather_all, give_back, give_turn, take_turn};
 use crate::visits::{leave, take_share};
 use shop_attempt::{Attempt, Settle};
-use shop_book::{Book, Prepared};
+use shop_book::Book;
 use shop_history::{Drawn, Ids, Key, Row};
 use shop_text::Memory;
 use std::sync::Wait;
@@ -170,23 +167,6 @@ fn settle_reading<R: Wait>(
     }
 }
 
-/// Makes a prepared change over the book of the only share that is left.
-fn commit_over<R: Wait>(rt: &R, share: &mut Share, latest: u64, prepared: Prepared) -> Settle
-    requires after { share.old.latest ≤ latest }
-    requires bound { latest ≤ stamp_limit }
-    requires ready { IsPreparedFor share.old.opening share.old.log prepared }
-    ensures { CommittedFrom (at_stamp latest share.old) share.new prepared result }
-{
-    let mut left = prepared;
-    for _ in rt.forever() {
-        match share.commit(latest, left) {
-            Ok(answer) => return answer,
-            Err(again) => left = again,
-        }
-    }
-    unreachable!()
-}
-
 /// Settles a change: prepares it while others still read, and makes it alone.
 fn settle_change<R: Wait>(
     rt: &R,
@@ -213,7 +193,7 @@ fn settle_change<R: Wait>(
         Ok(prepared) => {
             gather_all(rt, shared, seat, callers, &share);
             let latest = shared.load::<Measure>(seat, LATEST);
-            match commit_over(rt, &mut share, latest, prepared) {
+            match share.commit(rt, latest, prepared) {
                 Settle::Done(drawn) => {
                     count_one(rt, shared, seat, callers, &share, moment);
                     give_back(rt, shared, sleepers, seat, callers, share);

@@ -9,13 +9,15 @@ use shop_book::{Book, Prepared};
 use shop_history::{Key, Row};
 use shop_text::Memory;
 use std::alloc::{AllocError, Global};
+use std::boxed::Box;
 use std::marker::Model;
-use std::sync::Arc;
+use std::sync::{Arc, Wait};
 
-/// A share of a book. A contract sees the book.
+/// A share of a book, which lies behind a box of its own, so that a share that isn't the last one is dropped
+/// without room for a book. A contract sees the book.
 #[derive(Drop)]
 pub struct Share {
-    book: Arc<Book, Global>,
+    book: Arc<Box<Book, Global>, Global>,
 }
 
 impl Model for Share {
@@ -24,7 +26,7 @@ impl Model for Share {
 
     ghost Value = { BookValue };
 
-    ghost view = { λ s. arc_value s.book };
+    ghost view = { λ s. (arc_value s.book).value };
 }
 
 impl Share {
@@ -33,7 +35,7 @@ impl Share {
         ensures { IfOk result (λ share. share ≡ book) }
     {
         Ok(Share {
-            book: Arc::new(alloc, book)?,
+            book: Arc::new(alloc, Box::new(alloc, book)?)?,
         })
     }
 
@@ -63,21 +65,21 @@ impl Share {
         book.read(key)
     }
 
-    /// Makes a change that the book prepared, at the shop's latest stamp, where the book has no other share;
-    /// else hands the change back.
-    pub fn commit(&mut self, latest: u64, prepared: Prepared) -> Result<Settle, Prepared>
+    /// Makes a change that the book prepared, at the shop's latest stamp. Waits until the book has no other
+    /// share.
+    pub fn commit<R: Wait>(&mut self, rt: &R, latest: u64, prepared: Prepared) -> Settle
         requires after { self.old.latest ≤ latest }
         requires bound { latest ≤ stamp_limit }
         requires ready { IsReady self.old.opening self.old.log prepared }
-        ensures committed { IfOk result (CommittedFrom (at_stamp latest self.old) self.new prepared) }
-        ensures again { IfErr result (λ again. again ≡ prepared) }
-        ensures same { IfErr result (λ again. self.new ≡ self.old) }
+        ensures { CommittedFrom (at_stamp latest self.old) self.new prepared result }
     {
-        let Some(book) = Arc::get_mut(&mut self.book) else {
-            return Err(prepared);
-        };
-        book.raise(latest);
-        Ok(book.commit(prepared))
+        for _ in rt.forever() {
+            if let Some(book) = Arc::get_mut(&mut self.book) {
+                book.raise(latest);
+                return book.commit(prepared);
+            }
+        }
+        unreachable!()
     }
 
     /// The book, where it has no other share; else the share.
@@ -87,7 +89,7 @@ impl Share {
     {
         let Share { book } = self;
         match Arc::try_unwrap(book) {
-            Ok(book) => Ok(book),
+            Ok(book) => Ok(Box::into_inner(book)),
             Err(book) => Err(Share { book }),
         }
     }

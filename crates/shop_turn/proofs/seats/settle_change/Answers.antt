@@ -40,7 +40,7 @@ count_one-requires-clause-longer g c =
     let e = c.take_turn-share.ensures in let l = c.load-next.ensures in let o = c.gather_all.ensures in let m = c.load-latest.ensures in let share = c.take_turn-share.result in
     let ready = prepared_as c.args.number c.count_of-next.result share _ _ c.args.attempt c.in-Ok.prepared c.get-2.ensures c.get.ensures c.count_of-next.ensures.value c.in-Ok.ensures.prepared in
     all_counted c.args.seat.now.me.0 1 c.args.callers c.load-latest.result share c.take_turn-share.new.seat.me c.load-next.new.seat.me c.gather_all.new.seat.me _ e.0 e.1.2 l.2.2 o.0 o.1.2 m.2.2
-    c.args.number _ c.args.attempt.moment c.commit_over.new.share c.args.attempt.act c.in-Done.drawn c.requires.ready.number_is c.requires.changes c.commit_over.ensures.kept c.requires.moment (c.in-Done.ensures.settles c.args.number _ c.args.attempt ready).taken
+    c.args.number _ c.args.attempt.moment c.commit.new.self c.args.attempt.act c.in-Done.drawn c.requires.ready.number_is c.requires.changes c.commit.ensures.kept c.requires.moment (c.in-Done.ensures.settles c.args.number _ c.args.attempt ready).taken
 
 pub returns-in-Done : goal.returns-in-Done
 returns-in-Done g c =
@@ -49,14 +49,14 @@ returns-in-Done g c =
     let ready = prepared_as c.args.number c.count_of-next.result share _ _ c.args.attempt c.in-Ok.prepared c.get-2.ensures c.get.ensures c.count_of-next.ensures.value c.in-Ok.ensures.prepared in
     record {
       before = at_stamp latest share;
-      after = c.commit_over.new.share;
-      found = all_found v 1 c.args.callers latest share c.take_turn-share.new.seat.me c.load-next.new.seat.me c.gather_all.new.seat.me _ e.0 e.1.2 l.2.2 o.0 o.1.2 m.2.2 l.2.1.0 c.commit_over.ensures.was m.2.3 l.2.1.2;
-      kept = c.commit_over.ensures.kept;
+      after = c.commit.new.self;
+      found = all_found v 1 c.args.callers latest share c.take_turn-share.new.seat.me c.load-next.new.seat.me c.gather_all.new.seat.me _ e.0 e.1.2 l.2.2 o.0 o.1.2 m.2.2 l.2.1.0 c.commit.ensures.was m.2.3 l.2.1.2;
+      kept = c.commit.ensures.kept;
       settles = c.in-Done.ensures.settles c.args.number _ c.args.attempt ready;
       seat = (
         a.0 ∙ n.0 ∙ m.0 ∙ o.1.0 ∙ l.0 ∙ e.1.0,
         a.1 ∙ n.1 ∙ m.1 ∙ o.1.1 ∙ l.1 ∙ e.1.1,
-        a.2 ∙ ap (λ (w : View). (w, [])) (n.2 ∙ all_changed v 1 c.args.callers latest share c.take_turn-share.new.seat.me c.load-next.new.seat.me c.gather_all.new.seat.me _ e.0 e.1.2 l.2.2 o.0 o.1.2 m.2.2 c.commit_over.new.share.log c.args.attempt.moment),
+        a.2 ∙ ap (λ (w : View). (w, [])) (n.2 ∙ all_changed v 1 c.args.callers latest share c.take_turn-share.new.seat.me c.load-next.new.seat.me c.gather_all.new.seat.me _ e.0 e.1.2 l.2.2 o.0 o.1.2 m.2.2 c.commit.new.self.log c.args.attempt.moment),
       );
     }
 
@@ -65,7 +65,7 @@ give_back-requires-in_default g c =
     let at = c.requires.at in let e = c.take_turn-share.ensures in let l = c.load-next.ensures in let o = c.gather_all.ensures in let m = c.load-latest.ensures in
     let share = c.take_turn-share.result in let latest = c.load-latest.result in
     let ready = prepared_as c.args.number c.count_of-next.result share _ _ c.args.attempt c.in-Ok.prepared c.get-2.ensures c.get.ensures c.count_of-next.ensures.value c.in-Ok.ensures.prepared in
-    let same = refused_same (at_stamp latest share) c.commit_over.new.share c.args.number _ c.args.attempt c.commit_over.result c.in_default.not-Done (c.commit_over.ensures.settles c.args.number _ c.args.attempt ready) in
+    let same = refused_same (at_stamp latest share) c.commit.new.self c.args.number _ c.args.attempt c.commit.result c.in_default.not-Done (c.commit.ensures.settles c.args.number _ c.args.attempt ready) in
     record {
       at = record { table = m.0 ∙ o.1.0 ∙ l.0 ∙ e.1.0 ∙ at.table; words = at.words; slots = at.slots; few = at.few };
       callers = c.requires.callers;
@@ -79,14 +79,14 @@ returns-in_default g c =
     let ready = prepared_as c.args.number c.count_of-next.result share _ _ c.args.attempt c.in-Ok.prepared c.get-2.ensures c.get.ensures c.count_of-next.ensures.value c.in-Ok.ensures.prepared in
     record {
       before = at_stamp latest share;
-      after = c.commit_over.new.share;
-      found = all_found v 1 c.args.callers latest share c.take_turn-share.new.seat.me c.load-next.new.seat.me c.gather_all.new.seat.me _ e.0 e.1.2 l.2.2 o.0 o.1.2 m.2.2 l.2.1.0 c.commit_over.ensures.was m.2.3 l.2.1.2;
-      kept = c.commit_over.ensures.kept;
-      settles = c.commit_over.ensures.settles c.args.number _ c.args.attempt ready;
+      after = c.commit.new.self;
+      found = all_found v 1 c.args.callers latest share c.take_turn-share.new.seat.me c.load-next.new.seat.me c.gather_all.new.seat.me _ e.0 e.1.2 l.2.2 o.0 o.1.2 m.2.2 l.2.1.0 c.commit.ensures.was m.2.3 l.2.1.2;
+      kept = c.commit.ensures.kept;
+      settles = c.commit.ensures.settles c.args.number _ c.args.attempt ready;
       seat = (
         a.0 ∙ m.0 ∙ o.1.0 ∙ l.0 ∙ e.1.0,
         a.1 ∙ m.1 ∙ o.1.1 ∙ l.1 ∙ e.1.1,
-        a.2 ∙ ap (λ (w : View). (w, [])) (all_refused v 1 c.args.callers latest share c.take_turn-share.new.seat.me c.load-next.new.seat.me c.gather_all.new.seat.me _ e.0 e.1.2 l.2.2 o.0 o.1.2 m.2.2 refl c.commit_over.new.share c.args.attempt.moment c.commit_over.result c.in_default.not-Done),
+        a.2 ∙ ap (λ (w : View). (w, [])) (all_refused v 1 c.args.callers latest share c.take_turn-share.new.seat.me c.load-next.new.seat.me c.gather_all.new.seat.me _ e.0 e.1.2 l.2.2 o.0 o.1.2 m.2.2 refl c.commit.new.self c.args.attempt.moment c.commit.result c.in_default.not-Done),
       );
     }
 
