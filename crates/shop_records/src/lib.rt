@@ -8,12 +8,20 @@
 //! syncs again.
 #![tactic(auto)]
 
+#[cfg(test)]
+mod cases;
 mod contents;
 mod opening;
 mod put;
 mod reading;
+#[cfg(test)]
+mod real_files;
 mod records;
 mod scanning;
+#[cfg(test)]
+mod stopped_calls;
+#[cfg(test)]
+mod torn_files;
 
 pub use contents::Contents;
 pub use opening::{Created, Found};

@@ -69,6 +69,8 @@ impl<D: Disk> Records<D> {
     /// none.
     pub fn create(alloc: Global, disk: D, header: &[u8; HEADER]) -> Created<D>
         ensures created { CreatedAs D.state (D.state disk).told header.now result }
+        // A file with bytes is left as it was, whatever the answer, and a crash at no moment leaves more than before.
+        ensures left { (file : List ℕ) → (D.state disk).told ≡ Some file → file ≢ [] → Looks (D.state disk) (D.state (disk_made result)) }
         ensures tells { is_some (D.state (disk_made result)).told ≡ is_some (D.state disk).told }
         ensures later { (D.state disk).faults ≤ (D.state (disk_made result)).faults }
         ensures failed { (failed : D) → result ≡ Created.Failed failed → Rose (D.state disk).faults (D.state failed).faults }
