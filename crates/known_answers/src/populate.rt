@@ -134,12 +134,13 @@ fn print_order(rt: &impl Print, order: &Order) -> Result<(), Stop> {
         order.id,
         order.customer,
         order.discount,
+        order.rate,
         order.ship_address,
         order.ship_day,
     ];
     answer(
         rt,
-        &"order, customer, discount, ship address, ship day",
+        &"order, customer, discount, rate, ship address, ship day",
         &numbers,
     )?;
     let amounts = [order.sub, order.tax, order.ship, order.total, order.placed];
@@ -167,7 +168,8 @@ fn print_payment(rt: &impl Print, card: &CardUse) -> Result<(), Stop> {
 }
 
 fn print_country(rt: &impl Print, country: &Country) -> Result<(), Stop> {
-    answer(rt, &"country", &(country.id, text_of(country.name.bytes())))
+    let name = text_of(country.name.bytes());
+    answer(rt, &"country, rate", &(country.id, name, country.rate))
 }
 
 fn print_author(rt: &impl Print, author: &Author) -> Result<(), Stop> {

@@ -199,16 +199,19 @@ fn print_full_cart(rt: &(impl Print + AllocGlobal)) -> Result<(), Stop> {
     answer(rt, &"a hundred lines", &fill(&mut lines, &request, 101, 0))
 }
 
-/// By lines of an item, a quantity and a cost, and a discount.
+/// By lines of an item, a quantity and a cost, a discount, and a rate of tax.
 fn print_totals(rt: &impl Print) -> Result<(), Stop> {
     heading(rt, "totals follow the money rule")?;
     let cases = [
-        (&[(7, 3, 199)][..], 50),
-        (&[][..], 0),
-        (&[(1, 999, 999_999), (2, 1, 1)][..], 0),
+        (&[(7, 3, 199)][..], 50, 825),
+        (&[(7, 3, 199)][..], 50, 0),
+        (&[(7, 3, 199)][..], 50, 10_000),
+        (&[][..], 0, 1_000),
+        (&[(1, 999, 999_999), (2, 1, 1)][..], 0, 825),
     ];
-    for (lines, discount) in cases {
-        answer(rt, &(lines, discount), &Totals::of(lines, discount))?;
+    for (lines, discount, rate) in cases {
+        let totals = Totals::of(lines, discount, rate);
+        answer(rt, &(lines, discount, rate), &totals)?;
     }
     Ok(())
 }

@@ -232,9 +232,9 @@ fn a_charge_for_a_cost_that_another_caller_changed_is_authorised_only(
         read: 0,
         found: 2,
     };
-    let (unsold, sold) = ((1, 2, 2_776, false), (1, 2, 1_547, true));
+    let (unsold, sold) = ((1, 2, 2_606, false), (1, 2, 1_465, true));
     let charges = [Some(unsold), Some(sold), None];
-    let orders = [Some((10, 1_547, 3)), None];
+    let orders = [Some((10, 1_465, 3)), None];
     assert!(rt; told.changes == changes && told.clash == Some(clash) && told.counts == (3, 2, 1));
     assert!(rt; told.charges == charges && told.orders == orders && told.unused == 1);
     Ok(())

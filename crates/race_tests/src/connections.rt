@@ -72,7 +72,7 @@ fn a_cart_that_one_worker_sold_is_empty_to_another_one(rt: HostRuntime) -> Resul
             &[Answer::Cart(1, ITEM_1), Answer::Order(Sale::SECOND)],
         ],
         back: &[1, 3, 2],
-        printed: "entries 4\norders 2\ncents 5552\ncaller 1 4\ncaller 2 0\n",
+        printed: "entries 4\norders 2\ncents 5212\ncaller 1 4\ncaller 2 0\n",
     };
     assert!(rt; is_served(&rt, rt.alloc(), Way::AtOnce, &serving)?);
     Ok(())
@@ -116,7 +116,7 @@ fn a_connection_gets_a_thousand_answers(rt: HostRuntime) -> Result<(), Fail> {
         asked: &[&asked, &purchase],
         answers: &[&answers, &bought],
         back: &[1, 2],
-        printed: "entries 2\norders 1\ncents 2776\ncaller 1 2\n",
+        printed: "entries 2\norders 1\ncents 2606\ncaller 1 2\n",
     };
     assert!(rt; is_served(&rt, alloc, Way::AtOnce, &serving)?);
     Ok(())

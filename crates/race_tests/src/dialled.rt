@@ -36,7 +36,7 @@ fn each_worker_asks_its_own_gateway(rt: HostRuntime) -> Result<(), Fail> {
             &[Answer::Order(SECOND)],
         ],
         back: &[1, 3, 2],
-        printed: "entries 4\norders 2\ncents 5552\ncaller 1 3\ncaller 2 1\n",
+        printed: "entries 4\norders 2\ncents 5212\ncaller 1 3\ncaller 2 1\n",
     };
     assert!(rt; is_served(&rt, rt.alloc(), Way::AtOnce, &serving)?);
     Ok(())

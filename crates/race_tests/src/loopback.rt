@@ -135,7 +135,7 @@ fn purchase(alloc: Global) -> Result<Text, Memory> {
 
 /// Whether both sides of a purchase went well.
 fn is_paid(alloc: Global, outcome: &Outcome, bought: &Bought) -> Result<bool, Memory> {
-    let lines = "entries 2\norders 1\ncents 2776\ncaller 1 2\n";
+    let lines = "entries 2\norders 1\ncents 2606\ncaller 1 2\n";
     let answers = [Answer::Cart(1, ITEM_1), Answer::LastOrder(Sale::FIRST)];
     let written = written_of(alloc, &answers)?;
     Ok(

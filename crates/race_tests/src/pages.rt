@@ -201,21 +201,21 @@ impl Sale {
     pub(crate) const FIRST: Sale = Sale {
         number: 37,
         ships: "1970-01-06",
-        authorisation: "111225009362787",
+        authorisation: "111224839362277",
     };
 
     /// The one behind it, in call 4.
     pub(crate) const SECOND: Sale = Sale {
         number: 38,
         ships: "1970-01-04",
-        authorisation: "111225009382801",
+        authorisation: "111224839382291",
     };
 
     /// The first order, in call 1,002 of caller 1.
     pub(crate) const OF_CALL_1002: Sale = Sale {
         number: 37,
         ships: "1970-01-07",
-        authorisation: "111225019369787",
+        authorisation: "111224849369277",
     };
 }
 
@@ -231,7 +231,7 @@ fn order(alloc: Global, order: &Sale, is_last: bool) -> Result<String, Memory> {
 <h1>Order {number}</h1>\n\
 <p>Customer 10, ships {ships}</p>\n\
 <table><tr><td>1</td><td>Kind Harbour OG</td><td>1</td><td>41.42</td><td>41.42</td></tr></table>\n\
-<p>Subtotal 21.95, tax 1.81, shipping 4.00, total 27.76</p>\n\
+<p>Subtotal 21.95, tax 0.11, shipping 4.00, total 26.06</p>\n\
 <p>Authorisation {authorisation}</p>\n\
 <a href=\"/home?c=10&amp;cart=1\">Home</a>\n\
 <a href=\"/search_request?c=10&amp;cart=1\">Search</a>\n\

@@ -78,7 +78,7 @@ fn two_workers_race_where_no_number_is_given(rt: HostRuntime) -> Result<(), Fail
 }
 
 /// What is printed where these browsers are run one after another.
-const LINES: &str = "entries 176\norders 40\ncents 126412\n\
+const LINES: &str = "entries 176\norders 40\ncents 124969\n\
 caller 1 44\ncaller 2 44\ncaller 3 44\ncaller 4 44\n";
 
 /// The same browsers over a log that may have twenty changes.

@@ -14,7 +14,7 @@ use shop_book::{Book, Solo};
 use shop_browse::Ask;
 use shop_draft::Draft;
 use shop_history::{Key, Row};
-use shop_model::{Cart, CartRequest, IdsAsked, Scale};
+use shop_model::{Cart, CartRequest, IdsAsked, Scale, TaxRule};
 use shop_search::Index;
 use shop_text::{Listed, Memory, Shared};
 use std::alloc::Global;
@@ -179,6 +179,7 @@ fn told_at_desk(
         index,
         moment: 1_000,
         draw: 0,
+        tax: TaxRule::ByCountry,
     };
     let mut solo = Solo::new(book_of(alloc, scale)?);
     let fronts = settled_in_turn(alloc, &mut solo, &ask, draft);

@@ -1,8 +1,9 @@
 //! What caller 2 does at a book that caller 1 has too.
 ghost use Rattle.std.specs.Prelude.{◌≡◌, ◌≤◌, IfOk, IfSome};
 ghost use Rattle.shop_model.specs.asked.AdminAsked.{IsCost};
-ghost use Rattle.shop_model.specs.asked.CustomersAsked.{IsFilled};
+ghost use Rattle.shop_model.specs.asked.CustomersAsked.{IsAddressAsked, IsFilled};
 ghost use Rattle.shop_model.specs.rows.Limits.{stamp_limit};
+ghost use Rattle.shop_model.specs.rows.Sound.{Has};
 ghost use Rattle.shop_attempt.specs.Faithful.{Faithful};
 ghost use Rattle.shop_attempt.specs.Marks.{KeepsMarks, Looks};
 ghost use Rattle.shop_attempt.specs.Seats.{Follows};
@@ -16,7 +17,8 @@ use shop_edges::Call;
 use shop_gateway::Emulator;
 use shop_history::{Act, Drawn, Key};
 use shop_model::{
-    AdminConfirm, BuyConfirm, Card, CardNumber, CardType, CartRequest, IdsAsked, Month, ShipType,
+    AddressText, AdminConfirm, BuyConfirm, Card, CardNumber, CardType, CartRequest, IdsAsked,
+    Month, ShipType,
 };
 use shop_order::admin_confirm::admin_confirm;
 use shop_order::buy_confirm::{Paid, Paying, buy_confirm, pay};
@@ -31,6 +33,8 @@ pub(crate) enum Deed {
     AddUnit,
     /// It buys a unit of this item for customer 11, where caller 1 is about to buy or to administer an item.
     Buy(u32),
+    /// It does the same with item 7, which it has shipped to an address in country 41.
+    Ship,
     /// It lets item 1 cost 20.00, where caller 1 is about to buy, or shows the newest items of a subject.
     Reprice,
     /// From caller 1's settle of this number on, counted from 1, it lets item 1 cost 20.00, and a cent more each time: a
@@ -43,12 +47,12 @@ impl Deed {
     pub(crate) fn is_before(self, attempt: &Attempt, settle: u32) -> bool {
         match self {
             Deed::AddUnit => true,
-            Deed::Buy(_) => matches!(
+            Deed::Buy(_) | Deed::Ship => matches!(
                 attempt.act,
-                Some(Act::Confirm(_, _, _)) | Some(Act::Admin(_))
+                Some(Act::Confirm(_, _, _, _)) | Some(Act::Admin(_))
             ),
             Deed::Reprice => {
-                matches!(attempt.act, Some(Act::Confirm(_, _, _))) || reads_newest(attempt)
+                matches!(attempt.act, Some(Act::Confirm(_, _, _, _))) || reads_newest(attempt)
             }
             Deed::Raise(from) => from <= settle,
         }
@@ -87,7 +91,8 @@ pub(crate) fn does<St: Store>(
     let (deed, settle) = timed;
     match deed {
         Deed::AddUnit => add_unit(alloc, store, ask, draft),
-        Deed::Buy(item) => buy_item(alloc, store, ask, item, draft),
+        Deed::Buy(item) => buy_item(alloc, store, ask, item, None, draft),
+        Deed::Ship => buy_item(alloc, store, ask, 7, Some(41), draft),
         Deed::Reprice => reprice(alloc, store, ask, 2_000, draft),
         Deed::Raise(from) => reprice(alloc, store, ask, raised(settle, from), draft),
     }
@@ -111,14 +116,17 @@ fn add_unit<St: Store>(alloc: Global, store: &mut St, ask: &Ask, draft: &mut Dra
     }
 }
 
-/// A unit of an item into a new cart, which is then bought; whether that was done.
+/// A unit of an item into a new cart, which is then bought, and shipped to a country where one is told; whether that was
+/// done.
 fn buy_item<St: Store>(
     alloc: Global,
     store: &mut St,
     ask: &Ask,
     item: u32,
+    country: Option<u32>,
     draft: &mut Draft,
 ) -> bool
+    requires country { IfSome country (Has 92) }
     requires suits { Suits ask.now (St.seat store.old) }
     requires moment { ask.now.moment ≤ stamp_limit }
     ensures follows { Follows (St.seat store.old) (St.seat store.new) }
@@ -126,14 +134,14 @@ fn buy_item<St: Store>(
     ensures marks { KeepsMarks (St.marked store.old) (St.marked store.new) (St.seat store.old) (St.seat store.new) }
 {
     match new_cart(alloc, store, ask, item, draft) {
-        Some(cart) => buy(alloc, store, ask, cart, draft),
+        Some(cart) => buy(alloc, store, ask, cart, country, draft),
         None => false,
     }
 }
 
 /// The id of a new cart with a unit of an item.
 #[tactic(auto, using(shop_attempt::proofs::cited::Looks::follows_trans))]
-fn new_cart<St: Store>(
+pub(crate) fn new_cart<St: Store>(
     alloc: Global,
     store: &mut St,
     ask: &Ask,
@@ -152,16 +160,24 @@ fn new_cart<St: Store>(
     }
 }
 
-/// A cart, bought; whether that was done.
+/// A cart, bought by customer 11; whether that was done.
 #[tactic(auto, using(shop_attempt::proofs::cited::Looks::follows_trans))]
-fn buy<St: Store>(alloc: Global, store: &mut St, ask: &Ask, cart: u32, draft: &mut Draft) -> bool
+fn buy<St: Store>(
+    alloc: Global,
+    store: &mut St,
+    ask: &Ask,
+    cart: u32,
+    country: Option<u32>,
+    draft: &mut Draft,
+) -> bool
+    requires country { IfSome country (Has 92) }
     requires suits { Suits ask.now (St.seat store.old) }
     requires moment { ask.now.moment ≤ stamp_limit }
     ensures follows { Follows (St.seat store.old) (St.seat store.new) }
     ensures others { LeavesOthers (St.seat store.old) (St.seat store.new) }
     ensures marks { KeepsMarks (St.marked store.old) (St.marked store.new) (St.seat store.old) (St.seat store.new) }
 {
-    let Ok(asked) = purchase(alloc, cart) else {
+    let Ok(asked) = purchase(alloc, 11, cart, country) else {
         return false;
     };
     match buying(alloc, store, ask, &asked, draft) {
@@ -287,7 +303,7 @@ fn repricing<St: Store>(
     }
 }
 
-/// The card of customer 11.
+/// The card of whoever buys.
 fn card(alloc: Global) -> Result<Card, Memory> {
     Ok(Card {
         card: CardType::Visa,
@@ -297,20 +313,53 @@ fn card(alloc: Global) -> Result<Card, Memory> {
     })
 }
 
-/// That customer 11 buys a cart.
-fn purchase(alloc: Global, cart: u32) -> Result<Shared<BuyConfirm>, Memory> {
+/// An address in a country.
+pub(crate) fn address_in(alloc: Global, country: u32) -> Result<AddressText, Memory>
+    requires { Has 92 country }
+    ensures { IfOk result IsAddressAsked }
+{
+    Ok(AddressText {
+        street1: filled(alloc, b"1 Way")?,
+        street2: Text::new(alloc),
+        city: filled(alloc, b"Ulm")?,
+        state: Text::new(alloc),
+        zip: filled(alloc, b"89073")?,
+        country,
+    })
+}
+
+/// The same where a country is told.
+fn address_to(alloc: Global, country: Option<u32>) -> Result<Option<AddressText>, Memory>
+    requires { IfSome country (Has 92) }
+    ensures { IfOk result (λ address. IfSome address IsAddressAsked) }
+{
+    match country {
+        Some(country) => Ok(Some(address_in(alloc, country)?)),
+        None => Ok(None),
+    }
+}
+
+/// That a customer buys a cart, and has it shipped to a country where one is told.
+pub(crate) fn purchase(
+    alloc: Global,
+    customer: u32,
+    cart: u32,
+    country: Option<u32>,
+) -> Result<Shared<BuyConfirm>, Memory>
+    requires { IfSome country (Has 92) }
+{
     let asked = BuyConfirm {
-        c: 11,
+        c: customer,
         cart,
         payment: card(alloc)?,
         ship: ShipType::Mail,
-        address: None,
+        address: address_to(alloc, country)?,
     };
     Shared::new(alloc, asked)
 }
 
 /// The attempt at a purchase, paid by caller 2 at a gateway of its own.
-fn buying<St: Store>(
+pub(crate) fn buying<St: Store>(
     alloc: Global,
     store: &mut St,
     ask: &Ask,

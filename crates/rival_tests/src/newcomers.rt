@@ -1,6 +1,5 @@
 //! Two callers who buy as newcomers: the change of caller 2 falls between the reads of caller 1 and its settle.
-ghost use Rattle.std.specs.Prelude.{◌≡◌, ◌≤◌, IfOk, IfSome};
-ghost use Rattle.shop_model.specs.asked.CustomersAsked.{IsAddressAsked};
+ghost use Rattle.std.specs.Prelude.{◌≡◌, ◌≤◌, IfSome};
 ghost use Rattle.shop_log.specs.Histories.{Extends};
 ghost use Rattle.shop_model.specs.lists.Catalogues.{catalogue};
 ghost use Rattle.shop_model.specs.population.Population.{populated};
@@ -12,34 +11,19 @@ ghost use Rattle.shop_book.specs.Solos.{seat_of};
 ghost use Rattle.shop_browse.specs.Attempts.{Suits};
 
 use crate::cancelling::one_unit;
-use crate::deeds::{filled, settles};
+use crate::deeds::{address_in, filled, settles};
 use crate::opened::{book_of, empty_draft, index_of};
 use shop_attempt::{Attempt, Settle, Store};
 use shop_book::{Book, Solo, Visitor};
 use shop_browse::{Ask, Attempted};
 use shop_draft::Draft;
 use shop_history::{Ids, Key, Row};
-use shop_model::{AddressText, BuyRequest, Buyer, Newcomer, Scale};
+use shop_model::{BuyRequest, Buyer, Newcomer, Scale, TaxRule};
 use shop_order::buy_request::buy_request;
 use shop_search::Index;
-use shop_text::{Memory, Shared, Text};
+use shop_text::{Memory, Shared};
 use std::alloc::Global;
 use std::test::Fail;
-
-/// An address in a country.
-fn address_in(alloc: Global, country: u32) -> Result<AddressText, Memory>
-    requires { Has 92 country }
-    ensures { IfOk result IsAddressAsked }
-{
-    Ok(AddressText {
-        street1: filled(alloc, b"1 Way")?,
-        street2: Text::new(alloc),
-        city: filled(alloc, b"Ulm")?,
-        state: Text::new(alloc),
-        zip: filled(alloc, b"89073")?,
-        country,
-    })
-}
 
 /// A newcomer who has an address in a country.
 fn newcomer_in(alloc: Global, country: u32) -> Result<Newcomer, Memory>
@@ -230,6 +214,7 @@ fn outcome_at_desk(
         index,
         moment: 1_000,
         draw: 0,
+        tax: TaxRule::ByCountry,
     };
     let mut solo = Solo::new(book_of(alloc, scale)?);
     let told = told_in_turn(alloc, &mut solo, &ask, mine, other, draft);

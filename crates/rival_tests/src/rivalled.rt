@@ -13,7 +13,7 @@ use shop_book::{Book, Solo, Visitor};
 use shop_browse::Ask;
 use shop_draft::Draft;
 use shop_history::{Key, Row};
-use shop_model::Scale;
+use shop_model::{Scale, TaxRule};
 use shop_search::Index;
 use shop_text::Memory;
 use std::alloc::Global;
@@ -106,6 +106,7 @@ impl Rivalled {
                 index: &self.index,
                 moment: attempt.moment,
                 draw: 0,
+                tax: TaxRule::ByCountry,
             };
             let deed = (self.deed, self.settles);
             self.changes -= rival(self.alloc, &mut self.solo, &ask, deed, &mut self.draft);

@@ -13,6 +13,18 @@ const PURCHASE: &[u8] = b"GET /shopping_cart?item=1 HTTP/1.1\r\nHost: shop\r\n\r
 GET /buy_confirm?c=10&cart=1&card=VISA&number=4111222233334444&name=F&expiry=2027-05 HTTP/1.1\r\n\
 Host: shop\r\n\r\n";
 
+/// The same, shipped to an address in country 41, whose rate is 0.
+const UNTAXED_PURCHASE: &[u8] = b"GET /shopping_cart?item=1 HTTP/1.1\r\nHost: shop\r\n\r\n\
+GET /buy_confirm?c=10&cart=1&card=VISA&number=4111222233334444&name=F&expiry=2027-05\
+&street1=1+Way&city=Ulm&zip=89073&country=41 HTTP/1.1\r\n\
+Host: shop\r\n\r\n";
+
+/// The same, shipped to an address in country 40, whose rate is a tenth.
+const TAXED_PURCHASE: &[u8] = b"GET /shopping_cart?item=1 HTTP/1.1\r\nHost: shop\r\n\r\n\
+GET /buy_confirm?c=10&cart=1&card=VISA&number=4111222233334444&name=F&expiry=2027-05\
+&street1=1+Way&city=Ulm&zip=89073&country=40 HTTP/1.1\r\n\
+Host: shop\r\n\r\n";
+
 const ADMINISTRATION: &[u8] =
     b"GET /admin_confirm?item=1&cost=3000&image=/i.gif&thumb=/t.gif HTTP/1.1\r\n\
 Host: shop\r\n\r\n";
@@ -35,14 +47,14 @@ fn bought_by(front: u64, tries: u32) -> [Option<Decided>; 4] {
 fn a_card_is_charged_once_for_a_purchase_that_is_tried_again(rt: HostRuntime) -> Result<(), Fail> {
     let told = told_after_one(rt.alloc(), PURCHASE, Deed::Buy(1))?;
     let sold = told.sold;
-    let auth = AuthId::of(111_225_009_362_787);
-    let charges = [Some((1, 2, 2_776)), None, None];
+    let auth = AuthId::of(111_224_839_362_277);
+    let charges = [Some((1, 2, 2_606)), None, None];
     let own = (sold.orders[1], sold.orders[2]);
     assert!(rt;
         told.shown.answers == bought_by(4, 2) && sold.charges == charges && sold.counts == (4, 2, 2)
     );
     assert!(rt; matches!(sold.orders[0], Some((11, _, _, 3))));
-    assert!(rt; own == (Some((10, 2_776, auth, 4)), None));
+    assert!(rt; own == (Some((10, 2_606, auth, 4)), None));
     Ok(())
 }
 
@@ -50,9 +62,9 @@ fn a_card_is_charged_once_for_a_purchase_that_is_tried_again(rt: HostRuntime) ->
 fn a_cart_that_got_a_line_meanwhile_is_charged_anew(rt: HostRuntime) -> Result<(), Fail> {
     let told = told_after_one(rt.alloc(), PURCHASE, Deed::AddUnit)?;
     let sold = told.sold;
-    let auth = AuthId::of(111_227_562_370_446);
-    let charges = [Some((1, 2, 2_776)), Some((1, 2, 5_329)), None];
-    let orders = [Some((10, 5_329, auth, 3)), None, None];
+    let auth = AuthId::of(111_227_216_369_408);
+    let charges = [Some((1, 2, 2_606)), Some((1, 2, 4_983)), None];
+    let orders = [Some((10, 4_983, auth, 3)), None, None];
     assert!(rt;
         told.shown.answers == bought_by(3, 2) && sold.charges == charges && sold.counts == (3, 2, 1)
     );
@@ -64,13 +76,44 @@ fn a_cart_that_got_a_line_meanwhile_is_charged_anew(rt: HostRuntime) -> Result<(
 fn a_cost_that_was_changed_meanwhile_is_charged_anew(rt: HostRuntime) -> Result<(), Fail> {
     let told = told_after_one(rt.alloc(), PURCHASE, Deed::Reprice)?;
     let sold = told.sold;
-    let auth = AuthId::of(111_223_780_359_100);
-    let charges = [Some((1, 2, 2_776)), Some((1, 2, 1_547)), None];
-    let orders = [Some((10, 1_547, auth, 3)), None, None];
+    let auth = AuthId::of(111_223_698_358_854);
+    let charges = [Some((1, 2, 2_606)), Some((1, 2, 1_465)), None];
+    let orders = [Some((10, 1_465, auth, 3)), None, None];
     assert!(rt;
         told.shown.answers == bought_by(3, 2) && sold.charges == charges && sold.counts == (3, 2, 1)
     );
     assert!(rt; sold.orders == orders);
+    Ok(())
+}
+
+#[test]
+fn an_address_that_came_meanwhile_is_read_anew_and_the_card_is_charged_once(
+    rt: HostRuntime,
+) -> Result<(), Fail> {
+    let told = told_after_one(rt.alloc(), UNTAXED_PURCHASE, Deed::Ship)?;
+    let sold = told.sold;
+    let auth = AuthId::of(111_224_828_362_244);
+    let charges = [Some((1, 2, 2_595)), None, None];
+    let own = (sold.orders[1], sold.orders[2]);
+    assert!(rt;
+        told.shown.answers == bought_by(4, 2) && sold.charges == charges && sold.counts == (4, 2, 2)
+    );
+    assert!(rt; matches!(sold.orders[0], Some((11, _, _, 3))));
+    assert!(rt; own == (Some((10, 2_595, auth, 4)), None));
+    Ok(())
+}
+
+#[test]
+fn an_address_of_another_country_that_came_meanwhile_is_no_conflict(
+    rt: HostRuntime,
+) -> Result<(), Fail> {
+    let told = told_after_one(rt.alloc(), TAXED_PURCHASE, Deed::Ship)?;
+    let charges = [Some((1, 2, 2_815)), None, None];
+    assert!(rt;
+        told.shown.answers == bought_by(4, 1)
+            && told.sold.charges == charges
+            && told.sold.counts == (4, 2, 2)
+    );
     Ok(())
 }
 

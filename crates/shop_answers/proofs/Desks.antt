@@ -76,6 +76,7 @@ twins_sound t sound =
       carts = sound.carts;
       last = sound.last;
       bounds = record {
+        countries = sound.bounds.countries;
         customers = sound.bounds.customers;
         items = sound.bounds.items;
         orders = sound.bounds.orders;

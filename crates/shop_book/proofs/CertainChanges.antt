@@ -17,7 +17,7 @@ use Rattle.shop_model.specs.rows.Rows.{ItemRow, CustomerRow, CartRow, LineRow, O
 use Rattle.shop_model.specs.rows.Sound.{Sound, Has, IsQuantity, IsStocked, IsFit, units_in, last_of}
 use Rattle.shop_model.specs.trade.Buyers.{says_same, address_saying, addresses_with}
 use Rattle.shop_model.specs.trade.Carts.{lines_named}
-use Rattle.shop_model.specs.trade.Sales.{new_order, sold_item, with_purchase, ship_addresses}
+use Rattle.shop_model.specs.trade.Sales.{Terms, new_order, sold_item, with_purchase, ship_addresses}
 use Rattle.shop_model.specs.trade.Stocks.{times_restocked, stock_after}
 use Rattle.shop_model.proofs.cited.Restocking.{IsRestocked, restocked}
 use Rattle.shop_history.specs.declared.keys.Key.{Key}
@@ -83,10 +83,10 @@ says_itself text =
       eq-eqb text.country text.country refl,
     ) refl
 
-module _ (t : Tables) (sound : Sound t) (asked : PurchaseAsked) (stamp draw : ℕ) (auth : List ℕ) (customer : CustomerRow) (cart : CartRow)
+module _ (t : Tables) (sound : Sound t) (asked : PurchaseAsked) (stamp draw : ℕ) (terms : Terms) (customer : CustomerRow) (cart : CartRow)
     (buys : row_numbered t.customers asked.c ≡ Some customer) (basket : row_numbered t.carts asked.cart ≡ Some cart) (some : 1 ≤ length cart.lines) where
   abbrev order : OrderRow
-  order = new_order t stamp draw auth asked customer
+  order = new_order t stamp draw terms asked customer
 
   abbrev after : Tables
   after = with_purchase t asked order

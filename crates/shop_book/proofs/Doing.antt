@@ -11,7 +11,7 @@ use Rattle.shop_model.specs.rows.Rows.{ItemRow, OrderRow}
 use Rattle.shop_model.specs.rows.Sound.{Sound}
 use Rattle.shop_model.specs.pages.Show.{check, check_there}
 use Rattle.shop_model.specs.trade.Mending.{tables_mended}
-use Rattle.shop_model.specs.trade.Sales.{check_purchase, new_order, with_order, with_purchase, tables_bought}
+use Rattle.shop_model.specs.trade.Sales.{Terms, check_purchase, new_order, with_order, with_purchase, tables_bought}
 use Rattle.shop_history.specs.declared.acts.Act.{Act}
 use Rattle.shop_history.specs.declared.acts.Act.TheVariants as act
 use Rattle.shop_history.specs.declared.keys.Key.{Key}
@@ -116,12 +116,12 @@ module _ (t : Tables) (a : Act) (stamp : ℕ) (rows : Rows) (lists : Lists) (pla
 pub record Selling (t : Tables) (a : Act) (keys : List Key) : Type 0 where
   pub asked : PurchaseAsked
   pub draw : ℕ
-  pub auth : List ℕ
-  pub does : a ≡ act.Confirm asked draw auth
+  pub terms : Terms
+  pub does : a ≡ act.Confirm asked draw terms.auth terms.tax
   pub keys_are : keys ≡ certain_changes t asked
 
 selling : (t : Tables) (a : Act) (keys : Vec Key Global) → IsPlanOf t a (Sell keys) → Selling t a keys.items
-selling t (act.Confirm asked draw auth) keys planned = record { asked = asked; draw = draw; auth = auth; does = refl; keys_are = planned }
+selling t (act.Confirm asked draw auth tax) keys planned = record { asked = asked; draw = draw; terms = record { auth = auth; tax = tax }; does = refl; keys_are = planned }
 selling t _ keys planned = absurd planned
 
 module _ (t : Tables) (a : Act) (stamp : ℕ) (rows : Rows) (lists : Lists) (plan : Plan) (keys : Vec Key Global) (same : plan ≡ Sell keys) (done : IsDone t a stamp rows lists plan) where
@@ -135,11 +135,11 @@ module _ (t : Tables) (a : Act) (stamp : ℕ) (rows : Rows) (lists : Lists) (pla
   who = who_buys t sells.asked passes
 
   abbrev order : OrderRow
-  order = new_order t stamp sells.draw sells.auth sells.asked who.customer
+  order = new_order t stamp sells.draw sells.terms sells.asked who.customer
 
   -- the tables after it
   after_is : after t stamp a ≡ with_purchase t sells.asked order
-  after_is = ap (after t stamp) sells.does ∙ ap (tables_bought t stamp sells.draw sells.auth sells.asked) who.buys
+  after_is = ap (after t stamp) sells.does ∙ ap (tables_bought t stamp sells.draw sells.terms sells.asked) who.buys
 
   after_sound : Sound (with_purchase t sells.asked order)
   after_sound = subst Sound after_is done.sound_after
@@ -148,7 +148,7 @@ module _ (t : Tables) (a : Act) (stamp : ℕ) (rows : Rows) (lists : Lists) (pla
   rows_are = rows_again t (with_purchase t sells.asked order) rows (done.rows_are ∙ after_is)
 
   sale : IsSale t order rows
-  sale = is_sale t done.sound sells.asked stamp sells.draw sells.auth who.customer who.cart who.buys who.bought who.some after_sound rows rows_are
+  sale = is_sale t done.sound sells.asked stamp sells.draw sells.terms who.customer who.cart who.buys who.bought who.some after_sound rows rows_are
 
   pub sale_done : (u : Tables) × (o : OrderRow) × IsSale u o rows × AreLists u lists
   sale_done = (t, order, sale, done.lists_are)
@@ -156,12 +156,12 @@ module _ (t : Tables) (a : Act) (stamp : ℕ) (rows : Rows) (lists : Lists) (pla
   pub places_done : (v : Versions) → HasPlaces v rows → All (HasPlace v) keys.items
   places_done v places =
       subst (All (HasPlace v)) (sym sells.keys_are)
-      (certain_places t done.sound sells.asked stamp sells.draw sells.auth who.customer who.cart who.buys who.bought who.some after_sound rows rows_are v places)
+      (certain_places t done.sound sells.asked stamp sells.draw sells.terms who.customer who.cart who.buys who.bought who.some after_sound rows rows_are v places)
 
   pub lists_done : (moved : Lists) → ((u : Tables) (o : OrderRow) → IsSale u o rows → AreLists u lists → AreLists (with_order u o) moved) → AreLists (after t stamp a) moved
   lists_done moved sold =
       subst (λ (u : Tables). AreLists u moved) (sym after_is)
-      (lists_bought t done.sound sells.asked stamp sells.draw sells.auth who.customer who.cart who.buys who.bought who.some moved (sold t order sale done.lists_are))
+      (lists_bought t done.sound sells.asked stamp sells.draw sells.terms who.customer who.cart who.buys who.bought who.some moved (sold t order sale done.lists_are))
 
   pub raised_done : (number : ℕ) (first mid end : Key → ℕ) → RaisesAll keys.items number first mid
       → ((u : Tables) (o : OrderRow) → IsSale u o rows → AreLists u lists → RaisedFor u (with_order u o) number (lists_change u o.customer (items_of o)) mid end)
@@ -169,7 +169,7 @@ module _ (t : Tables) (a : Act) (stamp : ℕ) (rows : Rows) (lists : Lists) (pla
   raised_done number first mid end certain listed =
       subst (λ (b : Act). RaisedFor t (after t stamp a) number (may_change t b) first end) (sym sells.does)
       (subst (λ (u : Tables). RaisedFor t u number (purchase_changes t sells.asked) first end) (sym after_is)
-      (purchase_raised t done.sound sells.asked stamp sells.draw sells.auth who.customer who.cart who.buys who.bought who.some number first mid end
+      (purchase_raised t done.sound sells.asked stamp sells.draw sells.terms who.customer who.cart who.buys who.bought who.some number first mid end
       (subst (λ (ks : List Key). RaisesAll ks number first mid) sells.keys_are certain) (listed t order sale done.lists_are)))
 
 -- the administration of an item

@@ -12,14 +12,14 @@ use Rattle.shop_model.specs.declared.buying.Buyer.TheVariants.{Returning, Newcom
 use Rattle.shop_model.specs.declared.tables.Tables.{Tables}
 use Rattle.shop_model.specs.asked.AdminAsked.{AdminAsked}
 use Rattle.shop_model.specs.asked.PurchaseAsked.{PurchaseAsked}
-use Rattle.shop_model.specs.rows.Limits.{price_limit, quantity_limit, lines_limit}
+use Rattle.shop_model.specs.rows.Limits.{price_limit, quantity_limit, lines_limit, charged_rate_limit}
 use Rattle.shop_model.specs.rows.Lookups.{row_numbered}
-use Rattle.shop_model.specs.rows.Rows.{CustomerRow, ItemRow, LineRow, OrderRow, IsLine}
+use Rattle.shop_model.specs.rows.Rows.{CustomerRow, ItemRow, LineRow, OrderRow, IsOrder, IsLine}
 use Rattle.shop_model.specs.rows.Sound.{Sound, HasLines, IsCharged}
 use Rattle.shop_model.specs.trade.Buyers.{tables_entered}
 use Rattle.shop_model.specs.trade.Mending.{with_mended}
 use Rattle.shop_model.specs.trade.Money.{money, sub_of, tax_of, ship_of, sum_of, units_of}
-use Rattle.shop_model.specs.trade.Sales.{new_order, tables_bought}
+use Rattle.shop_model.specs.trade.Sales.{Terms, new_order, tables_bought}
 use Rattle.shop_history.specs.declared.acts.Act.{Act}
 use Rattle.shop_history.specs.declared.acts.Act.TheVariants.{Cart, Enter, Confirm, Admin}
 use Rattle.shop_history.specs.declared.acts.Entry.{Entry}
@@ -71,9 +71,9 @@ enter_adds : (t : Tables) (stamp draw : ℕ) (buyer : Buyer) → Adds t.orders (
 enter_adds t stamp draw (Returning asked) = adds_none t.orders
 enter_adds t stamp draw (Newcomer asked) = adds_none t.orders
 
-confirm_adds : (t : Tables) (stamp draw : ℕ) (auth : List ℕ) (asked : PurchaseAsked) (customer : Option CustomerRow) → Adds t.orders (tables_bought t stamp draw auth asked customer).orders
-confirm_adds t stamp draw auth asked None = adds_none t.orders
-confirm_adds t stamp draw auth asked (Some customer) = record { more = new_order t stamp draw auth asked customer ∷ []; is = refl; one = omega arith }
+confirm_adds : (t : Tables) (stamp draw : ℕ) (terms : Terms) (asked : PurchaseAsked) (customer : Option CustomerRow) → Adds t.orders (tables_bought t stamp draw terms asked customer).orders
+confirm_adds t stamp draw terms asked None = adds_none t.orders
+confirm_adds t stamp draw terms asked (Some customer) = record { more = new_order t stamp draw terms asked customer ∷ []; is = refl; one = omega arith }
 
 admin_adds : (t : Tables) (stamp : ℕ) (asked : AdminAsked) (item : Option ItemRow) → Adds t.orders (with_mended t stamp asked item).orders
 admin_adds t stamp asked None = adds_none t.orders
@@ -83,7 +83,7 @@ admin_adds t stamp asked (Some item) = adds_none t.orders
 pub play_adds : (t : Tables) (stamp : ℕ) (act : Act) → Adds t.orders (play t stamp act).tables.orders
 play_adds t stamp (Cart asked draw) = adds_none t.orders
 play_adds t stamp (Enter asked draw) = enter_adds t stamp draw asked.buyer
-play_adds t stamp (Confirm asked draw auth) = confirm_adds t stamp draw auth asked (row_numbered t.customers asked.c)
+play_adds t stamp (Confirm asked draw auth tax) = confirm_adds t stamp draw (record { auth = auth; tax = tax }) asked (row_numbered t.customers asked.c)
 play_adds t stamp (Admin asked) = admin_adds t stamp asked (row_numbered t.items asked.item)
 
 few_came : (t : Tables) (log : List Entry) → length (tables t log).orders ≤ length t.orders + length log
@@ -104,9 +104,9 @@ few_came t =
 
 -- what an order is charged at most
 
-charged_few : (order : OrderRow) → HasLines order → IsCharged order → All IsLine order.lines → order.total ≤ charge_limit
+charged_few : (order : OrderRow) → HasLines order → IsCharged order → IsOrder order → All IsLine order.lines → order.total ≤ charge_limit
 unfolding money sub_of tax_of ship_of sum_of units_of
-charged_few order lines is bounds =
+charged_few order lines is row bounds =
     let each : All (λ (l : LineRow). l.cost * l.quantity ≤ price_limit * quantity_limit) order.lines = λ k d within. mul-le-mul (bounds k d within).cost (bounds k d within).quantity in
     let sum = sum_by-le (λ (l : LineRow). l.cost * l.quantity) (price_limit * quantity_limit) order.lines each in
     let units = sum_by-le (λ (l : LineRow). l.quantity) quantity_limit order.lines (λ k d within. (bounds k d within).quantity) in
@@ -114,10 +114,12 @@ charged_few order lines is bounds =
     let low : sum_of order.lines ≤ lines_limit * (price_limit * quantity_limit) = omega (arith, sum, few) in
     let most : 100 - order.discount ≤ 100 = omega arith in
     let part : sum_of order.lines * (100 - order.discount) ≤ lines_limit * (price_limit * quantity_limit) * 100 = mul-le-mul low most in
-    omega (arith, ap (λ m. m.total) is, part, units, few)
+    let sub : sub_of (sum_of order.lines) order.discount ≤ lines_limit * (price_limit * quantity_limit) = omega (arith, part) in
+    let tax : sub_of (sum_of order.lines) order.discount * order.rate ≤ lines_limit * (price_limit * quantity_limit) * charged_rate_limit = mul-le-mul sub row.rate in
+    omega (arith, ap (λ m. m.total) is, sub, tax, units, few)
 
 pub charges_few : (t : Tables) → Sound t → All (λ o. o.total ≤ charge_limit) t.orders
-charges_few t sound = λ k d within. charged_few (get_or t.orders k d) (sound.lines k d within) (sound.charges k d within) (sound.bounds.lines k d within)
+charges_few t sound = λ k d within. charged_few (get_or t.orders k d) (sound.lines k d within) (sound.charges k d within) (sound.bounds.orders k d within) (sound.bounds.lines k d within)
 
 -- none came to the tables of an opening
 pub none_came : (opening : Opening) → IsOpening opening → cents_in opening.tables ≡ 0

@@ -13,7 +13,7 @@ use Rattle.shop_model.specs.rows.Rows.{CustomerRow, CartRow, OrderRow}
 use Rattle.shop_model.specs.rows.Sound.{Sound, Has, HasLines, OrderNames}
 use Rattle.shop_model.specs.trade.Buyers.{address_saying, addresses_with}
 use Rattle.shop_model.specs.trade.Carts.{lines_named}
-use Rattle.shop_model.specs.trade.Sales.{new_order, sold_item, with_order, with_purchase, ship_addresses}
+use Rattle.shop_model.specs.trade.Sales.{Terms, new_order, sold_item, with_order, with_purchase, ship_addresses}
 use Rattle.shop_history.specs.declared.keys.Key.{Key}
 use Rattle.shop_history.specs.declared.keys.Key.TheVariants as key
 use Rattle.shop_history.specs.declared.keys.Row.TheVariants as row
@@ -35,10 +35,10 @@ use Rattle.shop_book.proofs.CertainChanges.{certain_differ}
 use Rattle.shop_book.proofs.KeptLists.{best_same, newest_same, lists_same}
 use Rattle.shop_book.proofs.Placed.{has_row}
 
-module _ (t : Tables) (sound : Sound t) (asked : PurchaseAsked) (stamp draw : ℕ) (auth : List ℕ) (customer : CustomerRow) (cart : CartRow)
+module _ (t : Tables) (sound : Sound t) (asked : PurchaseAsked) (stamp draw : ℕ) (terms : Terms) (customer : CustomerRow) (cart : CartRow)
     (buys : row_numbered t.customers asked.c ≡ Some customer) (basket : row_numbered t.carts asked.cart ≡ Some cart) (some : 1 ≤ length cart.lines) where
   abbrev order : OrderRow
-  order = new_order t stamp draw auth asked customer
+  order = new_order t stamp draw terms asked customer
 
   abbrev sold : Tables
   sold = with_order t order
@@ -97,7 +97,7 @@ module _ (t : Tables) (sound : Sound t) (asked : PurchaseAsked) (stamp draw : �
     each = λ k.
         ⊎_elim
         (λ (same : end k ≡ mid k).
-        ⊎_elim (λ stays. inl (same ∙ stays)) (λ raised. inr (certain_differ t sound asked stamp draw auth customer cart buys basket some k raised.0, same ∙ raised.1)) (certain.each k))
+        ⊎_elim (λ stays. inl (same ∙ stays)) (λ raised. inr (certain_differ t sound asked stamp draw terms customer cart buys basket some k raised.0, same ∙ raised.1)) (certain.each k))
         (λ raised. inr (⊎_elim (λ (is : row_of bought k ≡ row_of sold k). λ same. raised.0 (sym is ∙ same)) (λ (none : row_of sold k ≡ row_of t k). absurd (raised.0 none)) (row_same k), raised.1))
         (listed.each k);
     all = λ k has differs.

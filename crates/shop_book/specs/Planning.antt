@@ -43,7 +43,7 @@ pub record IsCompared (t : Tables) (a : Act) (watched : List Watched) : Type 0 w
 abbrev pub IsPlanOf : Tables → Act → Plan → Type 0
 IsPlanOf t a (One watched) = IsCompared t a (watched ∷ [])
 IsPlanOf t a (Compare watched) = IsCompared t a watched.items
-IsPlanOf t (act.TheVariants.Confirm asked draw auth) (Sell keys) = keys.items ≡ certain_changes t asked
+IsPlanOf t (act.TheVariants.Confirm asked draw auth tax) (Sell keys) = keys.items ≡ certain_changes t asked
 IsPlanOf t (act.TheVariants.Admin asked) (Mend item row) = (item ≡ asked.item) × (row ≡ row_of t (key.TheVariants.Item item))
 IsPlanOf t _ (Sell keys) = ⊥
 IsPlanOf t _ (Mend item row) = ⊥

@@ -49,7 +49,7 @@ impl Plan {
                     }
                 }
             }
-            Act::Confirm(asked, _, _) => {
+            Act::Confirm(asked, _, _, _) => {
                 Ok(Plan::Sell(certain_changes(alloc, rows, asked.get())?))
             }
             Act::Admin(asked) => {

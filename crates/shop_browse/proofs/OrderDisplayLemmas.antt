@@ -3,7 +3,6 @@ use Rattle.std.proofs.Common.{◌≡◌, ℕ, List, [], ◌∷◌, length, get_o
 use Rattle.std.proofs.lemmas.List.Elements.{All-nil, All-cons, All-head, All-tail}
 use Rattle.shop_model.specs.declared.address.Address.{Address}
 use Rattle.shop_model.specs.declared.buying.OrderDisplay as asked_for
-use Rattle.shop_model.specs.declared.country.Country.{Country}
 use Rattle.shop_model.specs.declared.refusal.Refusal.TheVariants.{NoUserName, WrongPassword}
 use Rattle.shop_model.specs.declared.requests.Request.TheVariants.{OrderDisplay}
 use Rattle.shop_model.specs.declared.tables.Tables.{Tables}
@@ -13,7 +12,7 @@ use Rattle.shop_model.specs.lists.Catalogues.{Catalogue, naming, catalogue}
 use Rattle.shop_model.specs.pages.OrderDisplay.{last_page, order_page, no_order_page}
 use Rattle.shop_model.specs.pages.Show.{show, refused_or}
 use Rattle.shop_model.specs.rows.Lookups.{row_numbered, joined, order_of, last_order, country_name}
-use Rattle.shop_model.specs.rows.Rows.{CustomerRow, LineRow, OrderRow}
+use Rattle.shop_model.specs.rows.Rows.{CountryRow, CustomerRow, LineRow, OrderRow}
 use Rattle.shop_model.specs.rows.Sound.{Has, Sound, OrderNames}
 use Rattle.shop_model.specs.trade.Buyers.{customer_named, check_password}
 use Rattle.shop_history.specs.declared.keys.Key.{Key}
@@ -255,7 +254,7 @@ module _ (asked : asked_for.OrderDisplay) (reads : List ReadOf) (all : HasAll as
         let behind = then_shows t (HasOrder asked.login all.order reads) _ _ (all.is.read ∷ []) (λ rest is. (order_is t fits.sound asked.login reads fits.shows all.order rest is).3) all.is.has in
         (found_by row.Address (λ x is. absurd cc) (λ x y is. cc) (row_numbered t.addresses all.order.ship_address) all.address behind.0, behind.1)
 
-    pub country_there : (d : ReadOf) → (x : Country) × ((get_or reads 5 d).row ≡ row.Country x)
+    pub country_there : (d : ReadOf) → (x : CountryRow) × ((get_or reads 5 d).row ≡ row.Country x)
     country_there d =
         let address = address_found in
         let has : Has (length t.countries) all.address.text.country
@@ -263,7 +262,7 @@ module _ (asked : asked_for.OrderDisplay) (reads : List ReadOf) (all : HasAll as
         let found = there_shown row.Country t.countries all.address.text.country all.is.read.row has (ap (row_of t) (sym all.is.key_is) ∙ address.1.0) in
         (found.0, ap (λ (l : List ReadOf). (get_or l 5 d).row) reads_of ∙ found.1)
 
-    pub ships_to : (d : ReadOf) (x : Country) → (get_or reads 5 d).row ≡ row.Country x → ShipsTo t all.order.ship_address all.address.text.city x.name
+    pub ships_to : (d : ReadOf) (x : CountryRow) → (get_or reads 5 d).row ≡ row.Country x → ShipsTo t all.order.ship_address all.address.text.city x.name
     ships_to d x is =
         let address = address_found in
         let row_is : all.is.read.row ≡ row.Country x = sym (ap (λ (l : List ReadOf). (get_or l 5 d).row) reads_of) ∙ is in
@@ -271,7 +270,7 @@ module _ (asked : asked_for.OrderDisplay) (reads : List ReadOf) (all : HasAll as
         = found_by row.Country (λ x is. absurd cc) (λ x y is. cc) (row_numbered t.countries all.address.text.country) x (ap (row_of t) (sym all.is.key_is) ∙ address.1.0 ∙ row_is) in
         record {
           city_is = ap (λ o. unwrap_or (option_map (λ (a : Address). a.text.city) o) []) address.0;
-          country_is = ap (λ o. country_name t (unwrap_or (option_map (λ (a : Address). a.text.country) o) 0)) address.0 ∙ ap (λ o. unwrap_or (option_map (λ (x : Country). x.name) o) []) country;
+          country_is = ap (λ o. country_name t (unwrap_or (option_map (λ (a : Address). a.text.country) o) 0)) address.0 ∙ ap (λ o. unwrap_or (option_map (λ (x : CountryRow). x.name) o) []) country;
         }
 
     pub have_items : HaveItems t c all.order.lines

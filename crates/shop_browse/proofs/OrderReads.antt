@@ -102,7 +102,7 @@ module _ (asked : asked_for.OrderDisplay) (ask : Ask) (reads : List ReadOf) wher
   asks_last id has = record {
     few = omega arith;
     goes_on = λ more of. (id, one_key (key.LastOrder id) (HasLogin asked.login id (reads ++ more)) more (login_more asked.login reads more id [] has) of);
-    may = λ opening log were. one_may opening log (key.LastOrder id) (inl (id, (login_true opening log asked.login reads were.are id [] has).0, inl refl));
+    may = λ opening log were. one_may opening log (key.LastOrder id) (id, (login_true opening log asked.login reads were.are id [] has).0, inl refl);
   }
 
   pub asks_order : (order : ℕ) → HasLast asked.login order reads [] → AsksFor (FollowsDisplay asked) (OrderDisplay asked) ask 3 reads (key.Order order ∷ [])
@@ -111,7 +111,7 @@ module _ (asked : asked_for.OrderDisplay) (ask : Ask) (reads : List ReadOf) wher
     goes_on = λ more of. (order, one_key (key.Order order) (HasLast asked.login order (reads ++ more)) more (last_more asked.login reads more order [] has) of);
     may = λ opening log were.
         let last = last_true opening log asked.login reads were.are order [] has in
-        one_may opening log (key.Order order) (inl (last.id, last.named, inr (order, last.last, inl refl)));
+        one_may opening log (key.Order order) (last.id, last.named, inr (order, last.last, inl refl));
   }
 
   pub asks_address : (order : OrderRow) → HasOrder asked.login order reads [] → AsksFor (FollowsDisplay asked) (OrderDisplay asked) ask 4 reads (key.Address order.ship_address ∷ [])
@@ -121,7 +121,7 @@ module _ (asked : asked_for.OrderDisplay) (ask : Ask) (reads : List ReadOf) wher
     may = λ opening log were.
         let last = last_true opening log asked.login reads were.are has.id (has.is.read ∷ []) has.is.has in
         let was = (then_true opening log (HasLast asked.login has.id reads) _ _ [] (λ all is. (last_true opening log asked.login reads were.are has.id all is).behind) has.is).0 in
-        one_may opening log (key.Address order.ship_address) (inl (last.id, last.named, inr (has.id, last.last, inr (order, was, refl))));
+        one_may opening log (key.Address order.ship_address) (last.id, last.named, inr (has.id, last.last, inr (order, was, refl)));
   }
 
   pub asks_country : (order : OrderRow) (address : Address) → HasAddress asked.login order address reads [] → AsksFor (FollowsDisplay asked) (OrderDisplay asked) ask 5 reads (key.Country address.text.country ∷ [])
@@ -133,5 +133,7 @@ module _ (asked : asked_for.OrderDisplay) (ask : Ask) (reads : List ReadOf) wher
       is = one_key (key.Country address.text.country) (HasAddress asked.login order address (reads ++ more)) more
           (then_more _ _ _ _ [] more (λ all. order_more asked.login reads more order all) has) of;
     };
-    may = λ opening log were. one_may opening log (key.Country address.text.country) (inr (address.text.country, refl));
+    may = λ opening log were.
+        let P : Key → Type 0 = InFootprint opening log (OrderDisplay asked) ask.draw in
+        All-cons P (key.Country address.text.country) [] (inr (inr (address.text.country, refl))) (All-nil P);
   }

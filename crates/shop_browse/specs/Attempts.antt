@@ -3,6 +3,7 @@ use Rattle.std.specs.Prelude.{◌≡◌, ℕ, ◌≤◌, List, [], ◌∷◌, le
 use Rattle.shop_model.specs.declared.page.Page.{Page}
 use Rattle.shop_model.specs.declared.requests.Request.{Request}
 use Rattle.shop_model.specs.declared.tables.Tables.{Tables}
+use Rattle.shop_model.specs.declared.tax.TaxRule.{TaxRule}
 use Rattle.shop_model.specs.lists.Catalogues.{catalogue}
 use Rattle.shop_model.specs.rows.Limits.{stamp_limit}
 use Rattle.shop_model.specs.pages.Show.{show}
@@ -31,14 +32,15 @@ pub record Suits (ask : Ask) (seat : Seat) : Type 0 where
   pub index : ask.index.now ≡ catalogue seat.opening
   pub scale : ask.scale.now.items ≡ length seat.opening.items
 
--- a request, its moment, and the word that was drawn for it
+-- a request, its moment, the word that was drawn for it, and the rule of the tax, if it is a purchase
 pub record Asking : Type 0 where
   pub request : Request
   pub moment : ℕ
   pub draw : ℕ
+  pub tax : TaxRule
 
 abbrev pub asking_of : Ask → Request → Asking
-asking_of ask request = record { request = request; moment = ask.moment; draw = ask.draw }
+asking_of ask request = record { request = request; moment = ask.moment; draw = ask.draw; tax = ask.tax }
 
 -- a read of this call, of a row that the request may read
 pub record IsReadFor (start now : Seat) (asking : Asking) (read : ReadOf) : Type 0 where
@@ -74,7 +76,7 @@ abbrev pub IsDraftOf : Tables → Asking → List ReadOf → Draft → Option Ac
 IsDraftOf opening asking reads draft None =
     (t : Tables) → Agrees opening t reads → IsShownBy t asking.request asking.draw draft
 IsDraftOf opening asking reads draft (Some act) =
-    IsActOf asking.request asking.draw act
+    IsActOf asking.request asking.draw asking.tax act
     × ((t : Tables) (stamp : ℕ) → Agrees opening t reads → stamp ≤ stamp_limit → Becomes t stamp act draft)
 
 -- an attempt, and the draft of its page
@@ -84,7 +86,7 @@ pub record IsReady (start now : Seat) (asking : Asking) (draft : Draft) (attempt
 
 -- an act, if any, for which nothing is to be paid
 abbrev pub IsFree : Option Act → Type 0
-IsFree (Some (Confirm asked draw auth)) = ⊥
+IsFree (Some (Confirm asked draw auth tax)) = ⊥
 IsFree _ = Unit {0}
 
 -- an attempt for which nothing is to be paid; where it changes nothing, no list is asked for
@@ -103,7 +105,7 @@ pub record IsList (start now : Seat) (asking : Asking) (draft : Draft) (attempt 
 pub record IsPayable (start now : Seat) (asking : Asking) (attempt : Attempt) : Type 0 where
   pub attempts : IsAttempt start now asking attempt
   pub reading : attempt.act ≡ None
-  pub basket : HasBasket (catalogue now.opening) asking.request attempt.reads
+  pub basket : HasBasket (catalogue now.opening) asking.tax asking.request attempt.reads
 
 -- no tables agree with the reads
 pub record IsContradiction (start now : Seat) (asking : Asking) (attempt : Attempt) : Type 0 where

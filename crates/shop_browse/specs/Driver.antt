@@ -56,7 +56,7 @@ FollowsOne k (suc more) reads = keys_of reads ≡ k ∷ []
 
 -- the act does the request, nothing is to be paid for it, and the writes and the draft are those of the act in these tables, at any stamp
 pub record IsChange (request : Request) (ask : Ask) (reads : List ReadOf) (draft : Draft) (act : Act) (writes : List Write) : Type 0 where
-  pub does : IsActOf request ask.draw act
+  pub does : IsActOf request ask.draw ask.tax act
   pub free : IsFree (Some act)
   pub makes : (t : Tables) (stamp : ℕ) → Fits ask.index.now t reads → stamp ≤ stamp_limit → Makes t stamp act writes
   pub becomes : (t : Tables) (stamp : ℕ) → Fits ask.index.now t reads → stamp ≤ stamp_limit → Becomes t stamp act draft
@@ -73,7 +73,7 @@ IsNext follows request ask round reads draft Show = (key_asked request ≡ None)
 IsNext follows request ask round reads draft (ShowList lines) =
     ((t : Tables) → Fits ask.index.now t reads → AreListed t request lines) × IsPageFor request ask reads draft
 IsNext follows request ask round reads draft (Change act writes) = IsChange request ask reads draft act writes
-IsNext follows request ask round reads draft Pay = IsBasketFor request reads
+IsNext follows request ask round reads draft Pay = IsBasketFor ask.tax request reads
 IsNext follows request ask round reads draft Never = (t : Tables) → Fits ask.index.now t reads → ⊥
 
 -- these rows were read one after another, behind others, and each was shown by sound tables

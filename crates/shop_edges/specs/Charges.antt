@@ -3,6 +3,7 @@ use Rattle.std.specs.Prelude.{ℕ, List, Option, Some, None}
 use Rattle.shop_model.specs.declared.card_type.CardType.{CardType}
 use Rattle.shop_model.specs.declared.refusal.Refusal as told
 use Rattle.shop_model.specs.declared.tables.Tables.{Tables}
+use Rattle.shop_model.specs.declared.tax.TaxRule.{TaxRule}
 use Rattle.shop_model.specs.asked.Cards.{IsCardNumber, IsMonth}
 use Rattle.shop_model.specs.asked.PurchaseAsked.{PurchaseAsked}
 use Rattle.shop_model.specs.rows.Lookups.{row_numbered}
@@ -38,13 +39,13 @@ charge_to asked call cents = record {
 }
 
 -- what a purchase costs; there is a customer where the check is none
-abbrev pub cents_due : Tables → PurchaseAsked → Option CustomerRow → ℕ
-cents_due t asked None = 0
-cents_due t asked (Some customer) = (price_of t customer asked.cart).total
+abbrev pub cents_due : Tables → TaxRule → PurchaseAsked → Option CustomerRow → ℕ
+cents_due t tax asked None = 0
+cents_due t tax asked (Some customer) = (price_of t tax customer asked).total
 
--- what a purchase is charged
-abbrev pub charge_due : Tables → PurchaseAsked → Call → ChargeValue
-charge_due t asked call = charge_to asked call (cents_due t asked (row_numbered t.customers asked.c))
+-- what a purchase is charged that is taxed by a rule
+abbrev pub charge_due : Tables → TaxRule → PurchaseAsked → Call → ChargeValue
+charge_due t tax asked call = charge_to asked call (cents_due t tax asked (row_numbered t.customers asked.c))
 
 -- the refusal that tells why a card was denied
 abbrev pub denial : Reason → told.Refusal

@@ -7,6 +7,7 @@ use Rattle.shop_log.specs.Histories.{ChangedAt}
 use Rattle.shop_log.proofs.cited.Shortest.{changed_by}
 use Rattle.shop_log.proofs.cited.Versions.{changed_longer}
 use Rattle.shop_model.specs.declared.tables.Tables.{Tables}
+use Rattle.shop_model.specs.declared.tax.TaxRule.TheVariants.{ByCountry}
 use Rattle.shop_edges.specs.declared.gateway.Answer.{Answer}
 use Rattle.shop_edges.specs.Gateways.{Answered}
 use Rattle.shop_edges.proofs.cited.Answering.{answered_nothing, answered_more}
@@ -77,11 +78,11 @@ pub record MetSoFar (start now : Trying) (job : Job) (conflicts : List Conflict)
   pub again : AllPairs (λ first later. later.key ≡ first.key → first.found ≤ later.read) conflicts
   pub alone : IsSome start.seat.latest → tried ≡ 0
 
-pub none_met : (start now : Trying) (job : Job) (conflicts : List Conflict) → now ≡ start → start.kept ≡ None → conflicts ≡ [] → MetSoFar start now job conflicts 0
-none_met start now job conflicts same kept none = rw (same, none) (record {
+pub none_met : (start now : Trying) (job : Job) (conflicts : List Conflict) → job.ask.tax ≡ ByCountry → now ≡ start → start.kept ≡ None → conflicts ≡ [] → MetSoFar start now job conflicts 0
+none_met start now job conflicts tax same kept none = rw (same, none) (record {
   answers = [];
   few = omega arith;
-  asked = subst (HasAsked job []) (sym kept) (asked_nothing job);
+  asked = subst (HasAsked job []) (sym kept) (asked_nothing job tax);
   told = answered_nothing start.told;
   stays = stays_same start.seat job.ask.moment;
   count = refl;

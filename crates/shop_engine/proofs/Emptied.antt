@@ -16,7 +16,7 @@ use Rattle.shop_model.specs.pages.Show.{check}
 use Rattle.shop_model.specs.trade.Buyers.{tables_entered}
 use Rattle.shop_model.specs.trade.Carts.{carts_with, check_asked, lines_named}
 use Rattle.shop_model.specs.trade.Mending.{with_mended}
-use Rattle.shop_model.specs.trade.Sales.{tables_bought}
+use Rattle.shop_model.specs.trade.Sales.{Terms, tables_bought}
 use Rattle.shop_history.specs.declared.acts.Act.{Act}
 use Rattle.shop_history.specs.declared.acts.Act.TheVariants.{Cart, Enter, Confirm, Admin}
 use Rattle.shop_history.specs.declared.acts.Entry.{Entry}
@@ -62,16 +62,16 @@ mended_stays t stamp asked None = refl
 mended_stays t stamp asked (Some item) = refl
 
 -- a purchase empties its cart
-pub bought_empties : (t : Tables) (stamp draw : ℕ) (auth : List ℕ) (asked : PurchaseAsked) → Buys t asked → IsEmptied (tables_bought t stamp draw auth asked (row_numbered t.customers asked.c)) asked.cart
-bought_empties t stamp draw auth asked who =
-    subst (λ (o : Option CustomerRow). IsEmptied (tables_bought t stamp draw auth asked o) asked.cart) (sym who.buys)
+pub bought_empties : (t : Tables) (stamp draw : ℕ) (terms : Terms) (asked : PurchaseAsked) → Buys t asked → IsEmptied (tables_bought t stamp draw terms asked (row_numbered t.customers asked.c)) asked.cart
+bought_empties t stamp draw terms asked who =
+    subst (λ (o : Option CustomerRow). IsEmptied (tables_bought t stamp draw terms asked o) asked.cart) (sym who.buys)
     (row_set t.carts asked.cart who.cart (record { id = asked.cart; lines = [] }) who.bought)
 
 -- and leaves another
-bought_stays : (t : Tables) (stamp draw : ℕ) (auth : List ℕ) (asked : PurchaseAsked) (cart : ℕ) → Buys t asked → (cart ≡ asked.cart → ⊥) → IsEmptied t cart
-    → IsEmptied (tables_bought t stamp draw auth asked (row_numbered t.customers asked.c)) cart
-bought_stays t stamp draw auth asked cart who apart is =
-    subst (λ (o : Option CustomerRow). IsEmptied (tables_bought t stamp draw auth asked o) cart) (sym who.buys)
+bought_stays : (t : Tables) (stamp draw : ℕ) (terms : Terms) (asked : PurchaseAsked) (cart : ℕ) → Buys t asked → (cart ≡ asked.cart → ⊥) → IsEmptied t cart
+    → IsEmptied (tables_bought t stamp draw terms asked (row_numbered t.customers asked.c)) cart
+bought_stays t stamp draw terms asked cart who apart is =
+    subst (λ (o : Option CustomerRow). IsEmptied (tables_bought t stamp draw terms asked o) cart) (sym who.buys)
     (row_set_other t.carts asked.cart cart who.cart (record { id = asked.cart; lines = [] }) who.bought apart ∙ is)
 
 -- a cart that is empty stays so
@@ -81,12 +81,13 @@ act_leaves t entry cart (Cart asked draw) is passes leaves empty =
 act_leaves t entry cart (Enter asked draw) is passes leaves empty = rw (is, entered_stays t entry.stamp draw asked.buyer) empty
 act_leaves t entry cart (Admin asked) is passes leaves empty =
     rw (is, mended_stays t entry.stamp asked (row_numbered t.items asked.item)) empty
-act_leaves t entry cart (Confirm asked draw auth) is passes leaves empty =
+act_leaves t entry cart (Confirm asked draw auth tax) is passes leaves empty =
+    let terms : Terms = record { auth = auth; tax = tax } in
     rw is
     (⊎_elim
-    (λ (same : cart ≡ asked.cart). subst (λ n. IsEmptied (tables_bought t entry.stamp draw auth asked (row_numbered t.customers asked.c)) n) (sym same)
-    (bought_empties t entry.stamp draw auth asked (who_buys t asked passes)))
-    (λ (apart : cart ≡ asked.cart → ⊥). bought_stays t entry.stamp draw auth asked cart (who_buys t asked passes) apart empty)
+    (λ (same : cart ≡ asked.cart). subst (λ n. IsEmptied (tables_bought t entry.stamp draw terms asked (row_numbered t.customers asked.c)) n) (sym same)
+    (bought_empties t entry.stamp draw terms asked (who_buys t asked passes)))
+    (λ (apart : cart ≡ asked.cart → ⊥). bought_stays t entry.stamp draw terms asked cart (who_buys t asked passes) apart empty)
     (cases_eq cart asked.cart))
 
 pub log_leaves : (t : Tables) (cart : ℕ) (log more : List Entry) → Legal t (log ++ more) → All (λ e. LeavesEmpty cart e.act) more → IsEmptied (tables t log) cart → IsEmptied (tables t (log ++ more)) cart

@@ -21,7 +21,7 @@ use Rattle.shop_history.specs.declared.keys.Row.TheVariants as rows
 use Rattle.shop_history.specs.Keys.{row_of}
 use Rattle.shop_history.specs.Logs.{tables}
 use Rattle.shop_attempt.specs.Seats.{Seat, Follows}
-use Rattle.shop_browse.specs.Footprints.{IsAmong, WasOnCart, LeavesNoLine, IsCartItem, WasShown, IsShipAddress, IsLastOrder, IsUser, IsOfOrder, IsBuyer, IsShippedTo, IsBoughtBeside, drawn_item, IsAbout, InFootprint, IsLabel}
+use Rattle.shop_browse.specs.Footprints.{IsAmong, WasOnCart, LeavesNoLine, IsCartItem, WasShown, IsShipAddress, IsLastOrder, IsUser, IsOfOrder, IsHome, IsCountry, IsBuyer, IsShippedTo, IsBoughtBeside, drawn_item, IsAbout, InFootprint, IsLabel}
 use Rattle.shop_browse.proofs.cited.Sizes.{same_size}
 
 drawn_later : (t : Tables) (log longer : List Entry) (draw : ℕ) → drawn_item (tables t log) draw ≡ drawn_item (tables t longer) draw
@@ -85,14 +85,18 @@ module _ (t : Tables) (log longer : List Entry) (extends : Extends log longer) w
       is
 
   of_order_later : (user : List ℕ) (key : Key) → IsOfOrder t log user key → IsOfOrder t longer user key
-  of_order_later user key is = ⊎_elim
-      (λ (of : (id : ℕ) × WasShown t log (keys.Name user) (rows.Id id) × ((key ≡ keys.LastOrder id) ⊎ IsLastOrder t log id key)).
-      inl (of.0, shown_later (keys.Name user) (rows.Id of.0) of.1, ⊎_elim (λ (last : key ≡ keys.LastOrder of.0). inl last) (λ (order : IsLastOrder t log of.0 key). inr (last_later of.0 key order)) of.2))
-      (λ (country : (id : ℕ) × (key ≡ keys.Country id)). inr country)
-      is
+  of_order_later user key of =
+      (of.0, shown_later (keys.Name user) (rows.Id of.0) of.1, ⊎_elim (λ (last : key ≡ keys.LastOrder of.0). inl last) (λ (order : IsLastOrder t log of.0 key). inr (last_later of.0 key order)) of.2)
+
+  home_later : (user : List ℕ) (key : Key) → IsHome t log user key → IsHome t longer user key
+  home_later user key is =
+      (is.0, shown_later (keys.Name user) (rows.Id is.0) is.1, (is.2.0, shown_later (keys.Customer is.0) (rows.Customer is.2.0) is.2.1, is.2.2))
 
   buyer_later : (buyer : Buyer) (key : Key) → IsBuyer t log buyer key → IsBuyer t longer buyer key
-  buyer_later (Returning asked) key is = user_later asked.user key is
+  buyer_later (Returning asked) key is = ⊎_elim
+      (λ (user : IsUser t log asked.user key). inl (user_later asked.user key user))
+      (λ (home : IsHome t log asked.user key). inr (home_later asked.user key home))
+      is
   buyer_later (Newcomer asked) key is = is
 
   shipped_later : (c : ℕ) (address : Option AddressText) (key : Key) → IsShippedTo t log c address key → IsShippedTo t longer c address key
@@ -141,7 +145,10 @@ about_later t log longer _ draw key extends may = may
 footprint_longer : (t : Tables) (log longer : List Entry) (request : Request) (draw : ℕ) (key : Key) → Extends log longer → InFootprint t log request draw key → InFootprint t longer request draw key
 footprint_longer t log longer request draw key extends may = ⊎_elim
     (λ (about : IsAbout t log request draw key). inl (about_later t log longer request draw key extends about))
-    (λ (label : IsLabel (tables t log) key). inr (label.0, subst (λ n. Has n label.0) (same_size t log ∙ sym (same_size t longer)) label.1, label.2))
+    (λ (any : IsLabel (tables t log) key ⊎ IsCountry key). inr (⊎_elim
+    (λ (label : IsLabel (tables t log) key). inl (label.0, subst (λ n. Has n label.0) (same_size t log ∙ sym (same_size t longer)) label.1, label.2))
+    (λ (country : IsCountry key). inr country)
+    any))
     may
 
 pub footprint_later : (old new : Seat) (request : Request) (draw : ℕ) (key : Key) → Follows old new → InFootprint old.opening old.seen request draw key → InFootprint new.opening new.seen request draw key

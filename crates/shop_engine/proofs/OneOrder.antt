@@ -14,7 +14,7 @@ use Rattle.shop_model.specs.rows.Rows.{CustomerRow}
 use Rattle.shop_model.specs.pages.Show.{check, refused_or, show}
 use Rattle.shop_model.specs.trade.Buyers.{check_bought}
 use Rattle.shop_model.specs.trade.Carts.{first_of}
-use Rattle.shop_model.specs.trade.Sales.{check_known, tables_bought}
+use Rattle.shop_model.specs.trade.Sales.{Terms, check_known, tables_bought}
 use Rattle.shop_history.specs.declared.acts.Act.{Act}
 use Rattle.shop_history.specs.declared.acts.Act.TheVariants.{Confirm}
 use Rattle.shop_history.specs.declared.acts.Entry.{Entry}
@@ -94,11 +94,12 @@ module _ (last : Bool) (from to : Standing) (step : Step) (one : PurchaseAsked) 
 
   buys_empties : (entry : Entry) (act : Act) → entry.act ≡ act → request_of act ≡ BuyConfirm one → check (tables from.seat.opening from.seat.seen) (request_of act) ≡ None
       → IsEmptied (after (tables from.seat.opening from.seat.seen) entry) one.cart
-  buys_empties entry (Confirm asked draw auth) act_is does passes =
+  buys_empties entry (Confirm asked draw auth tax) act_is does passes =
+      let terms : Terms = record { auth = auth; tax = tax } in
       let same : asked ≡ one = cc in
       rw act_is
-      (subst (λ (a : PurchaseAsked). IsEmptied (tables_bought (tables from.seat.opening from.seat.seen) entry.stamp draw auth asked (row_numbered (tables from.seat.opening from.seat.seen).customers asked.c)) a.cart) same
-      (bought_empties (tables from.seat.opening from.seat.seen) entry.stamp draw auth asked (who_buys (tables from.seat.opening from.seat.seen) asked passes)))
+      (subst (λ (a : PurchaseAsked). IsEmptied (tables_bought (tables from.seat.opening from.seat.seen) entry.stamp draw terms asked (row_numbered (tables from.seat.opening from.seat.seen).customers asked.c)) a.cart) same
+      (bought_empties (tables from.seat.opening from.seat.seen) entry.stamp draw terms asked (who_buys (tables from.seat.opening from.seat.seen) asked passes)))
   buys_empties entry _ act_is does passes = absurd cc
 
   -- what was bought is empty

@@ -5,6 +5,7 @@ use Rattle.std.proofs.lemmas.List.Elements.{All-nil, All-head, All-append, Conta
 use Rattle.shop_model.specs.declared.requests.Request.{Request}
 use Rattle.shop_model.specs.declared.requests.Request.TheVariants.{BuyConfirm}
 use Rattle.shop_model.specs.declared.tables.Tables.{Tables}
+use Rattle.shop_model.specs.declared.tax.TaxRule.TheVariants.{ByCountry}
 use Rattle.shop_model.specs.asked.PurchaseAsked.{PurchaseAsked}
 use Rattle.shop_edges.specs.declared.charge.Call.{Call}
 use Rattle.shop_edges.specs.declared.gateway.Answer.{Answer}
@@ -65,8 +66,8 @@ asked_for seat job answers kept caller asked =
     subst (λ c. AreFor job.request.now (record { caller = c; number = job.call.number }) answers) (sym caller)
     (are_for job.request.now job.call answers kept asked.charges asked.keeps)
 
-pub asked_nothing : (job : Job) → HasAsked job [] None
-asked_nothing job = record { charges = All-nil (IsAnswerTo job.request.now job.call); keeps = refl }
+pub asked_nothing : (job : Job) → job.ask.tax ≡ ByCountry → HasAsked job [] None
+asked_nothing job tax = record { tax = tax; charges = All-nil (IsAnswerTo job.request.now job.call); keeps = refl }
 
 -- nothing meanwhile
 pub asks_nothing : (old new : Trying) (job : Job) → new.kept ≡ old.kept → new.told ≡ old.told → Asks old new job []
@@ -94,6 +95,7 @@ asks_more a b c job first then one more = record {
 
 pub has_asked : (job : Job) (before answers : List Answer) (old new : Trying) → HasAsked job before old.kept → Asks old new job answers → HasAsked job (before ++ answers) new.kept
 has_asked job before answers old new asked asks = record {
+  tax = asked.tax;
   charges = All-append (IsAnswerTo job.request.now job.call) before answers asked.charges asks.charges;
   keeps = keeps_more None old.kept new.kept before answers asked.keeps asks.keeps;
 }
@@ -101,5 +103,5 @@ has_asked job before answers old new asked asks = record {
 -- what needs no payment is paid
 pub free_paid : (act : Option Act) → IsFree act → (t : Tables) (call : Call) (answers : List Answer) → IsPaidFor act t call answers
 free_paid None free t call answers = tt
-free_paid (Some (Confirm asked draw auth)) free t call answers = absurd free
+free_paid (Some (Confirm asked draw auth tax)) free t call answers = absurd free
 free_paid (Some _) free t call answers = tt

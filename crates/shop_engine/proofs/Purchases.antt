@@ -7,6 +7,8 @@ use Rattle.shop_model.specs.declared.refusal.Refusal.TheVariants.{GatewayFailed}
 use Rattle.shop_model.specs.declared.requests.Request.{Request}
 use Rattle.shop_model.specs.declared.requests.Request.TheVariants.{BuyConfirm}
 use Rattle.shop_model.specs.declared.tables.Tables.{Tables}
+use Rattle.shop_model.specs.declared.tax.TaxRule.{TaxRule}
+use Rattle.shop_model.specs.declared.tax.TaxRule.TheVariants.{ByCountry}
 use Rattle.shop_model.specs.pages.Show.{check}
 use Rattle.shop_model.specs.asked.PurchaseAsked.{PurchaseAsked}
 use Rattle.shop_model.specs.asked.Refusals.{page_of}
@@ -61,7 +63,7 @@ module _ (start now : Seat) (job : Job) (asked : PurchaseAsked) (given : Attempt
         unlisted = λ none. absurd (cc (none, was.act));
         paid = λ t agrees.
             subst (λ (o : Option Act). IsPaidFor o t job.call answers) (sym was.act)
-            (kept_said answers (record { charge = charge_due t asked job.call; verdict = verdict.Approved was.auth }) (subst (Keeps None answers) (was.settled t agrees).1 has.keeps));
+            (kept_said answers (record { charge = charge_due t job.ask.tax asked job.call; verdict = verdict.Approved was.auth }) (subst (Keeps None answers) (was.settled t agrees).1 has.keeps));
       }
 
 -- a settle of a purchase that was denied
@@ -74,8 +76,10 @@ denied_is start old new job asked kept answers draft attempt reason drawn bytes 
     let was : Confirmed old new attempt drawn = subst (λ o. DoneAs old new attempt o drawn) denied.reading done in
     let t : Tables = tables new.opening new.seen in
     let settled = denied.settled t (agrees_found old new new.seen attempt follows seat was.accepted.is_found.grows (extends_self new.seen) denied.attempts.faithful was.accepted.fresh) in
-    let charge : ChargeValue = charge_due t asked job.call in
-    let keeps : Keeps None answers (Some (record { charge = charge; verdict = verdict.Denied reason })) = subst (Keeps None answers) settled.1 has.keeps in (
+    let charge : ChargeValue = charge_due t ByCountry asked job.call in
+    let said : TaxRule → Answer = λ rule. record { charge = charge_due t rule asked job.call; verdict = verdict.Denied reason } in
+    let keeps : Keeps None answers (Some (record { charge = charge; verdict = verdict.Denied reason }))
+    = subst (Keeps None answers) (settled.1 ∙ ap (λ (rule : TaxRule). Some (said rule)) has.tax) has.keeps in (
       charge,
       keeps,
       record {

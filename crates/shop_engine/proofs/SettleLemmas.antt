@@ -184,7 +184,7 @@ changed_is start old new job answers draft attempt drawn bytes looked follows se
             made_is = refl;
             seen = was.seen ∙ ap (λ (log : List Entry). log ++ was.entry ∷ []) begins_found.is ∙ append_assoc start.seen begins_found.rest (was.entry ∷ []);
             caller = was.caller;
-            does = subst (IsActOf asking.request asking.draw) (sym was.does) drafts.0;
+            does = subst (λ tax. IsActOf asking.request asking.draw tax was.entry.act) may.asked.tax (subst (IsActOf asking.request asking.draw asking.tax) (sym was.does) drafts.0);
             paid =
                 paid_there new.opening was.before (start.seen ++ begins_found.rest) job.call.caller new.caller job.call.number answers was.entry.act (sym begins_found.is) (follows.caller ∙ may.caller)
                 (subst (IsPaid t job.call answers) (sym was.does) paid);
@@ -240,7 +240,7 @@ full_is start old new job answers draft attempt size bytes looked follows seat r
             limit = sym settled.1 ∙ settled.2;
             changes = ap is_changing (sym drafts.0.does) ∙ act_changes some.0;
             passes = ap (check t) (sym drafts.0.does) ∙ passes_there old.opening attempt.reads some.0 attempt.writes t 0 makes agrees (omega arith);
-            paid = (some.0, drafts.0, paid_there new.opening new.seen new.seen job.call.caller new.caller job.call.number answers some.0 refl (follows.caller ∙ may.caller) paid);
+            paid = (some.0, subst (λ tax. IsActOf asking.request asking.draw tax some.0) may.asked.tax drafts.0, paid_there new.opening new.seen new.seen job.call.caller new.caller job.call.number answers some.0 refl (follows.caller ∙ may.caller) paid);
           },
           (refl, settled.1),
         );

@@ -1,5 +1,5 @@
 -- Why each message has its answer where nothing fails and others change little.
-use Rattle.std.proofs.Common.{◌≡◌, ℕ, zero, suc, ◌+◌, ◌-◌, ◌<◌, ◌≤◌, ◌==◌, Bool, true, false, not, List, [], ◌∷◌, ◌++◌, length, length-append, drop, map, filter, Some, None, Result, Ok, Err, refl, sym, ap, ◌∙◌, subst, arith, eqb, inl, inr}
+use Rattle.std.proofs.Common.{◌≡◌, ℕ, zero, suc, ◌+◌, ◌-◌, ◌<◌, ◌≤◌, ◌==◌, Bool, true, not, List, [], ◌∷◌, ◌++◌, length, length-append, drop, map, filter, Some, None, Result, Ok, Err, refl, sym, ap, ◌∙◌, subst, arith, eqb, inl, inr}
 use Rattle.std.specs.declared.option.Option.{Option}
 use Rattle.std.specs.Prelude.{◌⊎◌, slice_get, All, AllPairs, option_map, option_to_list}
 use Rattle.std.proofs.lemmas.Bool.{ne_eqb}

@@ -3,6 +3,7 @@ use Rattle.std.specs.Prelude.{◌≡◌, ℕ, ◌+◌, ◌<◌, ◌≤◌, max, 
 use Rattle.shop_model.specs.declared.page.Page.{Page}
 use Rattle.shop_model.specs.declared.refusal.Refusal.TheVariants as refusal
 use Rattle.shop_model.specs.declared.requests.Request.{Request}
+use Rattle.shop_model.specs.declared.tax.TaxRule.TheVariants.{ByCountry}
 use Rattle.shop_model.specs.pages.Show.{is_changing, check, show}
 use Rattle.shop_model.specs.asked.Refusals.{page_of}
 use Rattle.shop_edges.specs.declared.charge.Call.{Call}
@@ -44,7 +45,7 @@ pub record IsChanged (old new : Seat) (request : Request) (decision : Decision) 
   pub made_is : decision.made ≡ entry ∷ []
   pub seen : new.seen ≡ old.seen ++ (between ++ decision.made)
   pub caller : entry.caller ≡ new.caller
-  pub does : IsActOf request decision.point.draw entry.act
+  pub does : IsActOf request decision.point.draw ByCountry entry.act
   pub paid : IsPaid (tables new.opening (old.seen ++ between)) (call_of new decision.point) decision.answers entry.act
   pub later : decision.point.moment ≤ entry.stamp
   pub exact : (told : ℕ) → old.latest ≡ Some told → entry.stamp ≡ max told decision.point.moment
@@ -69,7 +70,7 @@ pub record IsFull (new : Seat) (request : Request) (decision : Decision) : Type 
   pub limit : length new.seen ≡ new.limit
   pub changes : is_changing request ≡ true
   pub passes : check (tables new.opening new.seen) request ≡ None
-  pub paid : (act : Act) × IsActOf request decision.point.draw act × IsPaid (tables new.opening new.seen) (call_of new decision.point) decision.answers act
+  pub paid : (act : Act) × IsActOf request decision.point.draw ByCountry act × IsPaid (tables new.opening new.seen) (call_of new decision.point) decision.answers act
 
 -- a list that is kept is shown: nothing is asked of the store, and nothing made; it is fresh of the log seen
 pub record IsShownAgain (old new : Seat) (request : Request) (decision : Decision) : Type 0 where

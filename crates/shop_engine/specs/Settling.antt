@@ -1,5 +1,5 @@
 -- What a settle or a try comes to, by the meanings of a store and a gateway.
-use Rattle.std.specs.Prelude.{◌≡◌, List, Option, Some}
+use Rattle.std.specs.Prelude.{◌≡◌, List, Option}
 use Rattle.shop_attempt.specs.declared.store.Store as store
 use Rattle.shop_attempt.specs.declared.attempts.Attempt.{Attempt}
 use Rattle.shop_attempt.specs.Seats.{Seat, Looked}

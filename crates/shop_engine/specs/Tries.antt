@@ -4,6 +4,7 @@ use Rattle.shop_model.specs.declared.page.Page.{Page}
 use Rattle.shop_model.specs.declared.requests.Request.{Request}
 use Rattle.shop_model.specs.declared.requests.Request.TheVariants.{BuyConfirm}
 use Rattle.shop_model.specs.declared.tables.Tables.{Tables}
+use Rattle.shop_model.specs.declared.tax.TaxRule.TheVariants.{ByCountry}
 use Rattle.shop_edges.specs.declared.charge.Call.{Call}
 use Rattle.shop_edges.specs.declared.gateway.Answer.{Answer}
 use Rattle.shop_edges.specs.declared.gateway.Reason.{Reason}
@@ -60,8 +61,9 @@ abbrev pub IsAnswerTo : Request → Call → Answer → Type 0
 IsAnswerTo (BuyConfirm asked) call answer = IsFor asked call answer
 IsAnswerTo _ call answer = ⊥
 
--- all that it was asked so far, and said, and the last of it is kept
+-- all that it was asked so far, and said, and the last of it is kept; what is bought is taxed by country
 pub record HasAsked (job : Job) (answers : List Answer) (kept : Option Answer) : Type 0 where
+  pub tax : job.ask.tax ≡ ByCountry
   pub charges : All (IsAnswerTo job.request.now job.call) answers
   pub keeps : Keeps None answers kept
 

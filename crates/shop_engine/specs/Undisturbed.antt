@@ -1,5 +1,5 @@
 -- Where nothing fails and others change little, every message has its answer.
-use Rattle.std.specs.Prelude.{ℕ, ◌<◌, ◌==◌, not, List, length, drop, filter, All}
+use Rattle.std.specs.Prelude.{◌<◌, ◌==◌, not, List, length, drop, filter, All}
 use Rattle.shop_attempt.specs.Seats.{Seat}
 use Rattle.shop_engine.specs.declared.report.Point.{Point}
 use Rattle.shop_engine.specs.declared.report.PointKind.{PointKind}

@@ -1,4 +1,5 @@
 ghost use Rattle.std.specs.Prelude.{◌≡◌, ◌≤◌, None, Some, IfSome, IsSome, IsNone};
+ghost use Rattle.shop_model.specs.declared.tax.TaxRule.TheVariants.{ByCountry};
 ghost use Rattle.shop_model.specs.rows.Limits.{stamp_limit};
 ghost use Rattle.shop_edges.specs.Causes.{Rose};
 ghost use Rattle.shop_edges.specs.declared.gateway.Answer.{Answer as AnswerValue};
@@ -176,6 +177,7 @@ pub(crate) fn try_all<St: Store, G: Gateway>(
     requires caller { (St.seat store.old).caller ≡ job.now.call.caller }
     requires suits { Suits job.now.ask (St.seat store.old) }
     requires moment { job.now.ask.moment ≤ stamp_limit }
+    requires tax { job.now.ask.tax ≡ ByCountry }
     ensures answer { IfSome result (DecidesBy (St.Store, G.Gateway) job.now
         (store.old, reply.old, None, gateway.old) (store.new, reply.new, None, gateway.new)) }
     ensures memory { IsNone result → GivesUpBy (St.Store, G.Gateway) job.now

@@ -13,7 +13,7 @@ use shop_browse::Ask;
 use shop_cache::{Kept, ListCache, ListKey, ListLines};
 use shop_edges::{Call, Clock, Gateway};
 use shop_http::{Asked, Message, Routes, request};
-use shop_model::{Refusal, Request, STAMP_LIMIT, Scale};
+use shop_model::{Refusal, Request, STAMP_LIMIT, Scale, TaxRule};
 use shop_pages::{Form, Reply};
 use shop_search::Index;
 use shop_text::Memory;
@@ -233,6 +233,7 @@ impl<St: Store> Worker<St> {
             index: &self.index,
             moment: accepted.moment,
             draw: accepted.draw,
+            tax: TaxRule::ByCountry,
         };
         let call = Call {
             caller: self.calls.caller(),

@@ -24,7 +24,7 @@ use Rattle.shop_model.specs.declared.subject.Subject.TheVariants as subjects_of
 use Rattle.shop_model.specs.rows.Subjects.{subjects, subject_name, subject_of}
 use Rattle.shop_model.specs.trade.Buyers.{says_same, address_saying, addresses_with}
 use Rattle.shop_model.specs.trade.Carts.{lines_named}
-use Rattle.shop_model.specs.trade.Sales.{ship_addresses, new_order, sold_item, with_order, with_purchase}
+use Rattle.shop_model.specs.trade.Sales.{Terms, ship_addresses, new_order, sold_item, with_order, with_purchase}
 use Rattle.shop_model.specs.trade.Stocks.{times_restocked}
 use Rattle.shop_model.proofs.cited.Restocking.{IsRestocked, restocked}
 use Rattle.shop_history.specs.MayChange.{items_of, subject_at, ranks_change, buyers_change, unranked_changes, forgotten_changes, lists_change, address_changes, ship_changes, purchase_changes, leaving}
@@ -279,10 +279,10 @@ module _ (t : Tables) where
           (λ (same : says_same text said ≡ true). inl (1, omega arith, ap key.TheVariants.SameAddress (says_same_is text said same)))
           (λ (other : says_same text said ≡ false). inr (found_pushed p t.addresses new (find p t.addresses) refl (λ none passes. absurd (let not : true ≡ false = sym passes ∙ other in cc))))
 
-module _ (t : Tables) (sound : Sound t) (asked : PurchaseAsked) (stamp draw : ℕ) (auth : List ℕ) (customer : CustomerRow) (cart : CartRow)
+module _ (t : Tables) (sound : Sound t) (asked : PurchaseAsked) (stamp draw : ℕ) (terms : Terms) (customer : CustomerRow) (cart : CartRow)
     (buys : row_numbered t.customers asked.c ≡ Some customer) (basket : row_numbered t.carts asked.cart ≡ Some cart) where
   abbrev order : OrderRow
-  order = new_order t stamp draw auth asked customer
+  order = new_order t stamp draw terms asked customer
 
   abbrev items : List ℕ
   items = map (λ l. l.0) (unwrap_or (lines_named t.carts (Some asked.cart)) [])

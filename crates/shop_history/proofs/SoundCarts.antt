@@ -57,6 +57,7 @@ sound_with t carts are sound = record {
   carts = λ k d within. let fit = are.fit k d within in record { few = fit.few; distinct = fit.distinct; quantities = fit.quantities };
   last = sound.last;
   bounds = record {
+    countries = sound.bounds.countries;
     customers = sound.bounds.customers;
     items = sound.bounds.items;
     orders = sound.bounds.orders;

@@ -87,6 +87,7 @@ module _ (t : Tables) (sound : Sound t) (stamp : ℕ) (bound : stamp ≤ stamp_l
     carts = sound.carts;
     last = sound.last;
     bounds = record {
+      countries = sound.bounds.countries;
       customers = sound.bounds.customers;
       items =
           holds IsItem

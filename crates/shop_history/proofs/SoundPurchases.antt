@@ -7,15 +7,18 @@ use Rattle.std.proofs.lemmas.Option.{slice_get_within}
 use Rattle.shop_model.specs.declared.address.Address.{Address}
 use Rattle.shop_model.specs.declared.address.AddressText.{AddressText}
 use Rattle.shop_model.specs.declared.tables.Tables.{Tables}
+use Rattle.shop_model.specs.declared.tax.TaxRule.{TaxRule}
+use Rattle.shop_model.specs.declared.tax.TaxRule.TheVariants.{Flat, ByCountry}
 use Rattle.shop_model.specs.asked.CustomersAsked.{IsAddressAsked}
 use Rattle.shop_model.specs.asked.PurchaseAsked.{PurchaseAsked, IsPurchaseAsked}
-use Rattle.shop_model.specs.rows.Limits.{stamp_limit, price_limit, restocks_limit}
-use Rattle.shop_model.specs.rows.Lookups.{row_numbered, cost_of}
-use Rattle.shop_model.specs.rows.Rows.{ItemRow, CustomerRow, CartRow, LineRow, OrderRow, IsItem, IsLine, IsCustomer}
+use Rattle.shop_model.specs.rows.Limits.{stamp_limit, price_limit, rate_limit, charged_rate_limit, restocks_limit}
+use Rattle.shop_model.specs.rows.Lookups.{row_numbered, cost_of, rate_of}
+use Rattle.shop_model.specs.rows.Rows.{ItemRow, CountryRow, CustomerRow, CartRow, LineRow, OrderRow, IsCountry, IsItem, IsLine, IsCustomer}
 use Rattle.shop_model.specs.rows.Sound.{Sound, Room, Has, IsQuantity, IsStocked, units_in}
 use Rattle.shop_model.specs.trade.Buyers.{says_same, address_saying, addresses_with}
 use Rattle.shop_model.specs.trade.Money.{totals}
-use Rattle.shop_model.specs.trade.Sales.{bought_lines, ship_addresses, ship_id, ship_country, order_for, new_order, sold_item, with_order, with_purchase}
+use Rattle.shop_model.specs.trade.Sales.{Terms, bought_lines, ship_addresses, ship_id, ship_country, sale_rate, order_for, new_order, sold_item, with_order, with_purchase}
+use Rattle.shop_model.specs.trade.Taxes.{rate_by}
 use Rattle.shop_model.specs.pages.Priced.{order_lines}
 use Rattle.shop_model.proofs.cited.Restocking.{IsRestocked, restocked}
 use Rattle.shop_history.proofs.Lines.{AreFit, none_fit}
@@ -33,7 +36,19 @@ cost_bound t sound item = by (row_numbered t.items item) refl
     by None is = omega arith
     by (Some i) is = (all_numbered IsItem t.items item i is sound.bounds.items).cost
 
-module _ (t : Tables) (sound : Sound t) (asked : PurchaseAsked) (form : IsPurchaseAsked asked) (stamp draw : ℕ) (auth : List ℕ) (bound : stamp ≤ stamp_limit) (customer : CustomerRow) (cart : CartRow)
+-- so is the rate of a country, and the rate by which a purchase is taxed
+rate_bound : (t : Tables) → Sound t → (country : ℕ) → rate_of t country ≤ rate_limit
+rate_bound t sound country = by (row_numbered t.countries country) refl
+  where
+    by : (row : Option CountryRow) → row_numbered t.countries country ≡ row → unwrap_or (option_map (λ c. c.rate) row) 0 ≤ rate_limit
+    by None is = omega arith
+    by (Some c) is = (all_numbered IsCountry t.countries country c is sound.bounds.countries).rate
+
+charged_rate_bound : (t : Tables) → Sound t → (tax : TaxRule) (country : ℕ) → rate_by tax t country ≤ charged_rate_limit
+charged_rate_bound t sound Flat country = omega arith
+charged_rate_bound t sound ByCountry country = omega (arith, rate_bound t sound country)
+
+module _ (t : Tables) (sound : Sound t) (asked : PurchaseAsked) (form : IsPurchaseAsked asked) (stamp draw : ℕ) (terms : Terms) (bound : stamp ≤ stamp_limit) (customer : CustomerRow) (cart : CartRow)
     (buys : row_numbered t.customers asked.c ≡ Some customer) (bought : row_numbered t.carts asked.cart ≡ Some cart) (some : 1 ≤ length cart.lines) (room : length t.addresses + 1 < 2 ^ 32) where
   fit : AreFit (length t.items) cart.lines
   fit = all_numbered (λ (c : CartRow). AreFit (length t.items) c.lines) t.carts asked.cart cart bought (carts_sound t sound).fit
@@ -54,7 +69,7 @@ module _ (t : Tables) (sound : Sound t) (asked : PurchaseAsked) (form : IsPurcha
 
   -- the order, for these lines
   abbrev made : List LineRow → OrderRow
-  made ls = order_for t stamp draw auth asked customer ls (totals ls customer.discount)
+  made ls = order_for t stamp draw terms asked customer ls (totals ls customer.discount (sale_rate t terms.tax customer asked))
 
   has_customer : Has (length t.customers) customer.id
   has_customer =
@@ -100,6 +115,7 @@ module _ (t : Tables) (sound : Sound t) (asked : PurchaseAsked) (form : IsPurcha
     bounds = record {
       placed = bound;
       discount = (all_numbered IsCustomer t.customers asked.c customer buys sound.bounds.customers).discount;
+      rate = charged_rate_bound t sound terms.tax (ship_country t customer asked.address);
       ship_day = omega arith;
     };
     line_bounds = lines_all t IsLine (λ l. IsQuantity l.1) (λ number line is. record { quantity = is.few; cost = cost_bound t sound line.0 }) 1 cart.lines fit.quantities;
@@ -107,7 +123,7 @@ module _ (t : Tables) (sound : Sound t) (asked : PurchaseAsked) (form : IsPurcha
   }
 
   abbrev order : OrderRow
-  order = new_order t stamp draw auth asked customer
+  order = new_order t stamp draw terms asked customer
 
   comes_next : IsNext with_address order
   comes_next = subst (λ ls. IsNext with_address (made ls)) (sym lines_are) next

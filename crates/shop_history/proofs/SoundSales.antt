@@ -149,6 +149,7 @@ module _ (t : Tables) (sound : Sound t) (fits : length t.orders + 1 < 2 ^ 32) (r
     carts = sound.carts;
     last = lasts;
     bounds = record {
+      countries = sound.bounds.countries;
       customers = sound.bounds.customers;
       items = items_bound;
       orders = All-push IsOrder t.orders order sound.bounds.orders next.bounds;

@@ -8,17 +8,18 @@ use Rattle.shop_model.specs.declared.buying.Buyer.TheVariants.{Returning, Newcom
 use Rattle.shop_model.specs.declared.refusal.Refusal.TheVariants.{NoUserName, NoCustomer, NoItem}
 use Rattle.shop_model.specs.declared.requests.Request.TheVariants.{CartRequest, BuyRequest, BuyConfirm, AdminConfirm}
 use Rattle.shop_model.specs.declared.tables.Tables.{Tables}
+use Rattle.shop_model.specs.declared.tax.TaxRule.{TaxRule}
 use Rattle.shop_model.specs.asked.AdminAsked.{AdminAsked, IsAdminAsked}
 use Rattle.shop_model.specs.asked.CartAsked.{CartAsked, IsCartAsked}
 use Rattle.shop_model.specs.asked.CustomersAsked.{IsId, IsLoginAsked, IsNewcomerAsked}
 use Rattle.shop_model.specs.asked.PurchaseAsked.{PurchaseAsked, IsPurchaseAsked}
 use Rattle.shop_model.specs.asked.Refusals.{page_of}
-use Rattle.shop_model.specs.rows.Lookups.{row_numbered}
+use Rattle.shop_model.specs.rows.Lookups.{row_numbered, rate_of}
 use Rattle.shop_model.specs.rows.Rows.{CustomerRow, ItemRow}
-use Rattle.shop_model.specs.trade.Buyers.{buyer_row, tables_entered}
+use Rattle.shop_model.specs.trade.Buyers.{buyer_country, buyer_row, tables_entered}
 use Rattle.shop_model.specs.trade.Carts.{lines_named, lines_after, cart_meant, carts_with}
 use Rattle.shop_model.specs.trade.Mending.{mended_item, tables_mended}
-use Rattle.shop_model.specs.trade.Sales.{new_order, tables_bought}
+use Rattle.shop_model.specs.trade.Sales.{Terms, new_order, tables_bought}
 use Rattle.shop_model.specs.pages.AdminConfirm.{mended_page}
 use Rattle.shop_model.specs.pages.BuyConfirm.{confirm_page, purchase_ids}
 use Rattle.shop_model.specs.pages.BuyRequest.{buy_request}
@@ -41,28 +42,30 @@ play_cart t asked draw = record {
 }
 
 -- what a customer is shown who buys a cart; there is one where the check is none
-abbrev pub buyer_page : Tables → ℕ → Option CustomerRow → Page
-buyer_page t cart None = page_of NoUserName
-buyer_page t cart (Some customer) = buy_request t customer cart (unwrap_or (lines_named t.carts (Some cart)) [])
+abbrev pub buyer_page : Tables → buying.BuyRequest → Option CustomerRow → Page
+buyer_page t asked None = page_of NoUserName
+buyer_page t asked (Some customer) =
+    buy_request t customer asked.cart (unwrap_or (lines_named t.carts (Some asked.cart)) [])
+    (rate_of t (buyer_country t asked.buyer customer))
 
 -- what a request to buy a cart gives
 abbrev pub play_enter : Tables → ℕ → buying.BuyRequest → ℕ → Played
 play_enter t stamp asked draw = record {
   tables = tables_entered t stamp draw asked.buyer;
-  page = buyer_page t asked.cart (buyer_row t stamp draw asked.buyer);
+  page = buyer_page t asked (buyer_row t stamp draw asked.buyer);
 }
 
 -- what a customer is shown who bought a cart; there is one where the check is none
-abbrev pub purchase_page : Tables → ℕ → ℕ → List ℕ → PurchaseAsked → Option CustomerRow → Page
-purchase_page t stamp draw auth asked None = page_of NoCustomer
-purchase_page t stamp draw auth asked (Some customer) =
-    confirm_page t (purchase_ids asked) (new_order t stamp draw auth asked customer)
+abbrev pub purchase_page : Tables → ℕ → ℕ → Terms → PurchaseAsked → Option CustomerRow → Page
+purchase_page t stamp draw terms asked None = page_of NoCustomer
+purchase_page t stamp draw terms asked (Some customer) =
+    confirm_page t (purchase_ids asked) (new_order t stamp draw terms asked customer)
 
 -- what a purchase gives
-abbrev pub play_confirm : Tables → ℕ → PurchaseAsked → ℕ → List ℕ → Played
-play_confirm t stamp asked draw auth = record {
-  tables = tables_bought t stamp draw auth asked (row_numbered t.customers asked.c);
-  page = purchase_page t stamp draw auth asked (row_numbered t.customers asked.c);
+abbrev pub play_confirm : Tables → ℕ → PurchaseAsked → ℕ → Terms → Played
+play_confirm t stamp asked draw terms = record {
+  tables = tables_bought t stamp draw terms asked (row_numbered t.customers asked.c);
+  page = purchase_page t stamp draw terms asked (row_numbered t.customers asked.c);
 }
 
 -- what is shown of an item that was administered; there is one where the check is none
@@ -81,27 +84,35 @@ play_admin t stamp asked = record {
 abbrev pub play : Tables → ℕ → Act → Played
 play t stamp (Cart asked draw) = play_cart t asked draw
 play t stamp (Enter asked draw) = play_enter t stamp asked draw
-play t stamp (Confirm asked draw auth) = play_confirm t stamp asked draw auth
+play t stamp (Confirm asked draw auth tax) = play_confirm t stamp asked draw (record { auth = auth; tax = tax })
 play t stamp (Admin asked) = play_admin t stamp asked
 
 -- the request that an act does
 abbrev pub request_of : Act → Request
 request_of (Cart asked draw) = CartRequest asked
 request_of (Enter asked draw) = BuyRequest asked
-request_of (Confirm asked draw auth) = BuyConfirm asked
+request_of (Confirm asked draw auth tax) = BuyConfirm asked
 request_of (Admin asked) = AdminConfirm asked
 
 -- an act has the word that was drawn for its request, if it needs it
 abbrev pub HasDrawn : ℕ → Act → Type 0
 HasDrawn draw (Cart asked word) = word ≡ draw
 HasDrawn draw (Enter asked word) = word ≡ draw
-HasDrawn draw (Confirm asked word auth) = word ≡ draw
+HasDrawn draw (Confirm asked word auth tax) = word ≡ draw
 HasDrawn draw (Admin asked) = Unit {0}
 
--- an act does this request, with this word
-pub record IsActOf (request : Request) (draw : ℕ) (act : Act) : Type 0 where
+-- a purchase is taxed by this rule
+abbrev pub HasTax : TaxRule → Act → Type 0
+HasTax tax (Cart asked draw) = Unit {0}
+HasTax tax (Enter asked draw) = Unit {0}
+HasTax tax (Confirm asked draw auth rule) = rule ≡ tax
+HasTax tax (Admin asked) = Unit {0}
+
+-- an act does this request, with this word, and taxes it by this rule
+pub record IsActOf (request : Request) (draw : ℕ) (tax : TaxRule) (act : Act) : Type 0 where
   pub does : request_of act ≡ request
   pub drew : HasDrawn draw act
+  pub taxed : HasTax tax act
 
 -- what is said of a buyer is in its forms
 abbrev pub IsBuyer : Buyer → Type 0
@@ -112,5 +123,5 @@ IsBuyer (Newcomer asked) = IsNewcomerAsked asked
 abbrev pub IsInForm : Act → Type 0
 IsInForm (Cart asked draw) = IsCartAsked asked
 IsInForm (Enter asked draw) = IsId asked.cart × IsBuyer asked.buyer
-IsInForm (Confirm asked draw auth) = IsPurchaseAsked asked
+IsInForm (Confirm asked draw auth tax) = IsPurchaseAsked asked
 IsInForm (Admin asked) = IsAdminAsked asked

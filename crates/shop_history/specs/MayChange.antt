@@ -97,6 +97,6 @@ purchase_changes t asked =
 abbrev pub may_change : Tables → Act → List Key
 may_change t (act.TheVariants.Cart asked draw) = key.TheVariants.Cart (cart_meant t.carts asked.ids.cart) ∷ []
 may_change t (act.TheVariants.Enter asked draw) = buyer_changes t asked.buyer
-may_change t (act.TheVariants.Confirm asked draw auth) = purchase_changes t asked
+may_change t (act.TheVariants.Confirm asked draw auth tax) = purchase_changes t asked
 may_change t (act.TheVariants.Admin asked) =
     key.TheVariants.Item asked.item ∷ key.TheVariants.NewIn (subject_at t asked.item) ∷ []

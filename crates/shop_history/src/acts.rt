@@ -1,4 +1,4 @@
-use shop_model::{AdminConfirm, AuthId, BuyConfirm, BuyRequest, CartRequest};
+use shop_model::{AdminConfirm, AuthId, BuyConfirm, BuyRequest, CartRequest, TaxRule};
 use shop_text::Shared;
 
 /// What an accepted request does.
@@ -8,9 +8,9 @@ pub enum Act {
     Cart(CartRequest, u32),
     /// That a customer who buys logs in, or is entered with the discount that the word draws.
     Enter(BuyRequest, u32),
-    /// That a customer buys what a cart has, with the word that was drawn, and what the card's payment was
-    /// authorised by.
-    Confirm(Shared<BuyConfirm>, u32, AuthId),
+    /// That a customer buys what a cart has, with the word that was drawn, what the card's payment was
+    /// authorised by, and the rule of the tax.
+    Confirm(Shared<BuyConfirm>, u32, AuthId, TaxRule),
     /// What Admin Confirm makes of an item.
     Admin(Shared<AdminConfirm>),
 }

@@ -1,6 +1,7 @@
 pub mod Limits
 pub mod Subjects
 pub mod Rows
+pub mod CountryView
 pub mod CustomerView
 pub mod ItemView
 pub mod LineView

@@ -28,6 +28,7 @@ mod scale;
 mod ship_type;
 mod subject;
 mod tables;
+mod tax;
 pub mod words;
 
 pub use address::{Address, AddressText};
@@ -66,3 +67,4 @@ pub use scale::Scale;
 pub use ship_type::ShipType;
 pub use subject::Subject;
 pub use tables::Tables;
+pub use tax::TaxRule;

@@ -1,15 +1,18 @@
 -- Buy Confirm: what a purchase may read, and what it has when all is read.
-use Rattle.std.proofs.Common.{◌≡◌, ◌≢◌, ℕ, zero, suc, true, false, List, [], ◌∷◌, ◌++◌, length, take, get_or, All, Option, Some, None, option_map, refl, sym, ◌∙◌, ap, subst, inl, inr, arith}
-use Rattle.std.proofs.lemmas.List.{map-append}
+use Rattle.std.proofs.Common.{◌≡◌, ◌≢◌, ℕ, zero, suc, true, false, List, [], ◌∷◌, ◌++◌, ◌-◌, length, take, get_or, All, Option, Some, None, IfSome, option_map, refl, sym, ◌∙◌, ap, subst, inl, inr, arith}
+use Rattle.std.proofs.lemmas.List.{append-nil, map-append}
 use Rattle.std.proofs.lemmas.List.Elements.{All-nil, All-cons, All-append, All-map}
 use Rattle.std.proofs.lemmas.Option.{slice_get-get_or}
 use Rattle.shop_model.specs.declared.address.Address.{Address}
 use Rattle.shop_model.specs.declared.address.AddressText.{AddressText}
 use Rattle.shop_model.specs.declared.requests.Request.TheVariants.{BuyConfirm}
 use Rattle.shop_model.specs.declared.tables.Tables.{Tables}
-use Rattle.shop_model.specs.asked.PurchaseAsked.{PurchaseAsked}
+use Rattle.shop_model.specs.declared.tax.TaxRule.{TaxRule}
+use Rattle.shop_model.specs.declared.tax.TaxRule.TheVariants.{Flat, ByCountry}
+use Rattle.shop_model.specs.asked.CustomersAsked.{IsAddressAsked}
+use Rattle.shop_model.specs.asked.PurchaseAsked.{PurchaseAsked, IsPurchaseAsked}
 use Rattle.shop_model.specs.rows.Lookups.{row_numbered}
-use Rattle.shop_model.specs.rows.Rows.{CartRow, CustomerRow}
+use Rattle.shop_model.specs.rows.Rows.{CartRow, CountryRow, CustomerRow}
 use Rattle.shop_model.specs.rows.Sound.{Sound, Has}
 use Rattle.shop_model.specs.trade.Buyers.{check_bought, address_saying}
 use Rattle.shop_history.specs.declared.acts.Entry.{Entry}
@@ -23,15 +26,16 @@ use Rattle.shop_history.proofs.cited.Places.{all_numbered, some_row}
 use Rattle.shop_attempt.specs.declared.attempts.ReadOf.{ReadOf}
 use Rattle.shop_attempt.specs.Reads.{Shows, AreTrue}
 use Rattle.shop_browse.specs.declared.attempted.Ask.{Ask}
-use Rattle.shop_browse.specs.Baskets.{IsShip, IsBasket}
+use Rattle.shop_browse.specs.Baskets.{IsShip, IsTaxed, IsBasket, country_read}
 use Rattle.shop_browse.specs.Driver.{keys_of, Fits, AreSeen, AsksFor}
 use Rattle.shop_browse.specs.Footprints.{IsAmong, WasOnCart, WasShown, IsShippedTo, InFootprint}
 use Rattle.shop_order.specs.declared.basket.Basket.{Basket}
-use Rattle.shop_order.specs.BuyConfirm.{text_keys, home_keys, ship_key, item_keys, first_keys, second_keys, address_in, is_ship, Begins, HasFirst, HasSecond, FollowsConfirm}
+use Rattle.shop_order.specs.BuyConfirm.{text_keys, home_keys, ship_key, item_keys, first_keys, second_keys, address_in, is_ship, is_country, ship_in, Begins, HasFirst, HasSecond, FollowsConfirm}
 use Rattle.shop_order.specs.ShoppingCart.{IsFitRow, lines_in}
 use Rattle.shop_order.specs.Stops.{AreBought}
+use Rattle.shop_order.proofs.ReadsLemmas.{one_read, last_read, shows_both}
 use Rattle.shop_order.proofs.ShoppingCartLemmas.{fit_shown}
-use Rattle.shop_history.proofs.cited.Shown.{cart_found, customer_found}
+use Rattle.shop_history.proofs.cited.Shown.{cart_found, customer_found, address_found}
 
 -- the reads of the first round
 
@@ -40,15 +44,55 @@ two_reads asked [] are = absurd cc
 two_reads asked (buyer ∷ []) are = absurd cc
 two_reads asked (buyer ∷ cart ∷ more) are = record { buyer = buyer; cart = cart; more = more; reads_are = refl; buyer_is = cc; cart_is = cc }
 
-pub has_first : (asked : PurchaseAsked) (round : ℕ) (reads : List ReadOf) → (round ≡ 0 → ⊥) → FollowsConfirm asked round reads → HasFirst asked reads
-has_first asked zero reads later follows = absurd (later refl)
-has_first asked (suc zero) reads later follows = two_reads asked reads follows
-has_first asked (suc (suc more)) reads later follows = follows.first
+-- with more behind them
+abbrev first_more : (asked : PurchaseAsked) (before rest reads : List ReadOf) → reads ≡ before ++ rest → HasFirst asked before → HasFirst asked reads
+first_more asked before rest reads is has = record {
+  buyer = has.buyer;
+  cart = has.cart;
+  more = has.more ++ rest;
+  reads_are = is ∙ ap (λ (l : List ReadOf). l ++ rest) has.reads_are;
+  buyer_is = has.buyer_is;
+  cart_is = has.cart_is;
+}
 
-pub has_second : (asked : PurchaseAsked) (round : ℕ) (reads : List ReadOf) → (round ≡ 0 → ⊥) → (round ≡ 1 → ⊥) → FollowsConfirm asked round reads → HasSecond asked reads
-has_second asked zero reads later last follows = absurd (later refl)
-has_second asked (suc zero) reads later last follows = absurd (last refl)
-has_second asked (suc (suc more)) reads later last follows = follows
+pub has_first : (asked : PurchaseAsked) (tax : TaxRule) (round : ℕ) (reads : List ReadOf) → (round ≡ 0 → ⊥) → FollowsConfirm asked tax round reads → HasFirst asked reads
+has_first asked tax zero reads later follows = absurd (later refl)
+has_first asked tax (suc zero) reads later follows = two_reads asked reads follows
+has_first asked tax (suc (suc zero)) reads later follows = follows.first
+has_first asked Flat (suc (suc (suc more))) reads later follows = absurd follows
+has_first asked ByCountry (suc (suc (suc more))) reads later follows = first_more asked follows.before (follows.country ∷ []) reads follows.reads_are follows.second.first
+
+-- the reads of two rounds
+pub second_at : (asked : PurchaseAsked) (tax : TaxRule) (round : ℕ) (reads : List ReadOf) → round ≡ 2 → FollowsConfirm asked tax round reads → HasSecond asked reads
+second_at asked tax round reads is follows = subst (λ r. FollowsConfirm asked tax r reads) is follows
+
+-- and what came behind them: nothing, or the country
+pub record HasMost (asked : PurchaseAsked) (tax : TaxRule) (round : ℕ) (reads : List ReadOf) : Type 0 where
+  pub before : List ReadOf
+  pub rest : List ReadOf
+  pub reads_are : reads ≡ before ++ rest
+  pub second : HasSecond asked before
+  pub flat : tax ≡ Flat → rest ≡ []
+  pub country : (round ≡ 2 → ⊥) → (read : ReadOf) × (rest ≡ read ∷ []) × (read.key ≡ key.Country (country_read asked.address (ship_in before)))
+
+pub has_most : (asked : PurchaseAsked) (tax : TaxRule) (round : ℕ) (reads : List ReadOf) → (round ≡ 0 → ⊥) → (round ≡ 1 → ⊥) → FollowsConfirm asked tax round reads → HasMost asked tax round reads
+has_most asked tax zero reads later last follows = absurd (later refl)
+has_most asked tax (suc zero) reads later last follows = absurd (last refl)
+has_most asked tax (suc (suc zero)) reads later last follows =
+    record { before = reads; rest = []; reads_are = sym (append-nil reads); second = follows; flat = λ is. refl; country = λ other. absurd (other refl) }
+has_most asked Flat (suc (suc (suc more))) reads later last follows = absurd follows
+has_most asked ByCountry (suc (suc (suc more))) reads later last follows = record {
+  before = follows.before;
+  rest = follows.country ∷ [];
+  reads_are = follows.reads_are;
+  second = follows.second;
+  flat = λ is. absurd (cc is);
+  country = λ other. (follows.country, refl, follows.country_is);
+}
+
+-- the reads of the first round in front of these
+abbrev pub first_of : (asked : PurchaseAsked) (tax : TaxRule) (round : ℕ) (reads : List ReadOf) → HasMost asked tax round reads → HasFirst asked reads
+first_of asked tax round reads most = first_more asked most.before most.rest reads most.reads_are most.second.first
 
 -- the second of them is a fit cart
 pub fit_first : (asked : PurchaseAsked) (ask : Ask) (reads : List ReadOf) → (has : HasFirst asked reads) → AreSeen ask.index.now reads → IsFitRow has.cart.row
@@ -131,8 +175,8 @@ module _ (opening : Tables) (log : List Entry) (asked : PurchaseAsked) (draw : �
       (All-map P (λ (l : ℕ × ℕ). key.Item l.0) lines
       (λ k d within. inl (inr (inr ((get_or lines k d).0, item_on cart lines (get_or lines k d).0 cart_is begins.bought (are.1.0, tt) (k, (get_or lines k d).1, slice_get-get_or lines k d within), refl)))))
 
-pub asks_second : (asked : PurchaseAsked) (ask : Ask) (round : ℕ) (reads : List ReadOf) (keys : List Key) (basket : Basket) → round ≡ 1 → FollowsConfirm asked round reads → (has : HasFirst asked reads)
-    → Begins has.buyer.row has.cart.row basket → keys ≡ second_keys asked.address basket.customer.now.address basket.lines.now → AsksFor (FollowsConfirm asked) (BuyConfirm asked) ask round reads keys
+pub asks_second : (asked : PurchaseAsked) (ask : Ask) (round : ℕ) (reads : List ReadOf) (keys : List Key) (basket : Basket) → round ≡ 1 → FollowsConfirm asked ask.tax round reads → (has : HasFirst asked reads)
+    → Begins has.buyer.row has.cart.row basket → keys ≡ second_keys asked.address basket.customer.now.address basket.lines.now → AsksFor (FollowsConfirm asked ask.tax) (BuyConfirm asked) ask round reads keys
 asks_second asked ask zero reads keys basket is follows has begins are = absurd (omega (arith, is))
 asks_second asked ask (suc (suc round)) reads keys basket is follows has begins are = absurd (omega (arith, is))
 asks_second asked ask (suc zero) reads keys basket is follows has begins are =
@@ -153,6 +197,25 @@ asks_second asked ask (suc zero) reads keys basket is follows has begins are =
           subst (All (InFootprint opening log (BuyConfirm asked) ask.draw)) (sym are)
           (second_may opening log asked ask.draw has.buyer has.cart basket has.buyer_is has.cart_is begins (two.0, (two.1.0, tt)));
     }
+
+-- the country is asked for behind these
+pub asks_country : (asked : PurchaseAsked) (ask : Ask) (round : ℕ) (reads : List ReadOf) (country : ℕ) → round ≡ 2 → ask.tax ≡ ByCountry → HasSecond asked reads → country ≡ country_read asked.address (ship_in reads)
+    → AsksFor (FollowsConfirm asked ask.tax) (BuyConfirm asked) ask round reads (key.Country country ∷ [])
+asks_country asked ask round reads country at rule has is = record {
+  few = omega (arith, at);
+  goes_on = λ more of.
+      let one : (read : ReadOf) × (more ≡ read ∷ []) × (read.key ≡ key.Country country) = one_read (key.Country country) more of in
+      subst (λ r. FollowsConfirm asked ask.tax (suc r) (reads ++ more)) (sym at) (subst (λ x. FollowsConfirm asked x 3 (reads ++ more)) (sym rule) (record {
+        before = reads;
+        country = one.0;
+        reads_are = ap (λ (l : List ReadOf). reads ++ l) one.1;
+        second = has;
+        country_is = one.2 ∙ ap key.Country is;
+      }));
+  may = λ opening log were.
+      let P : Key → Type 0 = InFootprint opening log (BuyConfirm asked) ask.draw in
+      All-cons P (key.Country country) [] (inr (inr (country, refl))) (All-nil P);
+}
 
 -- where all is read
 
@@ -175,8 +238,16 @@ module _ (asked : PurchaseAsked) (reads : List ReadOf) (basket : Basket) (has : 
   reads_by : reads ≡ has.first.buyer ∷ has.first.cart ∷ has_ship.ship ∷ has_ship.items
   reads_by = has.first.reads_are ∙ ap (λ (more : List ReadOf). has.first.buyer ∷ has.first.cart ∷ more) has_ship.more_is
 
-  pub at_ship : (read : ReadOf) → get_or reads 2 read ≡ has_ship.ship
-  at_ship read = ap (λ (l : List ReadOf). get_or l 2 read) reads_by
+  pub ship_row : ship_in reads ≡ has_ship.ship.row
+  ship_row = ap ship_in reads_by
+
+  pub at_ship : (rest all : List ReadOf) (read : ReadOf) → all ≡ reads ++ rest → get_or all 2 read ≡ has_ship.ship
+  at_ship rest all read is = ap (λ (l : List ReadOf). get_or l 2 read) (is ∙ ap (λ (l : List ReadOf). l ++ rest) reads_by)
+
+  pub country_at : (read : ReadOf) → country_read asked.address (get_or reads 2 read).row ≡ country_read asked.address (ship_in reads)
+  country_at read =
+      ap (λ (r : ReadOf). country_read asked.address r.row) (at_ship [] reads read (sym (append-nil reads)))
+      ∙ ap (λ (r : Row). country_read asked.address r) (sym ship_row)
 
   some_lines : (cart : CartRow) → check_bought (Some cart) ≡ None → cart.lines ≢ []
   some_lines cart passes empty = let same : check_bought (Some cart) ≡ check_bought (Some (record { id = cart.id; lines = [] })) = ap (λ (lines : List (ℕ × ℕ)). check_bought (Some (record { id = cart.id; lines = lines }))) empty in absurd cc
@@ -188,13 +259,15 @@ module _ (asked : PurchaseAsked) (reads : List ReadOf) (basket : Basket) (has : 
   ship_is None read _ at is ships = absurd cc
   ship_is (Some text) read _ at is ships = absurd cc
 
-  pub is_basket : is_ship asked.address has_ship.ship.row ≡ true → IsBasket asked reads
-  is_basket ships = record {
+  pub is_basket : (tax : TaxRule) (rest all : List ReadOf) → all ≡ reads ++ rest → is_ship asked.address has_ship.ship.row ≡ true
+      → IsTaxed tax (country_read asked.address has_ship.ship.row) rest → IsBasket tax asked all
+  is_basket tax rest all is ships taxed = record {
     buyer = has.first.buyer;
     basket = has.first.cart;
     ship = has_ship.ship;
     items = has_ship.items;
-    reads_are = reads_by;
+    rest = rest;
+    reads_are = is ∙ ap (λ (l : List ReadOf). l ++ rest) reads_by;
     customer = basket.customer.now;
     buyer_key = has.first.buyer_is;
     buyer_row = begins.customer;
@@ -204,6 +277,7 @@ module _ (asked : PurchaseAsked) (reads : List ReadOf) (basket : Basket) (has : 
     some = some_lines begins.bought.cart begins.bought.passes;
     ship_is = ship_is asked.address has_ship.ship has_ship.ship.row refl has_ship.key_is ships;
     items_are = has_ship.items_are ∙ ap item_keys begins.bought.lines_are;
+    taxed = taxed;
   }
 
   -- tables that are sound show where it ships to
@@ -221,10 +295,86 @@ module _ (asked : PurchaseAsked) (reads : List ReadOf) (basket : Basket) (has : 
       id_ships text None = refl
       id_ships text (Some id) = refl
 
-  pub never_ships : (ask : Ask) → is_ship asked.address has_ship.ship.row ≡ false → (t : Tables) → Fits ask.index.now t reads → ⊥
-  never_ships ask fails t fits =
-      let shows = subst (Shows t) reads_by fits.shows in
+  shows_all : (t : Tables) (rest all : List ReadOf) → all ≡ reads ++ rest → Shows t all → Shows t (has.first.buyer ∷ has.first.cart ∷ has_ship.ship ∷ has_ship.items) × Shows t rest
+  shows_all t rest all is shows = shows_both t (has.first.buyer ∷ has.first.cart ∷ has_ship.ship ∷ has_ship.items) rest (subst (Shows t) (is ∙ ap (λ (l : List ReadOf). l ++ rest) reads_by) shows)
+
+  pub never_ships : (ask : Ask) (rest all : List ReadOf) → all ≡ reads ++ rest → is_ship asked.address has_ship.ship.row ≡ false → (t : Tables) → Fits ask.index.now t all → ⊥
+  never_ships ask rest all is fails t fits =
+      let shows = (shows_all t rest all is fits.shows).0 in
       let ships : is_ship asked.address has_ship.ship.row ≡ true
       = ap (is_ship asked.address) (sym shows.1.1.0 ∙ ap (row_of t) has_ship.key_is)
       ∙ ships_there t asked.address fits.sound (ap (row_of t) (sym has.first.buyer_is) ∙ shows.0 ∙ begins.customer) in
       absurd cc
+
+  -- and the country to which it ships
+
+  country_has : (t : Tables) (text : Option AddressText) → IfSome text IsAddressAsked → Sound t → (r : Row) → r ≡ row_of t (ship_key text basket.customer.now.address) → is_ship text r ≡ true
+      → Has (length t.countries) (country_read text r)
+  country_has t (Some text) form sound r is ships = record { first = form.country.first; last = omega (arith, form.country.last, sound.countries) }
+  country_has t None form sound (row.Address address) is ships =
+      let there = address_found (row_numbered t.addresses basket.customer.now.address) address (sym is) in
+      all_numbered (λ (a : Address). Has (length t.countries) a.text.country) t.addresses basket.customer.now.address address there sound.names.addresses
+  country_has t None form sound _ is ships = absurd cc
+
+  country_shown : (t : Tables) (country : ℕ) → Has (length t.countries) country → is_country (row_of t (key.Country country)) ≡ true
+  country_shown t country has = let there = some_row t.countries country has in ap (λ (o : Option CountryRow). is_country (shown row.Country o)) there.1
+
+  pub never_country : (ask : Ask) (read : ReadOf) (all : List ReadOf) → all ≡ reads ++ read ∷ [] → IsPurchaseAsked asked → is_ship asked.address has_ship.ship.row ≡ true
+      → read.key ≡ key.Country (country_read asked.address has_ship.ship.row) → is_country read.row ≡ false → (t : Tables) → Fits ask.index.now t all → ⊥
+  never_country ask read all is form ships key_is fails t fits =
+      let shows = shows_all t (read ∷ []) all is fits.shows in
+      let ship : has_ship.ship.row ≡ row_of t (ship_key asked.address basket.customer.now.address) = sym shows.0.1.1.0 ∙ ap (row_of t) has_ship.key_is in
+      let there : is_country read.row ≡ true
+      = ap is_country (sym shows.1.0 ∙ ap (row_of t) key_is)
+      ∙ country_shown t (country_read asked.address has_ship.ship.row) (country_has t asked.address form.address fits.sound has_ship.ship.row ship ships) in
+      absurd cc
+
+-- by the round
+
+-- a row that is a country
+country_in : (r : Row) → is_country r ≡ true → (shown : CountryRow) × (r ≡ row.Country shown)
+country_in (row.Country shown) is = (shown, refl)
+country_in _ is = absurd cc
+
+-- a rule that is not the flat one
+pub by_country : (tax : TaxRule) → (tax ≡ Flat → ⊥) → tax ≡ ByCountry
+by_country Flat other = absurd (other refl)
+by_country ByCountry other = refl
+
+module _ (asked : PurchaseAsked) (tax : TaxRule) (round : ℕ) (reads : List ReadOf) (basket : Basket) (most : HasMost asked tax round reads)
+    (begins : Begins most.second.first.buyer.row most.second.first.cart.row basket) where
+  abbrev ship : ReadOf
+  ship = (has_ship asked most.before basket most.second begins).ship
+
+  pub most_ship : (read : ReadOf) → get_or reads 2 read ≡ ship
+  most_ship read = at_ship asked most.before basket most.second begins most.rest reads read most.reads_are
+
+  pub ship_never : (ask : Ask) → is_ship asked.address ship.row ≡ false → (t : Tables) → Fits ask.index.now t reads → ⊥
+  ship_never ask fails = never_ships asked most.before basket most.second begins ask most.rest reads most.reads_are fails
+
+  pub flat_basket : tax ≡ Flat → is_ship asked.address ship.row ≡ true → IsBasket tax asked reads
+  flat_basket flat ships =
+      is_basket asked most.before basket most.second begins tax most.rest reads most.reads_are ships
+      (subst (λ x. IsTaxed x (country_read asked.address ship.row) most.rest) (sym flat) (most.flat flat))
+
+  module _ (later : round ≡ 2 → ⊥) where
+    abbrev country : ReadOf
+    country = (most.country later).0
+
+    country_key : country.key ≡ key.Country (country_read asked.address ship.row)
+    country_key = (most.country later).2 ∙ ap (λ (r : Row). key.Country (country_read asked.address r)) (ship_row asked most.before basket most.second begins)
+
+    reads_last : reads ≡ most.before ++ country ∷ []
+    reads_last = most.reads_are ∙ ap (λ (l : List ReadOf). most.before ++ l) (most.country later).1
+
+    pub at_country : (read : ReadOf) → get_or reads (length reads - 1) read ≡ country
+    at_country read = last_read most.before reads country read reads_last
+
+    pub country_basket : tax ≡ ByCountry → is_ship asked.address ship.row ≡ true → is_country country.row ≡ true → IsBasket tax asked reads
+    country_basket rule ships is =
+        let shown = country_in country.row is in
+        is_basket asked most.before basket most.second begins tax most.rest reads most.reads_are ships
+        (subst (λ x. IsTaxed x (country_read asked.address ship.row) most.rest) (sym rule) (country, shown.0, (most.country later).1, country_key, shown.1))
+
+    pub country_never : (ask : Ask) → IsPurchaseAsked asked → is_ship asked.address ship.row ≡ true → is_country country.row ≡ false → (t : Tables) → Fits ask.index.now t reads → ⊥
+    country_never ask form ships fails = never_country asked most.before basket most.second begins ask country reads reads_last form ships country_key fails

@@ -58,9 +58,9 @@ unfolding money.units_of
 units_ordered t lines = sums_ordered t (λ l. l.1) (λ l. l.quantity) (λ number line. refl) 1 lines
 
 -- what they come to
-pub totals_ordered : (t : Tables) (lines : List (ℕ × ℕ)) (priced : List (ℕ × ℕ × ℕ)) (discount : ℕ) → priced ≡ map (priced_line t) lines
-    → money.money (sum_of priced) (units_of priced) discount ≡ money.totals (order_lines t 1 lines) discount
-totals_ordered t lines priced discount are =
-    ap (λ (p : List (ℕ × ℕ × ℕ)). money.money (sum_of p) (units_of p) discount) are
-    ∙ ap (λ n. money.money n (units_of (map (priced_line t) lines)) discount) (sum_ordered t lines)
-    ∙ ap (λ n. money.money (money.sum_of (order_lines t 1 lines)) n discount) (units_ordered t lines)
+pub totals_ordered : (t : Tables) (lines : List (ℕ × ℕ)) (priced : List (ℕ × ℕ × ℕ)) (discount rate : ℕ) → priced ≡ map (priced_line t) lines
+    → money.money (sum_of priced) (units_of priced) discount rate ≡ money.totals (order_lines t 1 lines) discount rate
+totals_ordered t lines priced discount rate are =
+    ap (λ (p : List (ℕ × ℕ × ℕ)). money.money (sum_of p) (units_of p) discount rate) are
+    ∙ ap (λ n. money.money n (units_of (map (priced_line t) lines)) discount rate) (sum_ordered t lines)
+    ∙ ap (λ n. money.money (money.sum_of (order_lines t 1 lines)) n discount rate) (units_ordered t lines)

@@ -3,6 +3,7 @@ pub mod TableLemmas
 pub mod BuyerPageLemmas
 pub mod EnterLemmas
 pub mod StopsLemmas
+pub mod ReadsLemmas
 pub mod BuyRequestLemmas
 pub mod BuyConfirmLemmas
 pub mod PurchaseLemmas

@@ -115,7 +115,7 @@ changed asked ask round reads book draft next whole has is change =
     let five : List ℕ = five_by asked.item ask.scale.now.items reads in
     let here : (t : Tables) → Fits ask.index.now t reads → IsMended t asked five book = λ t fits. is_mended asked ask reads book t whole has is fits in
     subst (IsNext (FollowsAdmin asked) (AdminConfirm asked) ask round reads draft) (sym change.is) (record {
-      does = record { does = refl; drew = tt };
+      does = record { does = refl; drew = tt; taxed = tt };
       free = tt;
       makes = λ t stamp fits bound. makes_mended t asked five book (here t fits) stamp;
       becomes = λ t stamp fits bound. becomes_mended t asked five book (here t fits) stamp draft bound (change.written t fits.named);

@@ -2,14 +2,15 @@
 use Rattle.std.proofs.Common.{◌≡◌, ℕ, ◌+◌, List, length, Option, Some, refl, sym, ◌∙◌, ap, subst}
 use Rattle.shop_model.specs.declared.requests.Request.TheVariants.{BuyConfirm}
 use Rattle.shop_model.specs.declared.tables.Tables.{Tables}
+use Rattle.shop_model.specs.declared.tax.TaxRule.{TaxRule}
 use Rattle.shop_model.specs.asked.PurchaseAsked.{PurchaseAsked}
 use Rattle.shop_model.specs.rows.Rows.{CustomerRow}
-use Rattle.shop_model.specs.trade.Sales.{new_order, tables_bought}
+use Rattle.shop_model.specs.trade.Sales.{Terms, new_order, tables_bought}
 use Rattle.shop_edges.specs.declared.charge.Call.{Call}
 use Rattle.shop_edges.specs.declared.gateway.Answer.{Answer}
 use Rattle.shop_edges.specs.declared.gateway.Reason.{Reason}
 use Rattle.shop_edges.specs.declared.gateway.Verdict.{Verdict}
-use Rattle.shop_edges.specs.Charges.{ChargeValue, charge_to}
+use Rattle.shop_edges.specs.Charges.{ChargeValue, charge_to, charge_due}
 use Rattle.shop_history.specs.declared.acts.Act.{Act}
 use Rattle.shop_history.specs.declared.acts.Act.TheVariants.{Confirm}
 use Rattle.shop_history.specs.declared.acts.Drawn.{Drawn}
@@ -34,17 +35,18 @@ use Rattle.shop_order.proofs.PurchaseWrites.{items_shown, customer_there, passes
 
 module _ (ask : Ask) (asked : PurchaseAsked) (call : Call) (given : Attempt) (draft : Draft) (kept : Option Answer) where
   -- the answer that is kept settles it
-  settles : (decision : _) (verdict : Verdict) (opening : Tables) → (is : Decides asked call ask.draw given.reads draft kept decision) → kept ≡ Some (answer_to call is.purchase is.bill verdict)
-      → IsSettledBy opening asked call given.reads kept verdict
+  settles : (decision : _) (verdict : Verdict) (opening : Tables) → (is : Decides asked call (asking_of ask (BuyConfirm asked)) given.reads draft kept decision) → kept ≡ Some (answer_to call is.purchase is.bill verdict)
+      → IsSettledBy opening ask.tax asked call given.reads kept verdict
   settles decision verdict opening is same t agrees = (
     passes t agrees.sound asked given.reads is.purchase is.is agrees.shows,
     same
         ∙ ap (λ (c : ChargeValue). Some (record { charge = c; verdict = verdict }))
         (ap (λ (a : PurchaseAsked). charge_to a call is.bill.totals.total) is.is.same
-        ∙ charge_is t agrees.sound asked given.reads is.purchase is.is agrees.shows is.bill is.billed call),
+        ∙ charge_is t agrees.sound asked given.reads is.purchase is.is agrees.shows is.bill is.billed call
+        ∙ ap (λ x. charge_due t x asked call) is.rule),
   )
 
-  pub paid_denied : (reason : Reason) → Decides asked call ask.draw given.reads draft kept (decisions.Denied reason) → PaidFor (asking_of ask (BuyConfirm asked)) asked call given draft kept (paid.Denied given reason)
+  pub paid_denied : (reason : Reason) → Decides asked call (asking_of ask (BuyConfirm asked)) given.reads draft kept (decisions.Denied reason) → PaidFor (asking_of ask (BuyConfirm asked)) asked call given draft kept (paid.Denied given reason)
   paid_denied reason is start now payable = record {
     attempts = payable.attempts;
     reading = payable.reading;
@@ -52,17 +54,23 @@ module _ (ask : Ask) (asked : PurchaseAsked) (call : Call) (given : Attempt) (dr
     written = is.decided.0;
   }
 
-  pub paid_failed : Decides asked call ask.draw given.reads draft kept decisions.Failed → PaidFor (asking_of ask (BuyConfirm asked)) asked call given draft kept paid.Failed
+  pub paid_failed : Decides asked call (asking_of ask (BuyConfirm asked)) given.reads draft kept decisions.Failed → PaidFor (asking_of ask (BuyConfirm asked)) asked call given draft kept paid.Failed
   paid_failed is start now payable = λ t agrees. passes t agrees.sound asked given.reads is.purchase is.is agrees.shows
 
-  module _ (act : Act) (writes : List Write) (is : Decides asked call ask.draw given.reads draft kept (decisions.Approved act writes)) where
+  module _ (act : Act) (writes : List Write) (is : Decides asked call (asking_of ask (BuyConfirm asked)) given.reads draft kept (decisions.Approved act writes)) where
     abbrev auth : List ℕ
     auth = is.decided.0
 
-    act_is : act ≡ Confirm asked ask.draw auth
-    act_is = is.decided.1.act_is ∙ ap (λ (a : PurchaseAsked). Confirm a ask.draw auth) is.is.same
+    abbrev tax : TaxRule
+    tax = is.purchase.tax
 
-    makes : (opening t : Tables) (stamp : ℕ) → Agrees opening t given.reads → Makes t stamp (Confirm asked ask.draw auth) writes
+    abbrev terms : Terms
+    terms = record { auth = auth; tax = tax }
+
+    act_is : act ≡ Confirm asked ask.draw auth tax
+    act_is = is.decided.1.act_is ∙ ap (λ (a : PurchaseAsked). Confirm a ask.draw auth tax) is.is.same
+
+    makes : (opening t : Tables) (stamp : ℕ) → Agrees opening t given.reads → Makes t stamp (Confirm asked ask.draw auth tax) writes
     makes opening t stamp agrees = record {
       passes = passes t agrees.sound asked given.reads is.purchase is.is agrees.shows;
       tables_are =
@@ -70,14 +78,14 @@ module _ (ask : Ask) (asked : PurchaseAsked) (call : Call) (given : Attempt) (dr
           ∙ written_is t agrees.sound asked given.reads is.purchase is.is agrees.shows is.bill is.billed stamp ask.draw auth agrees.room_for;
     }
 
-    becomes : (opening t : Tables) (stamp : ℕ) → Agrees opening t given.reads → Becomes t stamp (Confirm asked ask.draw auth) draft
+    becomes : (opening t : Tables) (stamp : ℕ) → Agrees opening t given.reads → Becomes t stamp (Confirm asked ask.draw auth tax) draft
     becomes opening t stamp agrees front =
         let customer : CustomerRow = is.purchase.customer.now in
-        let drawn : Drawn = record { front = front; stamp = stamp; ids = new_ids t (play t stamp (Confirm asked ask.draw auth)).tables } in
+        let drawn : Drawn = record { front = front; stamp = stamp; ids = new_ids t (play t stamp (Confirm asked ask.draw auth tax)).tables } in
         let there = customer_there t agrees.sound asked given.reads is.purchase is.is agrees.shows in
         let id : or_zero drawn.ids.order ≡ length t.orders + 1
-        = ap (λ (o : Option CustomerRow). or_zero (new_id t.orders (tables_bought t stamp ask.draw auth asked o).orders)) there
-        ∙ ap or_zero (id_pushed t.orders (new_order t stamp ask.draw auth asked customer)) in
+        = ap (λ (o : Option CustomerRow). or_zero (new_id t.orders (tables_bought t stamp ask.draw terms asked o).orders)) there
+        ∙ ap or_zero (id_pushed t.orders (new_order t stamp ask.draw terms asked customer)) in
         subst (IsPage draft drawn) (page_is t agrees.sound asked given.reads is.purchase is.is agrees.shows is.bill is.billed stamp ask.draw auth drawn refl id)
         (is.decided.1.page t (items_shown t agrees.sound asked given.reads is.purchase is.is agrees.shows) drawn)
 
@@ -92,8 +100,8 @@ module _ (ask : Ask) (asked : PurchaseAsked) (call : Call) (given : Attempt) (dr
               reads = payable.attempts.reads;
               faithful = record { reads_are = payable.attempts.faithful.reads_are; makes = λ t stamp agrees bound. makes now.opening t stamp agrees };
             };
-            drafts = (record { does = refl; drew = refl }, λ t stamp agrees bound. becomes now.opening t stamp agrees);
+            drafts = (record { does = refl; drew = refl; taxed = is.rule }, λ t stamp agrees bound. becomes now.opening t stamp agrees);
           };
-          act = refl;
+          act = ap (λ x. Some (Confirm asked ask.draw auth x)) is.rule;
           settled = settles (decisions.Approved act writes) _ now.opening is is.decided.2;
         })

@@ -1,10 +1,12 @@
 -- A purchase by what was read of it, and the lines of its order.
-use Rattle.std.proofs.Common.{◌≡◌, ℕ, suc, ◌+◌, ◌-◌, ◌<◌, List, [], ◌∷◌, ◌++◌, length, length-drop, take, drop, get_or, map, All, Option, Some, None, refl, sym, ◌∙◌, ap, subst, arith}
+use Rattle.std.proofs.Common.{◌≡◌, ℕ, suc, ◌+◌, ◌-◌, ◌≤◌, ◌<◌, List, [], ◌∷◌, ◌++◌, length, take, drop, get_or, map, All, Option, Some, None, refl, sym, ◌∙◌, ap, subst, arith, length-append, length-drop}
 use Rattle.std.proofs.lemmas.List.{take_all, take_more, length-take-le, flat_map_more}
+use Rattle.std.proofs.Math.Seq.{take-append_seam, drop-append_seam}
 use Rattle.std.proofs.lemmas.List.Elements.{All-nil, All-cons}
 use Rattle.shop_model.specs.declared.requests.Request.{Request}
 use Rattle.shop_model.specs.declared.requests.Request.TheVariants.{BuyConfirm}
 use Rattle.shop_model.specs.declared.tables.Tables.{Tables}
+use Rattle.shop_model.specs.declared.tax.TaxRule.{TaxRule}
 use Rattle.shop_model.specs.asked.PurchaseAsked.{PurchaseAsked}
 use Rattle.shop_model.specs.lists.Catalogues.{Catalogue}
 use Rattle.shop_model.specs.pages.Priced.{order_lines}
@@ -23,6 +25,7 @@ use Rattle.shop_browse.specs.Fitting.{AreSeen}
 use Rattle.shop_order.specs.BuyerPage.{priced_line}
 use Rattle.shop_order.specs.Purchases.{IsRead, IsStockedRow, AreGoods, numbered, stock_writes_of, stock_writes_in, stock_writes}
 use Rattle.shop_order.specs.ShoppingCart.{IsFitRow, AreItems}
+use Rattle.shop_order.proofs.ReadsLemmas.{many_items}
 use Rattle.shop_order.proofs.ShoppingCartLemmas.{fit_shown}
 use Rattle.shop_order.proofs.TableLemmas.{line_at, item_shown}
 
@@ -32,11 +35,15 @@ asked_in : PurchaseAsked → Request → PurchaseAsked
 asked_in other (BuyConfirm asked) = asked
 asked_in other _ = other
 
-pub basket_of : (asked : PurchaseAsked) (reads : List ReadOf) → IsRead asked reads → IsBasket asked reads
+pub basket_of : (tax : TaxRule) (asked : PurchaseAsked) (reads : List ReadOf) → IsRead tax asked reads → IsBasket tax asked reads
 unfolding asked_in
-basket_of asked reads read =
+basket_of tax asked reads read =
     let basket = read.1.basket in
-    subst (λ a. IsBasket a reads) (sym (ap (asked_in asked) basket.1)) basket.2
+    subst (λ a. IsBasket tax a reads) (sym (ap (asked_in asked) basket.1)) basket.2
+
+seen_front : (c : Catalogue) (one other : List ReadOf) → AreSeen c (one ++ other) → AreSeen c one
+seen_front c [] other seen = tt
+seen_front c (read ∷ one) other seen = (seen.0, seen_front c one other seen.1)
 
 -- an item that sound tables show is stocked
 stocked_shown : (t : Tables) (id : ℕ) (o : Option ItemRow) → Sound t → row_numbered t.items id ≡ o → IsStockedRow (shown row.Item o)
@@ -54,7 +61,7 @@ stocked_seen c (line ∷ lines) (read ∷ items) are seen =
     (subst IsStockedRow (ap (row_of t) (sym is) ∙ seen.0.1.shows.0) (stocked_shown t line.0 (row_numbered t.items line.0) seen.0.1.sound refl))
     (stocked_seen c lines items rest seen.1)
 
-module _ (asked : PurchaseAsked) (reads : List ReadOf) (basket : IsBasket asked reads) where
+module _ (tax : TaxRule) (asked : PurchaseAsked) (reads : List ReadOf) (basket : IsBasket tax asked reads) where
   -- the reads by their places
 
   pub customer_at : (read : ReadOf) (customer : CustomerRow) → (get_or reads 0 read).row ≡ row.Customer customer → customer ≡ basket.customer
@@ -70,8 +77,31 @@ module _ (asked : PurchaseAsked) (reads : List ReadOf) (basket : IsBasket asked 
   pub ship_at : (read : ReadOf) → get_or reads 2 read ≡ basket.ship
   ship_at read = ap (λ (l : List ReadOf). get_or l 2 read) basket.reads_are
 
-  pub items_at : take (length reads - 3) (drop 3 reads) ≡ basket.items
-  items_at = take_all (length reads - 3) (drop 3 reads) (omega (arith, length-drop 3 reads)) ∙ ap (λ (l : List ReadOf). drop 3 l) basket.reads_are
+  -- so many items as lines, and then what the tax rests on
+  abbrev more : List ReadOf
+  more = take (length reads - 3) (drop 3 reads)
+
+  more_are : more ≡ basket.items ++ basket.rest
+  more_are = take_all (length reads - 3) (drop 3 reads) (omega (arith, length-drop 3 reads)) ∙ ap (λ (l : List ReadOf). drop 3 l) basket.reads_are
+
+  many : length basket.cart.lines ≡ length basket.items
+  many = many_items basket.cart.lines basket.items basket.items_are
+
+  module _ (lines : List (ℕ × ℕ)) (are : lines ≡ basket.cart.lines) where
+    pub items_at : take (length lines) more ≡ basket.items
+    items_at =
+        ap (λ n. take n more) (ap length are ∙ many)
+        ∙ ap (λ (l : List ReadOf). take (length basket.items) l) more_are
+        ∙ take-append_seam basket.items basket.rest
+
+    pub rest_at : drop (length lines) more ≡ basket.rest
+    rest_at =
+        ap (λ n. drop n more) (ap length are ∙ many)
+        ∙ ap (λ (l : List ReadOf). drop (length basket.items) l) more_are
+        ∙ drop-append_seam basket.items basket.rest
+
+    pub enough : length lines ≤ length more
+    enough = omega (arith, many, ap length are, ap length more_are, length-append basket.items basket.rest)
 
   -- what sound tables showed
 
@@ -87,7 +117,7 @@ module _ (asked : PurchaseAsked) (reads : List ReadOf) (basket : IsBasket asked 
       record {
         kept = record { few = fit.few; quantities = fit.quantities };
         items_are = basket.items_are;
-        stocked = stocked_seen c basket.cart.lines basket.items basket.items_are (subst (AreSeen c) basket.reads_are seen).1.1.1;
+        stocked = stocked_seen c basket.cart.lines basket.items basket.items_are (seen_front c basket.items basket.rest (subst (AreSeen c) basket.reads_are seen).1.1.1);
       }
 
 -- the lines of an order, one line more

@@ -267,7 +267,7 @@ changed asked before kept ask round reads lines draft next whole has same change
     = λ t fits. leaves t ask.scale.now.items asked ask.draw has.cart lines (size_of ask.index.now t fits.named ∙ sym whole) (shown t fits.shows).0
     (subst (MakesOfCart ask.scale.now.items asked ask.draw has.cart) (sym same) has.makes) in
     subst (IsNext (FollowsCart asked kept ask) (CartRequest asked) ask round reads draft) (sym change.is) (record {
-      does = record { does = refl; drew = refl };
+      does = record { does = refl; drew = refl; taxed = tt };
       free = tt;
       makes = λ t stamp fits bound. makes_lines t stamp asked ask.draw lines (here t fits);
       becomes = λ t stamp fits bound. becomes t stamp asked ask.draw lines draft (here t fits) (change.written t (shown t fits.shows).1);

@@ -1,6 +1,8 @@
 -- Buy Confirm: what a purchase reads, round by round, before a gateway is asked.
 use Rattle.std.specs.Prelude.{◌≡◌, ℕ, zero, suc, Bool, true, false, List, [], ◌∷◌, ◌++◌, map, Option, Some, None}
 use Rattle.shop_model.specs.declared.address.AddressText.{AddressText}
+use Rattle.shop_model.specs.declared.tax.TaxRule.{TaxRule}
+use Rattle.shop_model.specs.declared.tax.TaxRule.TheVariants.{Flat, ByCountry}
 use Rattle.shop_model.specs.asked.PurchaseAsked.{PurchaseAsked}
 use Rattle.shop_model.specs.declared.requests.Request.TheVariants as request
 use Rattle.shop_history.specs.declared.keys.Key.{Key}
@@ -9,6 +11,7 @@ use Rattle.shop_history.specs.declared.keys.Row.{Row}
 use Rattle.shop_history.specs.declared.keys.Row.TheVariants as rows
 use Rattle.shop_attempt.specs.declared.attempts.ReadOf.{ReadOf}
 use Rattle.shop_browse.specs.Attempts.{Asking, asking_of}
+use Rattle.shop_browse.specs.Baskets.{country_read}
 use Rattle.shop_browse.specs.Driver.{keys_of}
 use Rattle.shop_order.specs.declared.basket.Basket.{Basket}
 use Rattle.shop_order.specs.declared.buy_confirm.Paying.{Paying}
@@ -54,6 +57,16 @@ is_ship (Some text) (rows.Id id) = true
 is_ship (Some text) rows.Absent = true
 is_ship _ _ = false
 
+-- whether a row is a country
+abbrev pub is_country : Row → Bool
+is_country (rows.Country country) = true
+is_country _ = false
+
+-- the row that tells where it ships to, behind those of the customer and of the cart
+abbrev pub ship_in : List ReadOf → Row
+ship_in (buyer ∷ cart ∷ ship ∷ more) = ship.row
+ship_in _ = rows.Absent
+
 -- what the rows of the customer and of the cart come to
 pub record Begins (buyer cart : Row) (basket : Basket) : Type 0 where
   pub customer : buyer ≡ rows.Customer basket.customer.now
@@ -73,11 +86,21 @@ pub record HasSecond (asked : PurchaseAsked) (reads : List ReadOf) : Type 0 wher
   pub first : HasFirst asked reads
   pub more_are : keys_of first.more ≡ ship_key asked.address (address_in first.buyer.row) ∷ item_keys (lines_in first.cart.row)
 
--- the reads by the rounds
-abbrev pub FollowsConfirm : PurchaseAsked → ℕ → List ReadOf → Type 0
-FollowsConfirm asked zero reads = reads ≡ []
-FollowsConfirm asked (suc zero) reads = keys_of reads ≡ first_keys asked
-FollowsConfirm asked (suc (suc more)) reads = HasSecond asked reads
+-- behind these comes a read of the country to which it ships
+pub record HasThird (asked : PurchaseAsked) (reads : List ReadOf) : Type 0 where
+  pub before : List ReadOf
+  pub country : ReadOf
+  pub reads_are : reads ≡ before ++ country ∷ []
+  pub second : HasSecond asked before
+  pub country_is : country.key ≡ key.Country (country_read asked.address (ship_in before))
+
+-- the reads by the rounds; the country is read where its rate is charged
+abbrev pub FollowsConfirm : PurchaseAsked → TaxRule → ℕ → List ReadOf → Type 0
+FollowsConfirm asked tax zero reads = reads ≡ []
+FollowsConfirm asked tax (suc zero) reads = keys_of reads ≡ first_keys asked
+FollowsConfirm asked tax (suc (suc zero)) reads = HasSecond asked reads
+FollowsConfirm asked Flat (suc (suc (suc more))) reads = ⊥
+FollowsConfirm asked ByCountry (suc (suc (suc more))) reads = HasThird asked reads
 
 -- what is asked for by a purchase that is to be paid
 abbrev pub asking_for : Paying → Asking

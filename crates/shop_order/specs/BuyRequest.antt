@@ -1,11 +1,13 @@
--- Buy Request: what a request reads, where it stops, and what it has when all is read.
-use Rattle.std.specs.Prelude.{◌≡◌, ℕ, zero, suc, List, [], ◌∷◌, ◌++◌, map, Option, Some, None}
+-- Buy Request: what a request reads, where it stops, and what it has when all is read: last the country in which the
+-- buyer lives, whose rate is shown.
+use Rattle.std.specs.Prelude.{◌≡◌, ℕ, ◌≤◌, zero, suc, List, [], ◌∷◌, ◌++◌, map, Option, Some, None}
 use Rattle.shop_model.specs.declared.buying.BuyRequest.{BuyRequest}
 use Rattle.shop_model.specs.declared.buying.Buyer.{Buyer}
 use Rattle.shop_model.specs.declared.buying.Buyer.TheVariants.{Returning, Newcomer}
 use Rattle.shop_model.specs.declared.refusal.Refusal.{Refusal}
 use Rattle.shop_model.specs.declared.refusal.Refusal.TheVariants.{NoUserName}
 use Rattle.shop_model.specs.declared.requests.Request.TheVariants as buys
+use Rattle.shop_model.specs.asked.CustomersAsked.{LoginAsked}
 use Rattle.shop_model.specs.rows.Rows.{CustomerRow}
 use Rattle.shop_model.specs.trade.Buyers.{check_password}
 use Rattle.shop_history.specs.declared.keys.Key.{Key}
@@ -17,8 +19,11 @@ use Rattle.shop_draft.specs.declared.draft.Draft.{Draft}
 use Rattle.shop_attempt.specs.declared.attempts.ReadOf.{ReadOf}
 use Rattle.shop_browse.specs.declared.attempted.Ask.{Ask}
 use Rattle.shop_browse.specs.declared.driver.Next.{Next}
+use Rattle.shop_browse.specs.Baskets.{country_read}
 use Rattle.shop_browse.specs.Driver.{keys_of, IsNext}
 use Rattle.shop_order.specs.declared.buy_request.Begun.{Begun}
+use Rattle.shop_order.specs.declared.buy_request.Gathered.{Gathered}
+use Rattle.shop_order.specs.BuyConfirm.{address_in}
 use Rattle.shop_order.specs.ShoppingCart.{lines_in}
 use Rattle.shop_order.specs.Stops.{AreBought}
 
@@ -81,18 +86,56 @@ pub record HasSecond (asked : BuyRequest) (reads : List ReadOf) : Type 0 where
   pub first : HasFirst asked reads
   pub more_are : keys_of first.more ≡ second_keys asked.buyer (id_in first.found.row) (lines_in first.cart.row)
 
--- all is read, and the first round comes to this
-pub record HasAll (asked : BuyRequest) (begun : Begun) (reads : List ReadOf) : Type 0 where
-  pub first : HasFirst asked reads
-  pub begins : Begins asked.buyer first.cart.row first.found.row begun
-  pub more_are : keys_of first.more ≡ second_keys asked.buyer begun.found begun.lines.now
+-- the row of a customer who returns, behind those of the first round
+abbrev pub customer_row : List ReadOf → Row
+customer_row (cart ∷ found ∷ customer ∷ more) = customer.row
+customer_row _ = rows.Absent
+
+-- the key that tells where a buyer lives: the address of who returns, or the country that who is new gives
+abbrev pub home_key : Buyer → Row → Key
+home_key (Returning asked) customer = key.Address (address_in customer)
+home_key (Newcomer asked) customer = key.Country asked.address.country
+
+-- the reads of two rounds, and these behind them
+pub record HasMost (asked : BuyRequest) (reads rest : List ReadOf) : Type 0 where
+  pub before : List ReadOf
+  pub second : HasSecond asked before
+  pub reads_are : reads ≡ before ++ rest
+
+-- behind those of two rounds comes that of where the buyer lives
+pub record HasHome (asked : BuyRequest) (reads rest : List ReadOf) : Type 0 where
+  pub home : ReadOf
+  pub most : HasMost asked reads (home ∷ rest)
+  pub home_is : home.key ≡ home_key asked.buyer (customer_row most.before)
+
+-- and last, where one returns, that of the country of that address
+pub record HasCountry (asked : BuyRequest) (reads : List ReadOf) : Type 0 where
+  pub login : LoginAsked
+  pub returns : asked.buyer ≡ Returning login
+  pub country : ReadOf
+  pub home : HasHome asked reads (country ∷ [])
+  pub country_is : country.key ≡ key.Country (country_read None home.home.row)
 
 -- the reads by the rounds
 abbrev pub FollowsBuy : BuyRequest → ℕ → List ReadOf → Type 0
 FollowsBuy asked zero reads = reads ≡ []
 FollowsBuy asked (suc zero) reads = keys_of reads ≡ first_keys asked
-FollowsBuy asked (suc (suc more)) reads = HasSecond asked reads
+FollowsBuy asked (suc (suc zero)) reads = HasSecond asked reads
+FollowsBuy asked (suc (suc (suc zero))) reads = HasHome asked reads []
+FollowsBuy asked (suc (suc (suc (suc more)))) reads = HasCountry asked reads
 
--- what is done is right after however many rounds
-abbrev pub IsEnd : BuyRequest → Ask → List ReadOf → Draft → Next → Type 0
-IsEnd asked ask reads draft next = (round : ℕ) → IsNext (FollowsBuy asked) (buys.BuyRequest asked) ask round reads draft next
+-- the first two reads come to this
+abbrev pub BeginsBy : BuyRequest → Begun → List ReadOf → Type 0
+BeginsBy asked begun (cart ∷ found ∷ more) = Begins asked.buyer cart.row found.row begun
+BeginsBy asked begun _ = ⊥
+
+-- what was gathered in two rounds or more
+pub record IsGathered (asked : BuyRequest) (gathered : Gathered) : Type 0 where
+  pub later : 2 ≤ gathered.round
+  pub follows : FollowsBuy asked gathered.round gathered.reads.now
+  pub begins : BeginsBy asked gathered.begun gathered.reads.now
+
+-- what is done next is right, by what was gathered
+abbrev pub IsRight : BuyRequest → Ask → Gathered → Draft → Next → Type 0
+IsRight asked ask gathered draft next =
+    IsNext (FollowsBuy asked) (buys.BuyRequest asked) ask gathered.round gathered.reads.now draft next

@@ -32,14 +32,14 @@ IsNewShopper draw newcomer shopper =
     → drawn.ids.customer ≡ Some (length t.customers + 1)
     → IsShopper drawn shopper (new_customer t stamp draw newcomer)
 
--- the line of a page that tells what the lines of a cart cost at a discount
-abbrev pub totals_line : Tables → List (ℕ × ℕ) → ℕ → List ℕ
-totals_line t lines discount = block_line (block.Para (totals_text (totals (order_lines t 1 lines) discount)))
+-- the line of a page that tells what the lines of a cart cost at a discount, taxed at a rate
+abbrev pub totals_line : Tables → List (ℕ × ℕ) → ℕ → ℕ → List ℕ
+totals_line t lines discount rate = block_line (block.Para (totals_text (totals (order_lines t 1 lines) discount rate)))
 
--- the draft is of the page of whoever buys so the lines of a cart
-abbrev pub IsBuyersPage : Tables → Shopper → ℕ → List (ℕ × ℕ) → Draft → Type 0
-IsBuyersPage t shopper cart lines draft =
-    (drawn : Drawn) (customer : CustomerRow) → IsShopper drawn shopper customer → IsPage draft drawn (buy_request t customer cart lines)
+-- the draft is of the page of whoever buys so the lines of a cart, taxed at a rate
+abbrev pub IsBuyersPage : Tables → Shopper → ℕ → List (ℕ × ℕ) → ℕ → Draft → Type 0
+IsBuyersPage t shopper cart lines rate draft =
+    (drawn : Drawn) (customer : CustomerRow) → IsShopper drawn shopper customer → IsPage draft drawn (buy_request t customer cart lines rate)
 
 -- a line of a cart, and what one unit of its item costs
 abbrev pub priced_line : Tables → ℕ × ℕ → ℕ × ℕ × ℕ

@@ -20,6 +20,7 @@ use Rattle.shop_draft.specs.Pages.{IsPage}
 use Rattle.shop_attempt.specs.declared.attempts.ReadOf.{ReadOf}
 use Rattle.shop_attempt.specs.declared.attempts.Write.{Write}
 use Rattle.shop_attempt.specs.Reads.{Shows}
+use Rattle.shop_browse.specs.Attempts.{Asking}
 use Rattle.shop_order.specs.declared.decision.Decision.{Decision}
 use Rattle.shop_order.specs.declared.decision.Decision.TheVariants.{Approved, Denied, Failed}
 use Rattle.shop_order.specs.declared.purchase.Bill.{Bill}
@@ -50,7 +51,7 @@ IsPageOf sale draft =
 
 -- the act and the writes of a sale, and its page, in whichever tables show the items
 pub record IsSale (sale : Sale) (draft : Draft) (act : Act) (writes : List Write) : Type 0 where
-  pub act_is : act ≡ Confirm sale.purchase.asked.now sale.draw sale.auth
+  pub act_is : act ≡ Confirm sale.purchase.asked.now sale.draw sale.auth sale.purchase.tax
   pub writes_are : (t : Tables) → Shows t sale.purchase.items.now → writes ≡ purchase_writes t sale.purchase (order_in sale) (days_of sale)
   pub page : IsPageOf sale draft
 
@@ -81,9 +82,10 @@ IsDecidedBy call purchase bill draw draft kept (Denied reason) =
 IsDecidedBy call purchase bill draw draft kept Failed = Unit {0}
 
 -- what is decided of the purchase that is asked for in a call, by its reads
-pub record Decides (asked : PurchaseAsked) (call : Call) (draw : ℕ) (reads : List ReadOf) (draft : Draft) (kept : Option Answer) (decision : Decision) : Type 0 where
+pub record Decides (asked : PurchaseAsked) (call : Call) (asking : Asking) (reads : List ReadOf) (draft : Draft) (kept : Option Answer) (decision : Decision) : Type 0 where
   pub purchase : Purchase
   pub bill : Bill
   pub is : IsPurchase asked reads purchase
+  pub rule : purchase.tax ≡ asking.tax
   pub billed : IsBill purchase bill
-  pub decided : IsDecidedBy call purchase bill draw draft kept decision
+  pub decided : IsDecidedBy call purchase bill asking.draw draft kept decision

@@ -2,6 +2,7 @@
 use Rattle.std.specs.Prelude.{◌≡◌, ℕ, List, Option, Some, None}
 use Rattle.shop_model.specs.declared.requests.Request.TheVariants.{BuyConfirm}
 use Rattle.shop_model.specs.declared.tables.Tables.{Tables}
+use Rattle.shop_model.specs.declared.tax.TaxRule.{TaxRule}
 use Rattle.shop_model.specs.asked.PurchaseAsked.{PurchaseAsked}
 use Rattle.shop_model.specs.asked.Refusals.{page_of}
 use Rattle.shop_model.specs.pages.Show.{check}
@@ -23,25 +24,25 @@ use Rattle.shop_order.specs.declared.buy_confirm.Paid.{Paid}
 use Rattle.shop_order.specs.declared.buy_confirm.Paid.TheVariants as paid
 
 -- whichever tables agree with the reads, the purchase is not refused there, and this verdict on what it is charged is kept
-abbrev pub IsSettledBy : Tables → PurchaseAsked → Call → List ReadOf → Option Answer → Verdict → Type 0
-IsSettledBy opening asked call reads kept verdict =
+abbrev pub IsSettledBy : Tables → TaxRule → PurchaseAsked → Call → List ReadOf → Option Answer → Verdict → Type 0
+IsSettledBy opening tax asked call reads kept verdict =
     (t : Tables)
     → Agrees opening t reads
     → (check t (BuyConfirm asked) ≡ None)
-    × (kept ≡ Some (record { charge = charge_due t asked call; verdict = verdict }))
+    × (kept ≡ Some (record { charge = charge_due t tax asked call; verdict = verdict }))
 
 -- the attempt does the purchase, with the authorisation of the verdict that is kept
 pub record IsApproved (start now : Seat) (asking : Asking) (asked : PurchaseAsked) (call : Call) (draft : Draft) (kept : Option Answer) (attempt : Attempt) : Type 0 where
   pub auth : List ℕ
   pub ready : IsReady start now asking draft attempt
-  pub act : attempt.act ≡ Some (Confirm asked asking.draw auth)
-  pub settled : IsSettledBy now.opening asked call attempt.reads kept (verdict.Approved auth)
+  pub act : attempt.act ≡ Some (Confirm asked asking.draw auth asking.tax)
+  pub settled : IsSettledBy now.opening asking.tax asked call attempt.reads kept (verdict.Approved auth)
 
 -- the attempt changes nothing, and the page tells why the card was denied
 pub record IsDenied (start now : Seat) (asking : Asking) (asked : PurchaseAsked) (call : Call) (draft : Draft) (kept : Option Answer) (attempt : Attempt) (reason : Reason) : Type 0 where
   pub attempts : IsAttempt start now asking attempt
   pub reading : attempt.act ≡ None
-  pub settled : IsSettledBy now.opening asked call attempt.reads kept (verdict.Denied reason)
+  pub settled : IsSettledBy now.opening asking.tax asked call attempt.reads kept (verdict.Denied reason)
   pub written : Shows draft (λ drawn. page_of (denial reason))
 
 -- what came of an attempt that a payment decides, with the draft and the answer that is kept as they are then

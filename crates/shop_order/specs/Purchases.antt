@@ -4,13 +4,15 @@ use Rattle.shop_model.specs.declared.address.AddressText.{AddressText}
 use Rattle.shop_model.specs.declared.order_state.OrderState.TheVariants.{Pending}
 use Rattle.shop_model.specs.declared.requests.Request.TheVariants.{BuyConfirm}
 use Rattle.shop_model.specs.declared.tables.Tables.{Tables}
+use Rattle.shop_model.specs.declared.tax.TaxRule.{TaxRule}
 use Rattle.shop_model.specs.asked.PurchaseAsked.{PurchaseAsked, CardAsked}
 use Rattle.shop_model.specs.lists.Catalogues.{Catalogue}
-use Rattle.shop_model.specs.rows.Limits.{restocks_limit}
+use Rattle.shop_model.specs.rows.Limits.{charged_rate_limit, restocks_limit}
 use Rattle.shop_model.specs.rows.Lookups.{row_numbered}
 use Rattle.shop_model.specs.rows.Rows.{ItemRow, CustomerRow, LineRow, CardUseRow, OrderRow}
 use Rattle.shop_model.specs.rows.Sound.{IsFit}
 use Rattle.shop_model.specs.trade.Stocks.{least_stock, times_restocked, stock_after}
+use Rattle.shop_model.specs.trade.Taxes.{flat_rate}
 use Rattle.shop_history.specs.declared.acts.Drawn.{Drawn}
 use Rattle.shop_history.specs.declared.keys.Row.{Row}
 use Rattle.shop_history.specs.declared.keys.Row.TheVariants as rows
@@ -29,8 +31,17 @@ use Rattle.shop_order.specs.BuyerPage.{IsPricing}
 use Rattle.shop_order.specs.ShoppingCart.{AreItems}
 
 -- the rows of a purchase are read, each as some sound tables showed it
-abbrev pub IsRead : PurchaseAsked → List ReadOf → Type 0
-IsRead asked reads = (c : Catalogue) × HasBasket c (BuyConfirm asked) reads
+abbrev pub IsRead : TaxRule → PurchaseAsked → List ReadOf → Type 0
+IsRead tax asked reads = (c : Catalogue) × HasBasket c tax (BuyConfirm asked) reads
+
+-- the rate of the country that was read behind the items, if it was
+abbrev pub rate_of : Row → ℕ
+rate_of (rows.Country country) = country.rate
+rate_of _ = flat_rate
+
+abbrev pub rate_in : List ReadOf → ℕ
+rate_in [] = flat_rate
+rate_in (read ∷ rest) = rate_of read.row
 
 -- an item in a row is stocked
 abbrev pub IsStockedRow : Row → Type 0
@@ -46,18 +57,20 @@ pub record AreGoods (lines : List (ℕ × ℕ)) (items : List ReadOf) : Type 0 w
 -- the purchase that is asked for, by what was read of it
 pub record IsPurchase (asked : PurchaseAsked) (reads : List ReadOf) (purchase : Purchase) : Type 0 where
   pub same : purchase.asked.now ≡ asked
-  pub basket : IsBasket purchase.asked.now reads
+  pub basket : IsBasket purchase.tax purchase.asked.now reads
   pub customer : purchase.customer.now ≡ basket.customer
   pub lines : purchase.lines.now ≡ basket.cart.lines
   pub ship : purchase.ship.now ≡ basket.ship.row
   pub items : purchase.items.now ≡ basket.items
   pub fit : IsFit basket.cart
   pub goods : AreGoods purchase.lines.now purchase.items.now
+  pub rate : purchase.rate ≡ rate_in basket.rest
+  pub rate_fits : purchase.rate ≤ charged_rate_limit
 
 -- what a purchase costs
 pub record IsBill (purchase : Purchase) (bill : Bill) : Type 0 where
   pub pricing : IsPricing purchase.lines.now purchase.items.now bill.priced
-  pub totals : bill.totals ≡ totals_of bill.priced purchase.customer.now.discount
+  pub totals : bill.totals ≡ totals_of bill.priced purchase.customer.now.discount purchase.rate
 
 -- priced lines as those of an order, numbered from here
 abbrev pub numbered : ℕ → List (ℕ × ℕ × ℕ) → List LineRow
@@ -85,13 +98,14 @@ card_use payment auth total country = record {
   country = country;
 }
 
--- an order of this customer for what it is billed, before the settle
-abbrev pub order_at : PurchaseAsked → CustomerRow → Bill → List ℕ → Place → OrderRow
-order_at asked customer bill auth place = record {
+-- an order of this customer for what it is billed at a rate, before the settle
+abbrev pub order_at : PurchaseAsked → CustomerRow → Bill → ℕ → List ℕ → Place → OrderRow
+order_at asked customer bill rate auth place = record {
   id = 0;
   customer = customer.id;
   placed = 0;
   discount = customer.discount;
+  rate = rate;
   sub = bill.totals.sub;
   tax = bill.totals.tax;
   ship = bill.totals.ship;
@@ -106,7 +120,7 @@ order_at asked customer bill auth place = record {
 
 abbrev pub order_of : Purchase → Bill → List ℕ → OrderRow
 order_of purchase bill auth =
-    order_at purchase.asked.now purchase.customer.now bill auth
+    order_at purchase.asked.now purchase.customer.now bill purchase.rate auth
     (place_of purchase.asked.now.address purchase.customer.now.address purchase.ship.now)
 
 -- the address comes, where none says the text that is given

@@ -5,6 +5,7 @@ ghost use Rattle.shop_model.specs.trade.Sales.{check_known};
 ghost use Rattle.shop_history.specs.declared.keys.Key.TheVariants as key_kinds;
 ghost use Rattle.shop_history.specs.declared.keys.Row.TheVariants as row_kinds;
 ghost use Rattle.shop_attempt.specs.Reads.{Shows};
+ghost use Rattle.shop_browse.specs.Baskets.{country_read};
 ghost use Rattle.shop_order.specs.BuyConfirm as spec;
 ghost use Rattle.shop_order.specs.ShoppingCart.{IsFitRow};
 ghost use Rattle.shop_order.specs.Stops.{StopsBy, IsStop};
@@ -94,4 +95,23 @@ pub(crate) fn is_ship(text: &Option<AddressText>, row: &Row) -> bool
         (Some(_), Row::Absent) => true,
         _ => false,
     }
+}
+
+/// The key of the country to which a purchase ships: that of the text, or of the address in a row.
+pub(crate) fn country_key(text: &Option<AddressText>, row: &Row) -> Key
+    ensures { result ≡ key_kinds.Country (country_read text.now row.now) }
+{
+    let country = match (text, row) {
+        (Some(text), _) => text.country,
+        (None, Row::Address(address)) => address.get().text.country,
+        _ => 0,
+    };
+    Key::Country(country)
+}
+
+/// Whether a row is a country.
+pub(crate) fn is_country(row: &Row) -> bool
+    ensures { result ≡ spec.is_country row.now }
+{
+    matches!(row, Row::Country(_))
 }

@@ -9,14 +9,14 @@ ghost use Rattle.shop_browse.specs.Baskets.{HasBasket};
 ghost use Rattle.shop_order.specs.BuyConfirm.{FollowsConfirm, asking_for};
 ghost use Rattle.shop_order.specs.Payments.{PaidFor};
 
-use crate::basket::{begin, first_keys, is_ship, second_keys};
+use crate::basket::{begin, country_key, first_keys, is_country, is_ship, second_keys};
 use crate::decision::{Decision, decide};
 use crate::stops::stopped;
 use shop_attempt::{Attempt, ReadOf, Store};
 use shop_browse::{Ask, Attempted, Interaction, Next, attempt_by};
 use shop_draft::Draft;
 use shop_edges::{Answer, Call, Gateway, Reason};
-use shop_model::{BuyConfirm, Request};
+use shop_model::{BuyConfirm, Request, TaxRule};
 use shop_text::{Memory, Shared};
 use std::alloc::Global;
 
@@ -51,7 +51,7 @@ pub fn pay<G: Gateway>(
     gateway: &mut G,
     draft: &mut Draft,
 ) -> Paid
-    requires { HasBasket paying.now.ask.now.index.now (request_kinds.BuyConfirm paying.now.asked.now) attempt.reads }
+    requires { HasBasket paying.now.ask.now.index.now paying.now.ask.now.tax (request_kinds.BuyConfirm paying.now.asked.now) attempt.reads }
     ensures paid { PaidFor (asking_for paying.now) paying.now.asked.now paying.now.call attempt draft.new kept.new result }
     ensures asks { AsksOnce paying.now.asked.now paying.now.call kept.old kept.new (G.answers gateway.old) (G.answers gateway.new) }
     ensures failed { result ≡ Paid.Failed → Rose (G.faults gateway.old) (G.faults gateway.new) }
@@ -81,7 +81,7 @@ impl<'a> Interaction for Confirming<'a> {
 
     ghost request = { λ confirming. request_kinds.BuyConfirm confirming.asked.now };
 
-    ghost follows = { λ confirming ask. FollowsConfirm confirming.asked.now };
+    ghost follows = { λ confirming ask. FollowsConfirm confirming.asked.now ask.tax };
 
     fn next(
         &mut self,
@@ -91,7 +91,6 @@ impl<'a> Interaction for Confirming<'a> {
         reads: &[ReadOf],
         draft: &mut Draft,
     ) -> Result<Next, Memory> {
-        let _ = ask;
         let asked = self.asked;
         if round == 0 {
             return Ok(Next::Read(first_keys(alloc, asked)?));
@@ -103,7 +102,17 @@ impl<'a> Interaction for Confirming<'a> {
         if round == 1 {
             return Ok(Next::Read(second_keys(alloc, &asked.address, &basket)?));
         }
-        if is_ship(&asked.address, &reads[2].row) {
+        let ship = &reads[2].row;
+        if !is_ship(&asked.address, ship) {
+            return Ok(Next::Never);
+        }
+        if let TaxRule::Flat = ask.tax {
+            return Ok(Next::Pay);
+        }
+        if round == 2 {
+            return Ok(Next::ReadOne(country_key(&asked.address, ship)));
+        }
+        if is_country(&reads[reads.len() - 1].row) {
             return Ok(Next::Pay);
         }
         Ok(Next::Never)

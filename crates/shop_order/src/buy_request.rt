@@ -12,6 +12,7 @@ ghost use Rattle.shop_order.specs.BuyRequest as spec;
 ghost use Rattle.shop_order.specs.ShoppingCart.{IsFitRow};
 ghost use Rattle.shop_order.specs.Stops.{StopsBy, IsStop};
 
+use crate::basket::country_key;
 use crate::buyer_page::{Shopper, write_page};
 use crate::entries::{act, login_writes, newcomer_writes};
 use crate::shopping_cart::add_item_keys;
@@ -31,10 +32,11 @@ pub(crate) struct Begun<'a> {
     found: Option<u32>,
 }
 
-/// What is bought, who was found, and all that was read.
+/// What is bought, who was found, and all that was read in so many rounds.
 #[derive(Clone, Copy)]
 pub(crate) struct Gathered<'a> {
     begun: Begun<'a>,
+    round: u32,
     reads: &'a [ReadOf],
 }
 
@@ -115,7 +117,8 @@ fn second_keys(alloc: Global, buyer: &Buyer, begun: &Begun) -> Result<Listed<Key
     Ok(keys)
 }
 
-/// What is done for a customer who returns, where all is read.
+/// What is done for a customer who returns: after the password, where the customer lives is read, and then
+/// the country.
 fn by_login(
     alloc: Global,
     ask: &Ask,
@@ -125,21 +128,39 @@ fn by_login(
     draft: &mut Draft,
 ) -> Result<Next, Memory>
     requires buyer { asked.now.buyer ≡ buyers.Returning login.now }
-    requires all { spec.HasAll asked.now gathered.now.begun gathered.now.reads.now }
-    ensures { IfOk result (spec.IsEnd asked.now ask.now gathered.now.reads.now draft.new) }
+    requires gathered { spec.IsGathered asked.now gathered.now }
+    ensures { IfOk result (spec.IsRight asked.now ask.now gathered.now draft.new) }
 {
-    let Gathered { begun, reads } = *gathered;
+    let Gathered {
+        begun,
+        round,
+        reads,
+    } = *gathered;
     let customer = match customer_in(&login.pass, &reads[2].row) {
         Ok(customer) => customer,
         Err(stop) => return stopped(draft, stop),
     };
-    let shopper = Shopper::known(customer);
-    write_page(alloc, draft, &shopper, asked.cart, begun.lines, &reads[3..])?;
-    let writes = login_writes(alloc, customer.id)?;
-    Ok(Next::Change(act(asked, ask.draw)?, writes))
+    if round == 2 {
+        return Ok(Next::ReadOne(Key::Address(customer.address)));
+    }
+    let last = &reads[reads.len() - 1].row;
+    if round == 3 {
+        return Ok(Next::ReadOne(country_key(&None, last)));
+    }
+    match last {
+        Row::Country(country) => {
+            let shopper = Shopper::known(customer);
+            let items = &reads[3..3 + begun.lines.len()];
+            let rate = country.get().rate;
+            write_page(alloc, draft, &shopper, asked.cart, begun.lines, items, rate)?;
+            let writes = login_writes(alloc, customer.id)?;
+            Ok(Next::Change(act(asked, ask.draw)?, writes))
+        }
+        _ => Ok(Next::Never),
+    }
 }
 
-/// What is done for who is new, where all is read.
+/// What is done for who is new: the country that they give is read.
 fn by_newcomer(
     alloc: Global,
     ask: &Ask,
@@ -149,26 +170,40 @@ fn by_newcomer(
     draft: &mut Draft,
 ) -> Result<Next, Memory>
     requires buyer { asked.now.buyer ≡ buyers.Newcomer newcomer.now }
-    requires all { spec.HasAll asked.now gathered.now.begun gathered.now.reads.now }
-    ensures { IfOk result (spec.IsEnd asked.now ask.now gathered.now.reads.now draft.new) }
+    requires gathered { spec.IsGathered asked.now gathered.now }
+    ensures { IfOk result (spec.IsRight asked.now ask.now gathered.now draft.new) }
 {
-    let Gathered { begun, reads } = *gathered;
-    let shopper = Shopper::newcomer(newcomer, ask.draw);
-    write_page(alloc, draft, &shopper, asked.cart, begun.lines, &reads[2..])?;
-    let writes = newcomer_writes(alloc, newcomer, begun.found, ask.draw)?;
-    Ok(Next::Change(act(asked, ask.draw)?, writes))
+    let Gathered {
+        begun,
+        round,
+        reads,
+    } = *gathered;
+    if round == 2 {
+        return Ok(Next::ReadOne(Key::Country(newcomer.address.country)));
+    }
+    match &reads[reads.len() - 1].row {
+        Row::Country(country) => {
+            let shopper = Shopper::newcomer(newcomer, ask.draw);
+            let items = &reads[2..2 + begun.lines.len()];
+            let rate = country.get().rate;
+            write_page(alloc, draft, &shopper, asked.cart, begun.lines, items, rate)?;
+            let writes = newcomer_writes(alloc, newcomer, begun.found, ask.draw)?;
+            Ok(Next::Change(act(asked, ask.draw)?, writes))
+        }
+        _ => Ok(Next::Never),
+    }
 }
 
-/// What is done where all is read.
-fn by_all(
+/// What is done where the first two rounds are read.
+fn by_most(
     alloc: Global,
     ask: &Ask,
     asked: &BuyRequest,
     gathered: &Gathered,
     draft: &mut Draft,
 ) -> Result<Next, Memory>
-    requires { spec.HasAll asked.now gathered.now.begun gathered.now.reads.now }
-    ensures { IfOk result (spec.IsEnd asked.now ask.now gathered.now.reads.now draft.new) }
+    requires { spec.IsGathered asked.now gathered.now }
+    ensures { IfOk result (spec.IsRight asked.now ask.now gathered.now draft.new) }
 {
     match &asked.buyer {
         Buyer::Returning(login) => by_login(alloc, ask, asked, login.get(), gathered, draft),
@@ -210,8 +245,12 @@ impl<'a> Interaction for Buying<'a> {
         if round == 1 {
             return Ok(Next::Read(second_keys(alloc, &asked.buyer, &begun)?));
         }
-        let gathered = Gathered { begun, reads };
-        by_all(alloc, ask, asked, &gathered, draft)
+        let gathered = Gathered {
+            begun,
+            round,
+            reads,
+        };
+        by_most(alloc, ask, asked, &gathered, draft)
     }
 }
 

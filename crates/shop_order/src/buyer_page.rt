@@ -3,7 +3,7 @@ ghost use Rattle.std.specs.Prelude.{◌≡◌, ◌≤◌, ◌++◌, ℕ, Some, I
 ghost use Rattle.shop_model.specs.declared.page.Block.TheVariants as block;
 ghost use Rattle.shop_model.specs.declared.tables.Tables.{Tables};
 ghost use Rattle.shop_model.specs.pages.PageText.{block_line};
-ghost use Rattle.shop_model.specs.rows.Limits.{discount_limit};
+ghost use Rattle.shop_model.specs.rows.Limits.{charged_rate_limit, discount_limit};
 ghost use Rattle.shop_model.specs.trade.Buyers.{logged_in};
 ghost use Rattle.shop_history.specs.declared.acts.Drawn.{Drawn};
 ghost use Rattle.shop_draft.specs.Drawing.{id_at, ids_at};
@@ -97,26 +97,29 @@ pub(crate) fn priced(
     Ok(priced)
 }
 
-/// Adds what the lines cost at a discount in per cent.
+/// Adds what the lines cost at a discount in per cent, taxed at a rate in hundredths of a per cent.
 fn totals(
     alloc: Global,
     page: &mut Template,
     lines: &[(u32, u32)],
     items: &[ReadOf],
     discount: u32,
+    rate: u32,
 ) -> Result<(), Memory>
     requires items { AreItems lines.now items.now }
     requires lines { AreLines lines.now }
     requires discount { discount ≤ discount_limit }
-    ensures { OnOk result ((t : Tables) → Shows t items.now → Says page.old page.new (spec.totals_line t lines.now discount)) }
+    requires rate { rate ≤ charged_rate_limit }
+    ensures { OnOk result ((t : Tables) → Shows t items.now → Says page.old page.new (spec.totals_line t lines.now discount rate)) }
 {
     let priced = priced(alloc, lines, items)?;
-    let totals = Totals::of(priced.as_slice(), discount);
+    let totals = Totals::of(priced.as_slice(), discount, rate);
     page.totals(totals.sub, totals.tax, totals.ship, totals.total)?;
     Ok(())
 }
 
-/// Writes the page of who buys these lines of a cart, by what was read of their items.
+/// Writes the page of who buys these lines of a cart, by what was read of their items, taxed at a rate in
+/// hundredths of a per cent.
 pub(crate) fn write_page(
     alloc: Global,
     draft: &mut Draft,
@@ -124,11 +127,13 @@ pub(crate) fn write_page(
     cart: u32,
     lines: &[(u32, u32)],
     items: &[ReadOf],
+    rate: u32,
 ) -> Result<(), Memory>
     requires items { AreItems lines.now items.now }
     requires lines { AreLines lines.now }
     requires discount { shopper.now.discount ≤ discount_limit }
-    ensures { OnOk result ((t : Tables) → Shows t items.now → spec.IsBuyersPage t shopper.now cart lines.now draft.new) }
+    requires rate { rate ≤ charged_rate_limit }
+    ensures { OnOk result ((t : Tables) → Shows t items.now → spec.IsBuyersPage t shopper.now cart lines.now rate draft.new) }
 {
     let ids = page_ids(shopper.id, cart);
     draft.status = 200;
@@ -137,7 +142,7 @@ pub(crate) fn write_page(
     heading(page, shopper.id)?;
     page.buyer(shopper.id, shopper.first, shopper.last, shopper.discount)?;
     table(page, lines, items)?;
-    totals(alloc, page, lines, items, shopper.discount)?;
+    totals(alloc, page, lines, items, shopper.discount, rate)?;
     page.payment_form(shopper.first, shopper.last, ids)?;
     page.nav(ids)?;
     page.end()?;

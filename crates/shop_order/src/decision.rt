@@ -1,7 +1,9 @@
 //! What is decided of a purchase that was read: a gateway approves what it costs, denies it, or fails.
 ghost use Rattle.std.specs.Prelude.{◌≡◌, ◌≤◌, IfOk};
+ghost use Rattle.shop_model.specs.rows.Limits.{charged_rate_limit};
 ghost use Rattle.shop_edges.specs.Causes.{Rose};
 ghost use Rattle.shop_edges.specs.Payments.{AsksOnce};
+ghost use Rattle.shop_order.specs.BuyConfirm.{asking_for};
 ghost use Rattle.shop_order.specs.Decisions as spec;
 ghost use Rattle.shop_order.specs.Purchases.{IsRead, AreGoods, IsBill};
 
@@ -40,12 +42,13 @@ fn approved(
 ) -> Result<Decision, Memory>
     requires goods { AreGoods purchase.now.lines.now purchase.now.items.now }
     requires bill { IsBill purchase.now bill.now }
+    requires rate { purchase.now.rate ≤ charged_rate_limit }
     ensures { IfOk result (spec.IsApproved (record { purchase = purchase.now; bill = bill.now; auth = auth.now; draw = draw }) draft.new) }
 {
     write_page(draft, purchase, bill, auth, draw)?;
     let placed = order(alloc, purchase, bill, *auth)?;
     let writes = purchase_writes(alloc, purchase, placed, draw)?;
-    let act = purchase_act(purchase.asked, draw, *auth)?;
+    let act = purchase_act(purchase, draw, *auth)?;
     Ok(Decision::Approved(act, writes))
 }
 
@@ -67,14 +70,14 @@ pub(crate) fn decide<G: Gateway>(
     gateway: &mut G,
     draft: &mut Draft,
 ) -> Result<Decision, Memory>
-    requires { IsRead paying.now.asked.now reads.now }
-    ensures decides { IfOk result (spec.Decides paying.now.asked.now paying.now.call paying.now.ask.now.draw reads.now draft.new kept.new) }
+    requires { IsRead paying.now.ask.now.tax paying.now.asked.now reads.now }
+    ensures decides { IfOk result (spec.Decides paying.now.asked.now paying.now.call (asking_for paying.now) reads.now draft.new kept.new) }
     ensures asks { AsksOnce paying.now.asked.now paying.now.call kept.old kept.new (G.answers gateway.old) (G.answers gateway.new) }
     ensures failed { IfOk result (λ decision. decision ≡ Decision.Failed → Rose (G.faults gateway.old) (G.faults gateway.new)) }
     ensures later { G.faults gateway.old ≤ G.faults gateway.new }
 {
     let draw = paying.ask.draw;
-    let purchase = Purchase::of(paying.asked, reads);
+    let purchase = Purchase::of(paying.ask.tax, paying.asked, reads);
     let bill = Bill::of(alloc, &purchase)?;
     let charge = charge_of(paying.asked.get(), paying.call, bill.totals.total);
     match ask_gateway(charge, kept, gateway) {

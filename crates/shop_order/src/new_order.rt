@@ -1,5 +1,6 @@
 //! The order of a purchase, before the settle.
-ghost use Rattle.std.specs.Prelude.{◌≡◌, IfOk};
+ghost use Rattle.std.specs.Prelude.{◌≡◌, ◌≤◌, IfOk};
+ghost use Rattle.shop_model.specs.rows.Limits.{charged_rate_limit};
 ghost use Rattle.shop_pricing.specs.Totals.{ArePriced};
 ghost use Rattle.shop_order.specs.Purchases as spec;
 
@@ -90,7 +91,8 @@ pub(crate) fn order(
     bill: &Bill,
     auth: AuthId,
 ) -> Result<Order, Memory>
-    requires { ArePriced bill.now.priced }
+    requires priced { ArePriced bill.now.priced }
+    requires rate { purchase.now.rate ≤ charged_rate_limit }
     ensures { IfOk result (λ order. order ≡ spec.order_of purchase.now bill.now auth) }
 {
     let asked = purchase.asked.get();
@@ -102,6 +104,7 @@ pub(crate) fn order(
         customer: customer.id,
         placed: 0,
         discount: customer.details.get().discount,
+        rate: purchase.rate,
         sub: totals.sub,
         tax: totals.tax,
         ship: totals.ship,

@@ -10,7 +10,7 @@ ghost use Rattle.shop_order.specs.Purchases as spec;
 use crate::purchase::Purchase;
 use shop_attempt::{ReadOf, Stock, Write};
 use shop_history::{Act, Row};
-use shop_model::{AuthId, BuyConfirm, Cart, Item, Order};
+use shop_model::{AuthId, Cart, Item, Order};
 use shop_pricing::restock;
 use shop_text::{Boxed, Listed, Memory, Shared};
 use std::alloc::Global;
@@ -120,12 +120,8 @@ pub(crate) fn purchase_writes(
 }
 
 /// The act of a purchase, with the word that was drawn and the authorisation of its payment; takes no memory.
-pub(crate) fn purchase_act(
-    asked: &Shared<BuyConfirm>,
-    draw: u32,
-    auth: AuthId,
-) -> Result<Act, Memory>
-    ensures { IfOk result (λ act. act ≡ Act.Confirm asked.now draw auth) }
+pub(crate) fn purchase_act(purchase: &Purchase, draw: u32, auth: AuthId) -> Result<Act, Memory>
+    ensures { IfOk result (λ act. act ≡ Act.Confirm purchase.now.asked.now draw auth purchase.now.tax) }
 {
-    Ok(Act::Confirm(asked.share()?, draw, auth))
+    Ok(Act::Confirm(purchase.asked.share()?, draw, auth, purchase.tax))
 }

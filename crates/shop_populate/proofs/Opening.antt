@@ -6,7 +6,7 @@ use Rattle.std.proofs.lemmas.List.FromFn.{length-map-range_with_len, length-rang
 use Rattle.shop_text.specs.Texts.{digsyl}
 use Rattle.shop_model.specs.declared.address.Address.{Address}
 use Rattle.shop_model.specs.rows.Limits.{restocks_limit}
-use Rattle.shop_model.specs.rows.Rows.{CustomerRow, ItemRow, OrderRow, IsItem, IsCustomer, IsOrder, IsLine, IsCardUse}
+use Rattle.shop_model.specs.rows.Rows.{CustomerRow, ItemRow, OrderRow, IsCountry, IsItem, IsCustomer, IsOrder, IsLine, IsCardUse}
 use Rattle.shop_model.specs.population.Scales.{ScaleRow, IsRoomy, IsScale}
 use Rattle.shop_model.specs.rows.Sound.{Has, OrderNames, NamesExist, HasLines, IsCharged, IsPaid, IsStocked, HasFive, Runs, IdsRun, InBounds, Sound, Room, sold, last_of}
 use Rattle.shop_model.specs.population.Population.{rows, populated, orders_table, order_row, order_of, item_row, stock, lasts_table, customers_table, customer_row, items_table, countries_table, addresses_table, authors_table, country_row, address_row, author_row}
@@ -66,10 +66,11 @@ module _ (seed : ℕ) (scale : ScaleRow) where
       sym (map_rows (λ c. last c.id) (customer_row seed scale) last 1 scale.customers (λ r. refl))
 
   in_bounds : InBounds (populated seed scale)
-  unfolding populated customers_table items_table orders_table
+  unfolding populated countries_table customers_table items_table orders_table
   in_bounds =
       let order : ℕ → OrderRow = order_row seed scale in
       record {
+        countries = every IsCountry country_row 92 row.country_fits;
         customers = every IsCustomer (customer_row seed scale) scale.customers (row.customer_fits seed scale);
         items = every IsItem (item_row seed scale) scale.items (row.item_fits seed scale);
         orders = every IsOrder order scale.orders (row.order_fits seed scale);

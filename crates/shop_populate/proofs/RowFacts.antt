@@ -4,11 +4,11 @@ use Rattle.std.specs.List.{All}
 use Rattle.std.proofs.lemmas.List.FromFn.{length-map-range_with_len}
 use Rattle.shop_text.specs.Texts.{digsyl}
 use Rattle.shop_model.specs.rows.Limits.{restocks_limit}
-use Rattle.shop_model.specs.rows.Rows.{LineRow, IsItem, IsCustomer, IsOrder, IsLine, IsCardUse}
+use Rattle.shop_model.specs.rows.Rows.{LineRow, IsCountry, IsItem, IsCustomer, IsOrder, IsLine, IsCardUse}
 use Rattle.shop_model.specs.population.Scales.{ScaleRow, IsRoomy}
 use Rattle.shop_model.specs.rows.Sound.{Has, HasFive, HasLines, IsCharged, IsPaid, IsQuantity}
 use Rattle.shop_model.specs.population.Words.{word}
-use Rattle.shop_model.specs.population.Population.{cost, srp, address_row, customer_row, item_row, stock, order_line, line_quantity, line_item, order_lines, size, order_row, order_of, order_customer, placed, ship_day, order_word, card_of, order_address}
+use Rattle.shop_model.specs.population.Population.{cost, srp, country_rate, country_row, address_row, customer_row, item_row, stock, order_line, line_quantity, line_item, order_lines, size, order_row, order_of, order_customer, placed, ship_day, order_word, card_of, order_address}
 use Rattle.shop_model.proofs.cited.Lists.{all_rows, ids_of}
 use Rattle.shop_populate.proofs.Followers.{five_follow, followers_differ, followers_are_others}
 
@@ -21,6 +21,14 @@ part_le a b =
 cost_fits : (price off : ℕ) → cost price off ≤ 9999
 unfolding cost srp
 cost_fits price off = omega (arith, part_le (100 + price % 9900) (off % 51))
+
+rate_fits : (r : ℕ) → country_rate r ≤ 1_000
+unfolding country_rate
+rate_fits r = omega arith
+
+pub country_fits : (r : ℕ) → IsCountry (country_row r)
+unfolding country_row
+country_fits r = record { rate = rate_fits r }
 
 -- addresses and customers
 module _ (seed : ℕ) (scale : ScaleRow) where
@@ -119,10 +127,11 @@ module _ (seed : ℕ) (scale : ScaleRow) (r : ℕ) where
       all_lines (λ l. Has scale.items l.item) (λ w2 w4 k. line_item_exists seed scale w2 w4 k roomy)
 
   pub order_fits : IsOrder (order_row seed scale r)
-  unfolding order_row order_of order_customer placed ship_day
+  unfolding order_row order_of order_customer order_address placed ship_day
   order_fits = record {
     placed = omega arith;
     discount = (customer_fits seed scale (1 + order_word seed scale r 0 % scale.customers)).discount;
+    rate = omega (arith, rate_fits (order_address seed scale r).text.country);
     ship_day = omega arith;
   }
 

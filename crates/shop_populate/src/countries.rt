@@ -20,6 +20,15 @@ fn country_name(alloc: Global, id: u32) -> Result<Text, Memory>
     Ok(text)
 }
 
+/// The rate of a country's tax, in hundredths of a per cent: up to ten per cent, in steps of a quarter.
+#[tactic(auto, unfolding(shop_model::specs::population::Population::country_rate))]
+pub(crate) fn country_rate(id: u32) -> u32
+    ensures value { result ≡ spec.country_rate id }
+    ensures bound { result ≤ 1_000 }
+{
+    25 * (id % 41)
+}
+
 /// The country with this id.
 #[tactic(auto, unfolding(shop_model::specs::population::Population::country_row))]
 fn country_row(alloc: Global, id: u32) -> Result<Country, Memory>
@@ -28,6 +37,7 @@ fn country_row(alloc: Global, id: u32) -> Result<Country, Memory>
     Ok(Country {
         id,
         name: country_name(alloc, id)?,
+        rate: country_rate(id),
     })
 }
 

@@ -48,17 +48,18 @@ fn units_of(lines: &[Line]) -> u64
     units
 }
 
-/// The charge for lines at a discount, in per cent.
+/// The charge for lines at a discount, in per cent, and a rate of tax, in hundredths of a per cent.
 #[tactic(auto, unfolding(shop_model::specs::trade::Money::money, shop_model::specs::trade::Money::sub_of, shop_model::specs::trade::Money::tax_of, shop_model::specs::trade::Money::ship_of))]
-pub(crate) fn charged(lines: &[Line], discount: u32) -> Charge
+pub(crate) fn charged(lines: &[Line], discount: u32, rate: u32) -> Charge
     requires few { length lines.now ≤ 100 }
     requires discount { discount ≤ 50 }
-    ensures value { result ≡ spec.totals lines.now discount }
+    requires rate { rate ≤ 1_000 }
+    ensures value { result ≡ spec.totals lines.now discount rate }
     ensures bound { result.total ≤ 200_000_000_000 }
 {
     let sum = sum_of(lines);
     let sub = (2 * sum * (100 - discount as u64) + 100) / 200;
-    let tax = (2 * sub * 825 + 10_000) / 20_000;
+    let tax = (2 * sub * rate as u64 + 10_000) / 20_000;
     let ship = 300 + 100 * units_of(lines);
     Charge {
         sub,

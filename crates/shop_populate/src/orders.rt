@@ -2,6 +2,7 @@ ghost use Rattle.std.specs.Prelude.{◌≡◌, ◌≤◌, ◌<◌, ◌++◌, IfO
 ghost use Rattle.shop_model.specs.population.Population as spec;
 
 use crate::card_uses::{card_of, placed};
+use crate::countries::country_rate;
 use crate::lines::{order_lines, size};
 use crate::lookups::{address_at, customer_at};
 use crate::money::charged;
@@ -45,7 +46,8 @@ fn order_of(
         picks.day picks.delay picks.card picks.state picks.carrier) }
 {
     let discount = customer.details.get().discount;
-    let charge = charged(lines.as_slice(), discount);
+    let rate = country_rate(address.text.country);
+    let charge = charged(lines.as_slice(), discount, rate);
     let card = card_of(
         alloc,
         customer,
@@ -60,6 +62,7 @@ fn order_of(
         customer: customer.id,
         placed: placed(picks.day),
         discount,
+        rate,
         sub: charge.sub,
         tax: charge.tax,
         ship: charge.ship,

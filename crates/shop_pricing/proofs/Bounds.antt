@@ -21,4 +21,8 @@ units_bound lines are =
 pub part_bound : (sum part : ℕ) → sum ≤ 100 * (999_999 * 999) → part ≤ 100 → sum * part ≤ 100 * (999_999 * 999) * 100
 part_bound sum part low few = mul-le-mul low few
 
-pub ruleset bounds = (sum_bound, units_bound, part_bound)
+-- a tax on it, in hundredths of a per cent
+pub tax_bound : (sub rate : ℕ) → sub ≤ 100 * (999_999 * 999) → rate ≤ 10_000 → sub * rate ≤ 100 * (999_999 * 999) * 10_000
+tax_bound sub rate low few = mul-le-mul low few
+
+pub ruleset bounds = (sum_bound, units_bound, part_bound, tax_bound)

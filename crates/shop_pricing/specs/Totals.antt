@@ -26,6 +26,6 @@ units_of lines = sum_by (λ l. l.1) lines
 abbrev pub with_sum : ℕ → Money → Totals
 with_sum sum m = record { sum = sum; sub = m.sub; tax = m.tax; ship = m.ship; total = m.total }
 
--- what the lines cost at a discount in per cent
-abbrev pub totals_of : List (ℕ × ℕ × ℕ) → ℕ → Totals
-totals_of lines discount = with_sum (sum_of lines) (money (sum_of lines) (units_of lines) discount)
+-- what the lines cost at a discount in per cent, taxed at a rate in hundredths of a per cent
+abbrev pub totals_of : List (ℕ × ℕ × ℕ) → ℕ → ℕ → Totals
+totals_of lines discount rate = with_sum (sum_of lines) (money (sum_of lines) (units_of lines) discount rate)

@@ -1,6 +1,6 @@
 //! What the lines of an order cost.
 ghost use Rattle.std.specs.Prelude.{◌≡◌, ◌+◌, ◌*◌, ◌<◌, ◌≤◌, ◌^◌};
-ghost use Rattle.shop_model.specs.rows.Limits.{discount_limit};
+ghost use Rattle.shop_model.specs.rows.Limits.{charged_rate_limit, discount_limit};
 ghost use Rattle.shop_model.specs.trade.Money.{half_up, money};
 ghost use Rattle.shop_pricing.specs.Totals.{IsPriced, ArePriced, sum_of, units_of, totals_of};
 
@@ -19,16 +19,18 @@ pub struct Totals {
 
 impl Totals {
     /// What lines of an item, a quantity and the cost of one unit in cents cost at a discount in per
-    /// cent: 8.25 per cent of tax on what the discount leaves, and 3.00 and 1.00 a unit for shipping.
+    /// cent: a tax on what the discount leaves, at a rate in hundredths of a per cent, and 3.00 and 1.00 a
+    /// unit for shipping.
     #[tactic(auto, using(crate::proofs::Bounds::bounds), unfolding(shop_model::specs::trade::Money::money, shop_model::specs::trade::Money::sub_of, shop_model::specs::trade::Money::tax_of, shop_model::specs::trade::Money::ship_of))]
-    pub fn of(lines: &[(u32, u32, u64)], discount: u32) -> Totals
+    pub fn of(lines: &[(u32, u32, u64)], discount: u32, rate: u32) -> Totals
         requires lines { ArePriced lines.now }
         requires discount { discount ≤ discount_limit }
-        ensures { result ≡ totals_of lines.now discount }
+        requires rate { rate ≤ charged_rate_limit }
+        ensures { result ≡ totals_of lines.now discount rate }
     {
         let sum = sum(lines);
         let sub = half_up(sum * u64::from(100 - discount), 100);
-        let tax = half_up(sub * 825, 10_000);
+        let tax = half_up(sub * u64::from(rate), 10_000);
         let ship = 300 + 100 * units(lines);
         Totals {
             sum,

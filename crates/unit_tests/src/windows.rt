@@ -61,6 +61,7 @@ fn order(alloc: Global, id: u32, customer: u32, pairs: &[(u32, u32)]) -> Result<
         customer,
         placed: 0,
         discount: 0,
+        rate: 0,
         sub: 0,
         tax: 0,
         ship: 0,

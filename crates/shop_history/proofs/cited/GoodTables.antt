@@ -17,7 +17,7 @@ use Rattle.shop_model.specs.asked.CartAsked.{CartAsked}
 use Rattle.shop_model.specs.trade.Buyers.{customer_named, logged_in, says_same, address_saying, addresses_with, new_customer, customers_with, tables_entered}
 use Rattle.shop_model.specs.trade.Carts.{check_cart, check_asked, lines_named, lines_after, cart_lines, carts_with}
 use Rattle.shop_model.specs.asked.PurchaseAsked.{PurchaseAsked, IsPurchaseAsked}
-use Rattle.shop_model.specs.trade.Sales.{check_purchase, tables_bought}
+use Rattle.shop_model.specs.trade.Sales.{Terms, check_purchase, tables_bought}
 use Rattle.shop_model.specs.trade.Mending.{with_mended}
 use Rattle.shop_model.specs.pages.Show.{check, check_there}
 use Rattle.shop_model.specs.rows.Limits.{stamp_limit, restocks_limit}
@@ -137,17 +137,17 @@ enter_good t stamp draw (Newcomer asked) room bound form good =
 
 -- a customer who buys a cart
 
-confirm_good : (t : Tables) (stamp draw : ℕ) (auth : List ℕ) (asked : PurchaseAsked) (room : ℕ) → stamp ≤ stamp_limit → IsPurchaseAsked asked → check_purchase t asked ≡ None → IsGood t (suc room)
-    → IsGood (tables_bought t stamp draw auth asked (row_numbered t.customers asked.c)) room
-confirm_good t stamp draw auth asked room bound form passes good =
+confirm_good : (t : Tables) (stamp draw : ℕ) (terms : Terms) (asked : PurchaseAsked) (room : ℕ) → stamp ≤ stamp_limit → IsPurchaseAsked asked → check_purchase t asked ≡ None → IsGood t (suc room)
+    → IsGood (tables_bought t stamp draw terms asked (row_numbered t.customers asked.c)) room
+confirm_good t stamp draw terms asked room bound form passes good =
     let who : Buys t asked = who_buys t asked passes in
     let addresses : length t.addresses + 1 < 2 ^ 32 = omega (arith, good.room_for.addresses) in
     let roomy : All (λ i. i.restocks + 49 ≤ restocks_limit) t.items
     = All-weaker (λ i. i.restocks + 49 * suc room ≤ restocks_limit) (λ i. i.restocks + 49 ≤ restocks_limit) (λ i h. omega arith) t.items good.room_for.restocks in
-    subst (λ o. IsGood (tables_bought t stamp draw auth asked o) room) (sym who.buys)
+    subst (λ o. IsGood (tables_bought t stamp draw terms asked o) room) (sym who.buys)
     (record {
-      sound = purchase_sound t good.sound asked form stamp draw auth bound who.customer who.cart who.buys who.bought who.some addresses (omega (arith, good.room_for.orders)) roomy;
-      room_for = purchase_room t good.sound asked form stamp draw auth bound who.customer who.cart who.buys who.bought who.some addresses room good.room_for;
+      sound = purchase_sound t good.sound asked form stamp draw terms bound who.customer who.cart who.buys who.bought who.some addresses (omega (arith, good.room_for.orders)) roomy;
+      room_for = purchase_room t good.sound asked form stamp draw terms bound who.customer who.cart who.buys who.bought who.some addresses room good.room_for;
     })
 
 -- an item that is administered
@@ -175,7 +175,7 @@ admin_good t stamp asked (Some item) room bound form there passes good =
 play_good : (t : Tables) (stamp : ℕ) (act : Act) (room : ℕ) → stamp ≤ stamp_limit → IsInForm act → check t (request_of act) ≡ None → IsGood t (suc room)
     → IsGood (play t stamp act).tables room
 play_good t stamp (Enter asked draw) room bound form passes good = enter_good t stamp draw asked.buyer room bound form.1 good
-play_good t stamp (Confirm asked draw auth) room bound form passes good = confirm_good t stamp draw auth asked room bound form passes good
+play_good t stamp (Confirm asked draw auth tax) room bound form passes good = confirm_good t stamp draw (record { auth = auth; tax = tax }) asked room bound form passes good
 play_good t stamp (Admin asked) room bound form passes good =
     admin_good t stamp asked (row_numbered t.items asked.item) room bound form refl passes good
 play_good t stamp (Cart asked draw) room bound form passes good =

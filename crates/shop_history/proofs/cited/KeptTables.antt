@@ -12,7 +12,7 @@ use Rattle.shop_model.specs.rows.Lookups.{row_numbered}
 use Rattle.shop_model.specs.rows.Rows.{ItemRow, CustomerRow, OrderRow}
 use Rattle.shop_model.specs.trade.Buyers.{tables_entered}
 use Rattle.shop_model.specs.trade.Mending.{mended_item, with_mended}
-use Rattle.shop_model.specs.trade.Sales.{new_order, sold_item, with_purchase, tables_bought}
+use Rattle.shop_model.specs.trade.Sales.{Terms, new_order, sold_item, with_purchase, tables_bought}
 use Rattle.shop_history.specs.declared.acts.Act.{Act}
 use Rattle.shop_history.specs.declared.acts.Act.TheVariants.{Cart, Enter, Confirm, Admin}
 use Rattle.shop_history.specs.declared.acts.Entry.{Entry}
@@ -43,9 +43,9 @@ purchase_keeps t asked order = record {
   born_orders = refl;
 }
 
-confirm_keeps : (t : Tables) (stamp draw : ℕ) (auth : List ℕ) (asked : PurchaseAsked) (customer : Option CustomerRow) → Keeps t (tables_bought t stamp draw auth asked customer)
-confirm_keeps t stamp draw auth asked None = record { catalogue = refl; countries = refl; born_orders = refl }
-confirm_keeps t stamp draw auth asked (Some customer) = purchase_keeps t asked (new_order t stamp draw auth asked customer)
+confirm_keeps : (t : Tables) (stamp draw : ℕ) (terms : Terms) (asked : PurchaseAsked) (customer : Option CustomerRow) → Keeps t (tables_bought t stamp draw terms asked customer)
+confirm_keeps t stamp draw terms asked None = record { catalogue = refl; countries = refl; born_orders = refl }
+confirm_keeps t stamp draw terms asked (Some customer) = purchase_keeps t asked (new_order t stamp draw terms asked customer)
 
 admin_keeps : (t : Tables) (stamp : ℕ) (asked : AdminAsked) (item : Option ItemRow) → row_numbered t.items asked.item ≡ item → Keeps t (with_mended t stamp asked item)
 admin_keeps t stamp asked None there = record { catalogue = refl; countries = refl; born_orders = refl }
@@ -58,7 +58,7 @@ admin_keeps t stamp asked (Some item) there = record {
 pub play_keeps : (t : Tables) (stamp : ℕ) (act : Act) → Keeps t (play t stamp act).tables
 play_keeps t stamp (Cart asked draw) = record { catalogue = refl; countries = refl; born_orders = refl }
 play_keeps t stamp (Enter asked draw) = enter_keeps t stamp draw asked.buyer
-play_keeps t stamp (Confirm asked draw auth) = confirm_keeps t stamp draw auth asked (row_numbered t.customers asked.c)
+play_keeps t stamp (Confirm asked draw auth tax) = confirm_keeps t stamp draw (record { auth = auth; tax = tax }) asked (row_numbered t.customers asked.c)
 play_keeps t stamp (Admin asked) = admin_keeps t stamp asked (row_numbered t.items asked.item) refl
 
 keeps_then : (t u w : Tables) → Keeps t u → Keeps u w → Keeps t w

@@ -8,7 +8,7 @@ use Rattle.shop_model.specs.declared.refusal.Refusal.TheVariants.{EmptyCart, NoI
 use Rattle.shop_model.specs.asked.AdminAsked.{AdminAsked}
 use Rattle.shop_model.specs.asked.PurchaseAsked.{PurchaseAsked}
 use Rattle.shop_model.specs.trade.Buyers.{check_bought}
-use Rattle.shop_model.specs.trade.Sales.{check_known, check_purchase, tables_bought}
+use Rattle.shop_model.specs.trade.Sales.{Terms, check_known, check_purchase, tables_bought}
 use Rattle.shop_model.specs.trade.Mending.{with_mended}
 use Rattle.shop_model.specs.pages.Show.{check, check_there}
 use Rattle.shop_model.specs.rows.Lookups.{row_numbered}
@@ -61,12 +61,12 @@ has_bought t asked (Some customer) (Some cart) buys bought passes = record { cus
 pub who_buys : (t : Tables) (asked : PurchaseAsked) → check_purchase t asked ≡ None → Buys t asked
 who_buys t asked passes = has_bought t asked (row_numbered t.customers asked.c) (row_numbered t.carts asked.cart) refl refl passes
 
-confirm_frame : (t : Tables) (stamp draw : ℕ) (auth : List ℕ) (asked : PurchaseAsked) → Sound t → check_purchase t asked ≡ None → (key : Key)
-    → Contains (purchase_changes t asked) key ⊎ (row_of (tables_bought t stamp draw auth asked (row_numbered t.customers asked.c)) key ≡ row_of t key)
-confirm_frame t stamp draw auth asked sound passes key =
+confirm_frame : (t : Tables) (stamp draw : ℕ) (terms : Terms) (asked : PurchaseAsked) → Sound t → check_purchase t asked ≡ None → (key : Key)
+    → Contains (purchase_changes t asked) key ⊎ (row_of (tables_bought t stamp draw terms asked (row_numbered t.customers asked.c)) key ≡ row_of t key)
+confirm_frame t stamp draw terms asked sound passes key =
     let who : Buys t asked = who_buys t asked passes in
-    subst (λ o. Contains (purchase_changes t asked) key ⊎ (row_of (tables_bought t stamp draw auth asked o) key ≡ row_of t key)) (sym who.buys)
-    (purchase_frame t sound asked stamp draw auth who.customer who.cart who.buys who.bought key)
+    subst (λ o. Contains (purchase_changes t asked) key ⊎ (row_of (tables_bought t stamp draw terms asked o) key ≡ row_of t key)) (sym who.buys)
+    (purchase_frame t sound asked stamp draw terms who.customer who.cart who.buys who.bought key)
 
 admin_frame : (t : Tables) (stamp : ℕ) (asked : AdminAsked) (item : Option ItemRow) → row_numbered t.items asked.item ≡ item → check_there NoItem item ≡ None → (any : Key)
     → Contains (key.TheVariants.Item asked.item ∷ key.TheVariants.NewIn (subject_at t asked.item) ∷ []) any ⊎ (row_of (with_mended t stamp asked item) any ≡ row_of t any)
@@ -82,5 +82,5 @@ frame t stamp (Cart asked draw) sound passes (key.TheVariants.Cart id) = ⊎_eli
     (cases_eq id (cart_meant t.carts asked.ids.cart))
 frame t stamp (Cart asked draw) sound passes _ = inr refl
 frame t stamp (Enter asked draw) sound passes key = enter_frame t stamp draw asked.buyer key
-frame t stamp (Confirm asked draw auth) sound passes key = confirm_frame t stamp draw auth asked sound passes key
+frame t stamp (Confirm asked draw auth tax) sound passes key = confirm_frame t stamp draw (record { auth = auth; tax = tax }) asked sound passes key
 frame t stamp (Admin asked) sound passes key = admin_frame t stamp asked (row_numbered t.items asked.item) refl passes key

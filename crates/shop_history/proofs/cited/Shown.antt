@@ -1,7 +1,7 @@
 -- Rows that are shown are there.
 use Rattle.std.proofs.Common.{◌≡◌, ℕ, Option, Some, None, refl}
 use Rattle.shop_model.specs.declared.address.Address.{Address}
-use Rattle.shop_model.specs.rows.Rows.{CartRow, CustomerRow, ItemRow}
+use Rattle.shop_model.specs.rows.Rows.{CartRow, CountryRow, CustomerRow, ItemRow}
 use Rattle.shop_history.specs.declared.keys.Row.TheVariants as row
 use Rattle.shop_history.specs.Keys.{shown}
 
@@ -20,6 +20,10 @@ item_found (Some other) item is = cc
 pub address_found : (o : Option Address) (address : Address) → shown row.Address o ≡ row.Address address → o ≡ Some address
 address_found None address is = absurd cc
 address_found (Some other) address is = cc
+
+pub country_found : (o : Option CountryRow) (country : CountryRow) → shown row.Country o ≡ row.Country country → o ≡ Some country
+country_found None country is = absurd cc
+country_found (Some other) country is = cc
 
 pub id_found : (o found : Option ℕ) → shown row.Id o ≡ shown row.Id found → o ≡ found
 id_found None None is = refl

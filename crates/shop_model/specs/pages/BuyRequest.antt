@@ -33,20 +33,20 @@ payment_form customer ids =
 abbrev pub buyer_ids : CustomerRow → ℕ → IdsAsked
 buyer_ids customer cart = record { c = Some customer.id; cart = Some cart }
 
--- what a customer buys and what it costs, where these are the lines of the order
-unfoldable pub priced_page : Tables → CustomerRow → ℕ → List LineRow → Page
-priced_page t customer cart lines = record {
+-- what a customer buys and what it costs, where these are the lines of the order, and it is taxed at a rate
+unfoldable pub priced_page : Tables → CustomerRow → ℕ → List LineRow → ℕ → Page
+priced_page t customer cart lines rate = record {
   status = 200;
   title = codes "Buy Request";
   blocks =
       Heading (codes "Customer " ++ decimal customer.id)
       ∷ Para (buyer_text customer)
       ∷ lines_table t lines
-      ∷ Para (totals_text (totals lines customer.discount))
+      ∷ Para (totals_text (totals lines customer.discount rate))
       ∷ payment_form customer (buyer_ids customer cart)
       ∷ nav (buyer_ids customer cart);
 }
 
 -- for a customer who buys the lines of a cart
-abbrev pub buy_request : Tables → CustomerRow → ℕ → List (ℕ × ℕ) → Page
-buy_request t customer cart lines = priced_page t customer cart (order_lines t 1 lines)
+abbrev pub buy_request : Tables → CustomerRow → ℕ → List (ℕ × ℕ) → ℕ → Page
+buy_request t customer cart lines rate = priced_page t customer cart (order_lines t 1 lines) rate

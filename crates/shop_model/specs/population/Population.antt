@@ -3,7 +3,6 @@
 use Rattle.std.specs.Prelude.{ℕ, ◌+◌, ◌-◌, ◌*◌, ◌/◌, ◌%◌, List, [], ◌∷◌, ◌++◌, map, codes, decimal, Option}
 use Rattle.std.specs.List.{range_with_len}
 use Rattle.shop_text.specs.Texts.{digsyl, digsyl_lower}
-use Rattle.shop_model.specs.declared.country.Country.{Country}
 use Rattle.shop_model.specs.declared.address.Address.{Address}
 use Rattle.shop_model.specs.declared.author.Author.{Author}
 use Rattle.shop_model.specs.declared.tables.Tables.{Tables}
@@ -12,7 +11,7 @@ use Rattle.shop_model.specs.declared.backing.Backing.TheVariants.{Hardback}
 use Rattle.shop_model.specs.declared.card_type.CardType.TheVariants.{Visa}
 use Rattle.shop_model.specs.declared.ship_type.ShipType.TheVariants.{Air}
 use Rattle.shop_model.specs.declared.order_state.OrderState.TheVariants.{Processing}
-use Rattle.shop_model.specs.rows.Rows.{CustomerRow, ItemRow, LineRow, CardUseRow, OrderRow}
+use Rattle.shop_model.specs.rows.Rows.{CountryRow, CustomerRow, ItemRow, LineRow, CardUseRow, OrderRow}
 use Rattle.shop_model.specs.population.Scales.{ScaleRow}
 use Rattle.shop_model.specs.rows.Subjects.{subjects, backings, card_types, ship_types, order_states}
 use Rattle.shop_model.specs.rows.AuthIds.{auth_id}
@@ -25,8 +24,12 @@ use Rattle.shop_model.specs.population.Words.{word, entry, adjectives, nouns, fi
 unfoldable pub country_name : ℕ → List ℕ
 country_name r = codes "Country " ++ digsyl r
 
-unfoldable pub country_row : ℕ → Country
-country_row r = record { id = r; name = country_name r }
+-- the rate of its tax, up to ten per cent
+unfoldable pub country_rate : ℕ → ℕ
+country_rate r = 25 * (r % 41)
+
+unfoldable pub country_row : ℕ → CountryRow
+country_row r = record { id = r; name = country_name r; rate = country_rate r }
 
 -- addresses, which draw from table 2
 
@@ -208,15 +211,16 @@ card_of customer address total r w3 w6 = record {
   country = address.text.country;
 }
 
--- order r of a customer to an address
+-- order r of a customer to an address, at the rate of its country
 unfoldable pub order_of : CustomerRow → Address → List LineRow → ℕ → ℕ → ℕ → ℕ → ℕ → ℕ → OrderRow
 order_of customer address lines r w3 w5 w6 w7 w8 =
-    let money : Money = totals lines customer.discount in
+    let money : Money = totals lines customer.discount (country_rate address.text.country) in
     record {
       id = r;
       customer = customer.id;
       placed = placed w3;
       discount = customer.discount;
+      rate = country_rate address.text.country;
       sub = money.sub;
       tax = money.tax;
       ship = money.ship;
@@ -248,7 +252,7 @@ order_row seed scale r =
 abbrev pub rows : {A : Type 0} → (ℕ → A) → ℕ → List A
 rows row size = map row (range_with_len 1 size)
 
-unfoldable pub countries_table : List Country
+unfoldable pub countries_table : List CountryRow
 countries_table = rows country_row 92
 
 unfoldable pub addresses_table : ℕ → ScaleRow → List Address

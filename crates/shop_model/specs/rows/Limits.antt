@@ -5,6 +5,14 @@ use Rattle.std.specs.Prelude.{ℕ, ◌/◌, ◌^◌}
 abbrev pub discount_limit : ℕ
 discount_limit = 50
 
+-- the rate of a country's tax, in hundredths of a per cent
+abbrev pub rate_limit : ℕ
+rate_limit = 1_000
+
+-- the rate that an order was charged
+abbrev pub charged_rate_limit : ℕ
+charged_rate_limit = 10_000
+
 -- the price of one unit, in cents
 abbrev pub price_limit : ℕ
 price_limit = 999_999

@@ -38,6 +38,10 @@ country_of tables id = unwrap_or (option_map (λ a. a.text.country) (row_numbere
 abbrev pub country_name : Tables → ℕ → List ℕ
 country_name tables id = unwrap_or (option_map (λ c. c.name) (row_numbered tables.countries id)) []
 
+-- the rate of the country with an id
+abbrev pub rate_of : Tables → ℕ → ℕ
+rate_of tables id = unwrap_or (option_map (λ c. c.rate) (row_numbered tables.countries id)) 0
+
 -- what may be there may itself be there or not
 abbrev pub joined : {A : Type 0} → Option (Option A) → Option A
 joined None = None

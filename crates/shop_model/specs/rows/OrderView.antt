@@ -7,6 +7,7 @@ row_of i = record {
   customer = i.customer;
   placed = i.placed;
   discount = i.discount;
+  rate = i.rate;
   sub = i.sub;
   tax = i.tax;
   ship = i.ship;

@@ -1,11 +1,20 @@
 -- What contracts see of the rows that have bounds, and these bounds.
 use Rattle.std.specs.Prelude.{ℕ, ◌+◌, ◌≤◌, List, All}
-use Rattle.shop_model.specs.rows.Limits.{discount_limit, price_limit, quantity_limit, stock_limit, restocks_limit, day_limit, stamp_limit, session_time}
+use Rattle.shop_model.specs.rows.Limits.{discount_limit, rate_limit, charged_rate_limit, price_limit, quantity_limit, stock_limit, restocks_limit, day_limit, stamp_limit, session_time}
 use Rattle.shop_model.specs.declared.subject.Subject.{Subject}
 use Rattle.shop_model.specs.declared.backing.Backing.{Backing}
 use Rattle.shop_model.specs.declared.card_type.CardType.{CardType}
 use Rattle.shop_model.specs.declared.ship_type.ShipType.{ShipType}
 use Rattle.shop_model.specs.declared.order_state.OrderState.{OrderState}
+
+-- a country, with the rate of its tax
+pub record CountryRow : Type 0 where
+  pub id : ℕ
+  pub name : List ℕ
+  pub rate : ℕ
+
+pub record IsCountry (row : CountryRow) : Type 0 where
+  pub rate : row.rate ≤ rate_limit
 
 -- a customer
 pub record CustomerRow : Type 0 where
@@ -85,6 +94,7 @@ pub record OrderRow : Type 0 where
   pub customer : ℕ
   pub placed : ℕ
   pub discount : ℕ
+  pub rate : ℕ
   pub sub : ℕ
   pub tax : ℕ
   pub ship : ℕ
@@ -99,6 +109,7 @@ pub record OrderRow : Type 0 where
 pub record IsOrder (row : OrderRow) : Type 0 where
   pub placed : row.placed ≤ stamp_limit
   pub discount : row.discount ≤ discount_limit
+  pub rate : row.rate ≤ charged_rate_limit
   pub ship_day : row.ship_day ≤ day_limit
 
 -- a cart, whose lines are pairs of an item and a quantity

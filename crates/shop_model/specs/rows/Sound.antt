@@ -4,7 +4,7 @@ use Rattle.std.specs.List.{range_with_len, reduce}
 use Rattle.shop_text.specs.Texts.{digsyl}
 use Rattle.shop_model.specs.declared.tables.Tables.{Tables}
 use Rattle.shop_model.specs.rows.Limits.{lines_limit, quantity_limit, restocks_limit}
-use Rattle.shop_model.specs.rows.Rows.{ItemRow, LineRow, OrderRow, CartRow, IsItem, IsCustomer, IsOrder, IsLine, IsCardUse, IsCart}
+use Rattle.shop_model.specs.rows.Rows.{ItemRow, LineRow, OrderRow, CartRow, IsCountry, IsItem, IsCustomer, IsOrder, IsLine, IsCardUse, IsCart}
 use Rattle.shop_model.specs.trade.Money.{totals, charged}
 
 -- a table of so many rows has this id
@@ -24,9 +24,9 @@ pub record HasLines (o : OrderRow) : Type 0 where
   pub numbers : map (λ l. l.number) o.lines ≡ range_with_len 1 (length o.lines)
   pub quantities : All (λ l. IsQuantity l.quantity) o.lines
 
--- an order was charged by the money rule over its lines and its discount
+-- an order was charged by the money rule over its lines, its discount and its rate
 abbrev pub IsCharged : OrderRow → Type 0
-IsCharged o = charged o ≡ totals o.lines o.discount
+IsCharged o = charged o ≡ totals o.lines o.discount o.rate
 
 -- the card paid what the order was charged
 abbrev pub IsPaid : OrderRow → Type 0
@@ -101,6 +101,7 @@ last_of orders customer =
 
 -- each row keeps its own bounds
 pub record InBounds (t : Tables) : Type 0 where
+  pub countries : All IsCountry t.countries
   pub customers : All IsCustomer t.customers
   pub items : All IsItem t.items
   pub orders : All IsOrder t.orders

@@ -13,7 +13,7 @@ use Rattle.shop_model.specs.declared.refusal.Refusal.TheVariants.{NoCart, EmptyC
 use Rattle.shop_model.specs.declared.tables.Tables.{Tables}
 use Rattle.shop_model.specs.asked.CustomersAsked.{LoginAsked, NewcomerAsked}
 use Rattle.shop_model.specs.rows.Limits.{session_time}
-use Rattle.shop_model.specs.rows.Lookups.{row_numbered}
+use Rattle.shop_model.specs.rows.Lookups.{row_numbered, country_of}
 use Rattle.shop_model.specs.rows.Rows.{CartRow, CustomerRow}
 use Rattle.shop_model.specs.trade.Carts.{first_of}
 
@@ -97,6 +97,11 @@ new_customer t stamp draw asked = record {
 abbrev pub buyer_row : Tables → ℕ → ℕ → Buyer → Option CustomerRow
 buyer_row t stamp draw (Returning asked) = option_map (logged_in stamp) (customer_named t asked.user)
 buyer_row t stamp draw (Newcomer asked) = Some (new_customer t stamp draw asked)
+
+-- the country in which the customer who buys lives
+abbrev pub buyer_country : Tables → Buyer → CustomerRow → ℕ
+buyer_country t (Returning asked) customer = country_of t customer.address
+buyer_country t (Newcomer asked) customer = asked.address.country
 
 -- the customers where this one logs in
 abbrev pub customers_with : List CustomerRow → ℕ → Option CustomerRow → List CustomerRow

@@ -1,4 +1,4 @@
--- The money rule, in whole cents; the rates are this project's own.
+-- The money rule, in whole cents; its numbers are this project's own.
 use Rattle.std.specs.Prelude.{ℕ, ◌+◌, ◌-◌, ◌*◌, ◌/◌, List, sum_by}
 use Rattle.shop_model.specs.rows.Rows.{LineRow, OrderRow}
 
@@ -17,20 +17,20 @@ half_up a b = (2 * a + b) / (2 * b)
 unfoldable pub sub_of : ℕ → ℕ → ℕ
 sub_of sum discount = half_up (sum * (100 - discount)) 100
 
--- 8.25 per cent
-unfoldable pub tax_of : ℕ → ℕ
-tax_of sub = half_up (sub * 825) 10_000
+-- a tax at a rate in hundredths of a per cent
+unfoldable pub tax_of : ℕ → ℕ → ℕ
+tax_of sub rate = half_up (sub * rate) 10_000
 
 -- 3.00 for an order and 1.00 for each unit
 unfoldable pub ship_of : ℕ → ℕ
 ship_of units = 300 + 100 * units
 
-unfoldable pub money : ℕ → ℕ → ℕ → Money
-money sum units discount = record {
+unfoldable pub money : ℕ → ℕ → ℕ → ℕ → Money
+money sum units discount rate = record {
   sub = sub_of sum discount;
-  tax = tax_of (sub_of sum discount);
+  tax = tax_of (sub_of sum discount) rate;
   ship = ship_of units;
-  total = sub_of sum discount + tax_of (sub_of sum discount) + ship_of units;
+  total = sub_of sum discount + tax_of (sub_of sum discount) rate + ship_of units;
 }
 
 -- what lines cost without a discount, and how many units they have
@@ -40,9 +40,9 @@ sum_of lines = sum_by (λ l. l.cost * l.quantity) lines
 unfoldable pub units_of : List LineRow → ℕ
 units_of lines = sum_by (λ l. l.quantity) lines
 
--- what lines cost at a discount
-abbrev pub totals : List LineRow → ℕ → Money
-totals lines discount = money (sum_of lines) (units_of lines) discount
+-- what lines cost at a discount, taxed at a rate
+abbrev pub totals : List LineRow → ℕ → ℕ → Money
+totals lines discount rate = money (sum_of lines) (units_of lines) discount rate
 
 -- what an order was charged
 abbrev pub charged : OrderRow → Money

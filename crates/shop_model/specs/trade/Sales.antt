@@ -6,6 +6,7 @@ use Rattle.shop_model.specs.declared.order_state.OrderState.TheVariants.{Pending
 use Rattle.shop_model.specs.declared.refusal.Refusal.{Refusal}
 use Rattle.shop_model.specs.declared.refusal.Refusal.TheVariants.{NoCustomer}
 use Rattle.shop_model.specs.declared.tables.Tables.{Tables}
+use Rattle.shop_model.specs.declared.tax.TaxRule.{TaxRule}
 use Rattle.shop_model.specs.asked.PurchaseAsked.{PurchaseAsked}
 use Rattle.shop_model.specs.rows.Limits.{day_of, day_limit}
 use Rattle.shop_model.specs.rows.Lookups.{row_numbered, country_of}
@@ -15,6 +16,7 @@ use Rattle.shop_model.specs.trade.Buyers.{address_saying, addresses_with, addres
 use Rattle.shop_model.specs.trade.Carts.{first_of, lines_named}
 use Rattle.shop_model.specs.trade.Money.{Money, totals}
 use Rattle.shop_model.specs.trade.Stocks.{times_restocked, stock_after}
+use Rattle.shop_model.specs.trade.Taxes.{rate_by}
 use Rattle.shop_model.specs.pages.Priced.{order_lines}
 
 -- why nobody buys: the customer is not there
@@ -44,13 +46,23 @@ abbrev pub ship_country : Tables → CustomerRow → Option AddressText → ℕ
 ship_country t customer None = country_of t customer.address
 ship_country t customer (Some text) = text.country
 
+-- on which terms a purchase is made: the digits of its authorisation, and the rule of its tax
+pub record Terms : Type 0 where
+  pub auth : List ℕ
+  pub tax : TaxRule
+
+-- the rate of a purchase: that of the country to which it ships, where the rule is by country
+abbrev pub sale_rate : Tables → TaxRule → CustomerRow → PurchaseAsked → ℕ
+sale_rate t tax customer asked = rate_by tax t (ship_country t customer asked.address)
+
 -- the order of a customer for these lines, which cost so much
-abbrev pub order_for : Tables → ℕ → ℕ → List ℕ → PurchaseAsked → CustomerRow → List LineRow → Money → OrderRow
-order_for t stamp draw auth asked customer lines price = record {
+abbrev pub order_for : Tables → ℕ → ℕ → Terms → PurchaseAsked → CustomerRow → List LineRow → Money → OrderRow
+order_for t stamp draw terms asked customer lines price = record {
   id = length t.orders + 1;
   customer = customer.id;
   placed = stamp;
   discount = customer.discount;
+  rate = sale_rate t terms.tax customer asked;
   sub = price.sub;
   tax = price.tax;
   ship = price.ship;
@@ -65,7 +77,7 @@ order_for t stamp draw auth asked customer lines price = record {
     number = asked.payment.number;
     name = asked.payment.name;
     expiry = asked.payment.expiry;
-    auth = auth;
+    auth = terms.auth;
     total = price.total;
     stamp = stamp;
     country = ship_country t customer asked.address;
@@ -73,12 +85,12 @@ order_for t stamp draw auth asked customer lines price = record {
 }
 
 -- what a customer's cart costs
-abbrev pub price_of : Tables → CustomerRow → ℕ → Money
-price_of t customer cart = totals (bought_lines t cart) customer.discount
+abbrev pub price_of : Tables → TaxRule → CustomerRow → PurchaseAsked → Money
+price_of t tax customer asked = totals (bought_lines t asked.cart) customer.discount (sale_rate t tax customer asked)
 
-abbrev pub new_order : Tables → ℕ → ℕ → List ℕ → PurchaseAsked → CustomerRow → OrderRow
-new_order t stamp draw auth asked customer =
-    order_for t stamp draw auth asked customer (bought_lines t asked.cart) (price_of t customer asked.cart)
+abbrev pub new_order : Tables → ℕ → ℕ → Terms → PurchaseAsked → CustomerRow → OrderRow
+new_order t stamp draw terms asked customer =
+    order_for t stamp draw terms asked customer (bought_lines t asked.cart) (price_of t terms.tax customer asked)
 
 -- an item after an order
 abbrev pub sold_item : OrderRow → ItemRow → ItemRow
@@ -103,6 +115,6 @@ with_purchase t asked order =
     }
 
 -- the tables after a customer bought a cart
-abbrev pub tables_bought : Tables → ℕ → ℕ → List ℕ → PurchaseAsked → Option CustomerRow → Tables
-tables_bought t stamp draw auth asked None = t
-tables_bought t stamp draw auth asked (Some customer) = with_purchase t asked (new_order t stamp draw auth asked customer)
+abbrev pub tables_bought : Tables → ℕ → ℕ → Terms → PurchaseAsked → Option CustomerRow → Tables
+tables_bought t stamp draw terms asked None = t
+tables_bought t stamp draw terms asked (Some customer) = with_purchase t asked (new_order t stamp draw terms asked customer)

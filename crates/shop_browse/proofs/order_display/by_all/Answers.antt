@@ -1,10 +1,9 @@
 use Rattle.std.proofs.Common.{◌≡◌, ◌∙◌, ap, sym, subst, refl}
 use Rattle.shop_model.specs.declared.address.Address.{Address}
-use Rattle.shop_model.specs.declared.country.Country.{Country}
 use Rattle.shop_model.specs.declared.requests.IdsAsked.{IdsAsked}
 use Rattle.shop_model.specs.declared.requests.Request.TheVariants.{OrderDisplay}
 use Rattle.shop_model.specs.pages.OrderDisplay.{order_page}
-use Rattle.shop_model.specs.rows.Rows.{OrderRow}
+use Rattle.shop_model.specs.rows.Rows.{CountryRow, OrderRow}
 use Rattle.shop_draft.specs.Pages.{Shows}
 use Rattle.shop_browse.specs.OrderDisplay.{ShipsTo, HaveItems}
 use Rattle.shop_browse.proofs.cited.Reads.{shows_page}
@@ -37,7 +36,7 @@ returns-in_ok-order_page-in-Order-Address-Country c ask round same = (
       let same_address : of.address ≡ c.requires.address = cc (of.is-1, all_address asked reads c.requires c.index-reads-4.result) in
       let order_is : shown ≡ order = c.get-in-Order-Address-Country-2.ensures ∙ same_order in
       let city_is = c.bytes-city.ensures ∙ ap (λ (a : Address). a.text.city) (c.get.ensures ∙ same_address) in
-      let country_is = c.bytes-country.ensures ∙ ap (λ (x : Country). x.name) c.get-in-Order-Address-Country.ensures in
+      let country_is = c.bytes-country.ensures ∙ ap (λ (x : CountryRow). x.name) (c.behind-country.view_is ∙ c.get-in-Order-Address-Country.ensures) in
       let ships = ships_to asked reads c.requires ask.index.now t fits _ of.country of.is-2 in
       let here = subst (λ (o : OrderRow). ShipsTo t o.ship_address c.bytes-city.result.now c.bytes-country.result.now) (sym order_is)
       (record { city_is = ships.city_is ∙ sym city_is; country_is = ships.country_is ∙ sym country_is }) in

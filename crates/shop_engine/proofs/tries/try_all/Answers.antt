@@ -10,7 +10,7 @@ use Rattle.shop_engine.proofs.tries.try_all.Goals as goal
 
 pub loop-tried-init : goal.loop-tried-init
 loop-tried-init g c = record {
-  so_far = none_met _ _ c.args.job.now _ refl refl c.new-conflicts.ensures;
+  so_far = none_met _ _ c.args.job.now _ c.requires.tax refl refl c.new-conflicts.ensures;
   marks = keeps_self _ _;
   later = omega arith;
 }

@@ -40,9 +40,9 @@ pub pay-requires : goal.pay-requires
 pay-requires g c =
     let made = c.requires.attempted in
     let payable = subst (AttemptedAs made.0 _ _ _) c.in-Pay.is made.1 in
-    let index = c.args.job.now.ask.index.now in
-    subst (λ r. HasBasket index r c.in-Pay.attempt.reads) c.in-BuyConfirm.is
-    (subst (λ i. HasBasket i c.args.job.now.request.now c.in-Pay.attempt.reads) (sym c.requires.suits.index) payable.basket)
+    let ask = c.args.job.now.ask in
+    subst (λ r. HasBasket ask.index.now ask.tax r c.in-Pay.attempt.reads) c.in-BuyConfirm.is
+    (subst (λ i. HasBasket i ask.tax c.args.job.now.request.now c.in-Pay.attempt.reads) (sym c.requires.suits.index) payable.basket)
 
 pub settle_page-requires-in-Approved-clause-faithful : goal.settle_page-requires-in-Approved-clause-faithful
 settle_page-requires-in-Approved-clause-faithful g c =

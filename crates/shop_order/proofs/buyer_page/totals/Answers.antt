@@ -11,7 +11,7 @@ use Rattle.shop_order.proofs.buyer_page.totals.Goals as goal
 pub returns : goal.returns
 returns c t shows drawn =
     let priced = c.as_slice.ensures in
-    let same : record { sub = c.of-totals.result.sub; tax = c.of-totals.result.tax; ship = c.of-totals.result.ship; total = c.of-totals.result.total } ≡ totals (order_lines t 1 c.args.lines.now) c.args.discount
+    let same : record { sub = c.of-totals.result.sub; tax = c.of-totals.result.tax; ship = c.of-totals.result.ship; total = c.of-totals.result.total } ≡ totals (order_lines t 1 c.args.lines.now) c.args.discount c.args.rate
     = ap (λ (m : Totals). record { sub = m.sub; tax = m.tax; ship = m.ship; total = m.total }) c.of-totals.ensures
-    ∙ totals_ordered t c.args.lines.now c.as_slice.result.now c.args.discount (c.as_slice.ensures ∙ c.in_ok-priced.ensures.are t shows) in
+    ∙ totals_ordered t c.args.lines.now c.as_slice.result.now c.args.discount c.args.rate (c.as_slice.ensures ∙ c.in_ok-priced.ensures.are t shows) in
     c.in_ok-totals.ensures drawn ∙ ap (λ (m : Money). filled drawn c.args.page.now ++ block_line (Para (totals_text m))) same

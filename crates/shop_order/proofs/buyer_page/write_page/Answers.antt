@@ -13,7 +13,7 @@ returns c t shows drawn row is =
     = c.page_ids-ids.ensures drawn ∙ ap (λ (n : ℕ). record { c = Some n; cart = Some c.args.cart }) (sym is.id) in
     record {
       status = refl;
-      text = written (buy_request t row c.args.cart c.args.lines.now) _ _ _ (c.in_ok-begin.ensures drawn)
+      text = written (buy_request t row c.args.cart c.args.lines.now c.args.rate) _ _ _ (c.in_ok-begin.ensures drawn)
           (six _ _ _ _ _ _ _ _ _ _ _ _ _ (rw (sym is.id) at (c.in_ok-heading.ensures drawn)) (c.in_ok-buyer.ensures drawn row is.buyer)
           (rw (sym (cells_ordered t 1 c.args.lines.now)) at (c.in_ok-table.ensures t shows drawn))
           (rw (sym is.buyer.discount_is) at (c.in_ok-totals.ensures t shows drawn))

@@ -1,4 +1,4 @@
-use Rattle.std.proofs.Common.{◌≡◌, length, Some, None, is_some, ap, sym, refl, ◌∙◌}
+use Rattle.std.proofs.Common.{◌≡◌, Some, None, ap, sym, refl, ◌∙◌}
 use Rattle.shop_attempt.specs.Reads.{first_stale}
 use Rattle.shop_attempt.proofs.cited.Settles.{overtaken, makes_now}
 use Rattle.shop_book.proofs.Preparing.{prepared_as, refused_as}

@@ -1,4 +1,4 @@
-use Rattle.std.proofs.Common.{[], ◌∷◌, sym, ◌∙◌, subst, refl}
+use Rattle.std.proofs.Common.{[], ◌∷◌, sym, ◌∙◌, subst, refl, arith}
 use Rattle.std.proofs.lemmas.Result.{IfOk-weaker}
 use Rattle.shop_model.specs.declared.requests.Request.TheVariants.{BuyRequest}
 use Rattle.shop_attempt.specs.declared.attempts.ReadOf.{ReadOf}
@@ -8,7 +8,7 @@ use Rattle.shop_order.specs.BuyRequest.{FollowsBuy}
 use Rattle.shop_order.specs.ShoppingCart.{IsFitRow}
 use Rattle.shop_order.specs.Stops.{IsStop}
 use Rattle.shop_order.proofs.StopsLemmas.{stop_weaker, stopped_next}
-use Rattle.shop_order.proofs.BuyRequestLemmas.{has_first, fit_first, shows_first, has_second, has_all, at_cart, begun_first, asks_second}
+use Rattle.shop_order.proofs.BuyRequestLemmas.{has_first, fit_first, shows_first, at_cart, begun_first, begins_by, asks_second}
 use Rattle.shop_order.proofs.buy_request.BuyingInteraction.next.Goals as goal
 
 pub begin-requires-clause-fit : goal.begin-requires-clause-fit
@@ -42,13 +42,13 @@ returns-then-round-eq1-clause-next c =
     (begun_first asked reads c.index-reads-0.result c.index-reads-1.result c.in-Ok.begun has c.index-reads-0.is c.index-reads-1.is c.in-Ok.ensures.ok)
     c.in_ok-second_keys.ensures
 
-pub by_all-requires : goal.by_all-requires
-by_all-requires c =
+pub by_most-requires : goal.by_most-requires
+by_most-requires c =
     let asked = c.args.self.now.asked.now in
     let reads = c.args.reads.now in
-    let has = has_second asked c.args.round reads c.if-round-eq0.false c.if-round-eq1.false c.requires.follows in
-    has_all asked reads c.in-Ok.begun has
-    (begun_first asked reads c.index-reads-0.result c.index-reads-1.result c.in-Ok.begun has.first c.index-reads-0.is c.index-reads-1.is c.in-Ok.ensures.ok)
-
-pub returns-clause-next : goal.returns-clause-next
-returns-clause-next c = IfOk-weaker c.by_all.result _ _ (λ next done. done c.args.round) c.by_all.ensures
+    let has = has_first asked c.args.round reads c.if-round-eq0.false c.requires.follows in
+    record {
+      later = omega (arith, c.if-round-eq0.false, c.if-round-eq1.false);
+      follows = c.requires.follows;
+      begins = begins_by asked reads c.in-Ok.begun has (begun_first asked reads c.index-reads-0.result c.index-reads-1.result c.in-Ok.begun has c.index-reads-0.is c.index-reads-1.is c.in-Ok.ensures.ok);
+    }
