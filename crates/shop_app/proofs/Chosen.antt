@@ -61,9 +61,10 @@ servable_words words serve is =
     record { one = workers.0; workers = workers.1; connections = connections; limit = limit_chosen _ serve.shop is.chooses.shop }
 
 -- so a book opens over a population
-pub opens_at : (t : Tables) (limit : ℕ) → limit ≤ most_entries → Sound t → Room t 1_000_001 → t.born_orders ≡ length t.orders → IsOpening (record { tables = t; limit = limit })
-opens_at t limit most sound room born = record {
+pub opens_at : (t : Tables) (limit : ℕ) → limit ≤ most_entries → Sound t → Room t 1_000_001 → t.born_orders ≡ length t.orders → t.born_items ≡ length t.items → IsOpening (record { tables = t; limit = limit })
+opens_at t limit most sound room born born_items = record {
   good = record { sound = sound; room_for = room_less t 1_000_001 (limit + 1) (omega (arith, most)) room };
   born = born;
+  born_items = born_items;
   bound = most;
 }

@@ -2,9 +2,8 @@
 use Rattle.std.proofs.Common.{◌≡◌, ℕ, ◌+◌, ◌-◌, ◌<◌, List, [], ◌∷◌, ◌++◌, length, get_or, refl, sym, ap, ◌∙◌, subst, arith, length-append}
 use Rattle.std.specs.List.{All}
 use Rattle.std.proofs.lemmas.List.{get_or_append_left, get_or-append_right}
-use Rattle.shop_model.proofs.cited.Populated.{items_populated}
 use Rattle.shop_model.specs.declared.tables.Tables.{Tables}
-use Rattle.shop_model.specs.lists.Catalogues.{Catalogue, catalogue}
+use Rattle.shop_model.specs.lists.Catalogues.{Catalogue, opened}
 use Rattle.shop_model.specs.population.Population.{populated}
 use Rattle.shop_attempt.specs.Seats.{IsSeat}
 use Rattle.shop_book.specs.Books.{BookValue}
@@ -32,13 +31,12 @@ next_desk session callers before desk behind desks is split =
     sym here ∙ ap (λ (ds : List DeskValue). get_or ds (length before) desk) split ∙ is.at (length before) desk within
 
 pub posted_at : (session : Session) (all number : ℕ) (table : TableId) (desk : DeskValue) (index : Catalogue) → desk ≡ new_desk table (new_book session) all number
-    → index ≡ catalogue (populated session.seed session.scale) → IsSeat (seat_of desk) → IsPosted (seat_of desk) index (caller_of session number)
+    → index ≡ opened (populated session.seed session.scale) → IsSeat (seat_of desk) → IsPosted (seat_of desk) index (caller_of session number)
 unfolding new_book
 posted_at session all number table desk index is named valid = record {
   valid = valid;
   number = ap (λ (d : DeskValue). d.number) is;
-  named = named ∙ ap (λ (d : DeskValue). catalogue d.origin.opening.tables) (sym is);
-  scaled = sym (items_populated session.seed session.scale) ∙ ap (λ (d : DeskValue). length d.origin.opening.tables.items) (sym is);
+  named = named ∙ ap (λ (d : DeskValue). opened d.origin.opening.tables) (sym is);
 }
 
 pub holds_next : (P : DeskValue → Type 0) (before : List DeskValue) (desk : DeskValue) (behind desks : List DeskValue) → before ++ desk ∷ behind ≡ desks → All P desks → P desk

@@ -1,11 +1,10 @@
 -- The status of a session by the end of its connection.
 use Rattle.std.proofs.Common.{◌≡◌, ℕ, ◌≤◌, inl, inr, List, [], map, Option, subst, refl, sym, ap, ◌∙◌, arith, All}
 use Rattle.std.specs.Prelude.{flat_map}
-use Rattle.shop_model.proofs.cited.Populated.{items_populated}
 use Rattle.shop_edges.specs.Causes.{Rose}
 use Rattle.shop_edges.specs.declared.gateway.Answer.{Answer}
 use Rattle.shop_model.specs.declared.tables.Tables.{Tables}
-use Rattle.shop_model.specs.lists.Catalogues.{Catalogue, catalogue}
+use Rattle.shop_model.specs.lists.Catalogues.{Catalogue, opened}
 use Rattle.shop_model.specs.population.Population.{populated}
 use Rattle.shop_history.specs.declared.acts.Entry.{Entry}
 use Rattle.shop_history.specs.Lawful.{IsLawful}
@@ -76,14 +75,13 @@ module _ (session : Session) (t : Tables) (solo : SoloValue) (book : BookValue) 
   solo_is : solo ≡ seated (record { opening = record { tables = populated session.seed session.scale; limit = session.limit }; log = []; latest = 0 }) 1
   solo_is = is_solo ∙ ap (λ (b : BookValue). seated b 1) (is_book ∙ ap (λ (u : Tables). record { opening = record { tables = u; limit = session.limit }; log = []; latest = 0 }) is_drawn)
 
-  pub posted : (index : Catalogue) → index ≡ catalogue t → IsSeat (seat_of solo) → IsPosted (seat_of solo) index (record { number = 1; seed = session.seed; scale = session.scale })
+  pub posted : (index : Catalogue) → index ≡ opened t → IsSeat (seat_of solo) → IsPosted (seat_of solo) index (record { number = 1; seed = session.seed; scale = session.scale })
   posted index is_index valid =
       subst (λ (s : SoloValue). IsPosted (seat_of s) index (record { number = 1; seed = session.seed; scale = session.scale })) (sym solo_is)
       (record {
         valid = subst (λ (s : SoloValue). IsSeat (seat_of s)) solo_is valid;
         number = refl;
-        named = is_index ∙ ap catalogue is_drawn;
-        scaled = sym (items_populated session.seed session.scale);
+        named = is_index ∙ ap opened is_drawn;
       })
 
   pub is_first : (worker : WorkerState SoloValue) → worker ≡ record { store = solo; caller = record { number = 1; seed = session.seed; scale = session.scale }; progress = at_first; kept = []; reply = [] } → IsFirst session worker

@@ -1,8 +1,8 @@
-ghost use Rattle.std.specs.Prelude.{◌≡◌, ◌≢◌, ◌≤◌, IfOk};
+ghost use Rattle.std.specs.Prelude.{◌≡◌, ◌≢◌, ◌≤◌, IfOk, length};
 ghost use Rattle.std.specs.Arc.{arc_value};
 ghost use Rattle.shop_book.specs.Openings.{most_entries};
 ghost use Rattle.shop_edges.specs.Causes.{Rose};
-ghost use Rattle.shop_model.specs.lists.Catalogues.{catalogue};
+ghost use Rattle.shop_model.specs.lists.Catalogues.{opened};
 ghost use Rattle.shop_words.specs.declared.command.Command.{Command};
 ghost use Rattle.shop_words.specs.Commands.{IsCommand};
 ghost use Rattle.shop_app.specs.Statuses as spec;
@@ -83,9 +83,11 @@ fn run<S: Source, K: Sink, C: Clock, G: Gateway>(
     }
 }
 
-/// The index of the items of tables, which workers may share.
+/// The index of what tables open with, which workers may share.
+#[tactic(auto, using(shop_model::proofs::cited::Opened::opened_all))]
 pub(crate) fn index_of(alloc: Global, tables: &Tables) -> Result<Arc<Index, Global>, Memory>
-    ensures { IfOk result (λ index. arc_value index ≡ catalogue tables.now) }
+    requires { tables.now.born_items ≡ length tables.now.items }
+    ensures { IfOk result (λ index. arc_value index ≡ opened tables.now) }
 {
     let index = Index::build(alloc, tables)?;
     let index = Arc::new(alloc, index)?;

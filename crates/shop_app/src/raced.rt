@@ -2,7 +2,7 @@
 ghost use Rattle.std.specs.Prelude.{◌≡◌, ◌+◌, ◌≤◌, length, IfOk};
 ghost use Rattle.std.specs.Arc.{arc_value};
 ghost use Rattle.shop_engine.specs.Posts.{IsPosted};
-ghost use Rattle.shop_model.specs.lists.Catalogues.{catalogue};
+ghost use Rattle.shop_model.specs.lists.Catalogues.{opened};
 ghost use Rattle.shop_model.specs.population.Population.{populated};
 ghost use Rattle.shop_turn.specs.Desks.{seat_of};
 ghost use Rattle.shop_app.specs.RaceEnds.{TellsOfRan};
@@ -60,7 +60,7 @@ fn tasks_of<R: Wait + Drop, C: Clock + Drop>(
 ) -> Result<Vec<Task<R, C>>, Memory>
     requires desks { AreNewDesks asked.now.shop (asked.now.workers + 1) desks.items }
     requires few { length desks.items ≤ 16 }
-    requires index { arc_value index.now ≡ catalogue (populated asked.now.shop.seed asked.now.shop.scale) }
+    requires index { arc_value index.now ≡ opened (populated asked.now.shop.seed asked.now.shop.scale) }
     ensures { IfOk result (λ tasks. spec.AreFirstTasks C.readings asked.now (C.readings clock.now) desks.items tasks.items) }
 {
     let mut tasks = Vec::new(alloc);

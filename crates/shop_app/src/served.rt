@@ -2,7 +2,7 @@
 ghost use Rattle.std.specs.Prelude.{◌≡◌, ◌+◌, ◌≤◌, length, All, IfErr, IfOk, OnOk};
 ghost use Rattle.std.specs.Arc.{arc_value};
 ghost use Rattle.shop_engine.specs.Posts.{IsPosted};
-ghost use Rattle.shop_model.specs.lists.Catalogues.{catalogue};
+ghost use Rattle.shop_model.specs.lists.Catalogues.{opened};
 ghost use Rattle.shop_model.specs.population.Population.{populated};
 ghost use Rattle.shop_places.specs.Listening.{listening};
 ghost use Rattle.shop_tasks.specs.StationValues.{desk_of};
@@ -115,7 +115,7 @@ fn stations_of<
 ) -> Result<Vec<Station<R, I, O, C>>, Status>
     requires desks { AreNewDesks asked.now.shop (asked.now.workers + 1) desks.items }
     requires few { length desks.items ≤ 16 }
-    requires index { arc_value index.now ≡ catalogue (populated asked.now.shop.seed asked.now.shop.scale) }
+    requires index { arc_value index.now ≡ opened (populated asked.now.shop.seed asked.now.shop.scale) }
     ensures ok { IfOk result (λ stations. spec.AreFirstStations (C.Clock, I.Source, O.Sink) asked.now (C.readings clock.now) desks.items stations.items) }
     ensures dials { OnOk result (spec.Dials (spec.dials asked.now.gateway (length desks.items)) (listening L.Listener listener.old) (listening L.Listener listener.new)) }
     ensures err { IfErr result (spec.IsUnlinked (L.faults listener.old) (L.faults listener.new)) }

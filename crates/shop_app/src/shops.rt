@@ -2,7 +2,7 @@
 ghost use Rattle.std.specs.Prelude.{◌≡◌, ◌≤◌, IfOk};
 ghost use Rattle.std.specs.Arc.{arc_value};
 ghost use Rattle.shop_book.specs.Openings.{most_entries};
-ghost use Rattle.shop_model.specs.lists.Catalogues.{catalogue};
+ghost use Rattle.shop_model.specs.lists.Catalogues.{opened};
 ghost use Rattle.shop_model.specs.population.Population.{populated};
 ghost use Rattle.shop_turn.specs.Shops.{Opens, most_callers};
 ghost use Rattle.shop_app.specs.NewShops.{new_book};
@@ -27,7 +27,7 @@ pub(crate) fn open_shop<R: Wait + Clone + Drop>(
     requires callers { (1 ≤ callers) × (callers ≤ most_callers) }
     requires limit { asked.limit ≤ most_entries }
     ensures desks { IfOk result (λ opened. Opens (new_book asked) callers opened.0.items) }
-    ensures index { IfOk result (λ opened. arc_value opened.1 ≡ catalogue (populated asked.seed asked.scale)) }
+    ensures index { IfOk result (λ shop. arc_value shop.1 ≡ opened (populated asked.seed asked.scale)) }
 {
     let tables = populate(alloc, asked.seed, &asked.scale)?;
     let index = index_of(alloc, &tables)?;

@@ -59,14 +59,14 @@ row_set xs id x y is =
     let was = is_there xs id x is in
     row_there (slice_set xs (id - 1) y) id y (record { above = was.above; at = set_here xs (id - 1) y (slice_get_within xs (id - 1) x was.at) })
 
-gone : {A : Type 0} (xs : List A) → row_numbered xs (length xs + 1) ≡ None
+pub gone : {A : Type 0} (xs : List A) → row_numbered xs (length xs + 1) ≡ None
 gone {A} xs = by (row_numbered xs (length xs + 1)) refl
   where
     by : (o : Option A) → row_numbered xs (length xs + 1) ≡ o → o ≡ None
     by None is = refl
     by (Some x) is = let has = has_row xs (length xs + 1) x is in absurd (omega (arith, has.last))
 
-row_pushed : {A : Type 0} (xs : List A) (x : A) → row_numbered (xs ++ x ∷ []) (length xs + 1) ≡ Some x
+pub row_pushed : {A : Type 0} (xs : List A) (x : A) → row_numbered (xs ++ x ∷ []) (length xs + 1) ≡ Some x
 row_pushed xs x =
     let place : length xs + 1 - 1 ≡ length xs = omega arith in
     row_there (xs ++ x ∷ []) (length xs + 1) x (record { above = omega arith; at = ap (slice_get (xs ++ x ∷ [])) place ∙ push_here xs x })

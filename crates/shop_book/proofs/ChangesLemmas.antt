@@ -1,21 +1,22 @@
 -- What a change makes of a book.
-use Rattle.std.proofs.Common.{◌≡◌, ℕ, suc, ◌+◌, ◌-◌, ◌<◌, ◌≤◌, List, [], ◌∷◌, ◌++◌, length, None, Contains, ◌⊎◌, ⊎_elim, sym, ◌∙◌, ap, subst, arith, length-append}
+use Rattle.std.proofs.Common.{◌≡◌, ℕ, suc, ◌+◌, ◌-◌, ◌<◌, ◌≤◌, List, [], ◌∷◌, ◌++◌, length, None, map, ◌⊎◌, ⊎_elim, sym, ◌∙◌, ap, subst, arith, length-append}
 use Rattle.std.proofs.lemmas.Bool.{cases_eq, eq-eqb, ne_eqb, cond-true, cond-false}
 use Rattle.std.proofs.lemmas.List.Elements.{All-weaker, All-push}
 use Rattle.shop_log.specs.Histories.Legal.{push}
 use Rattle.shop_model.specs.declared.tables.Tables.{Tables}
 use Rattle.shop_model.specs.pages.Show.{check}
 use Rattle.shop_model.specs.rows.Limits.{stamp_limit}
-use Rattle.shop_model.specs.rows.Sound.{Sound}
+use Rattle.shop_model.specs.rows.Rows.{ItemRow}
+use Rattle.shop_model.specs.rows.Sound.{Sound, Runs}
 use Rattle.shop_history.specs.declared.acts.Entry.{Entry}
 use Rattle.shop_history.specs.declared.keys.Key.{Key}
 use Rattle.shop_history.specs.Acts.{IsInForm, request_of}
 use Rattle.shop_history.specs.Keys.{row_of}
 use Rattle.shop_history.specs.Logs.{entries_of, MayFollow, IsGood}
-use Rattle.shop_history.specs.MayChange.{may_change}
+use Rattle.shop_history.specs.MayChange.{MayChange}
 use Rattle.shop_history.proofs.cited.GoodTables.{good_log, good_after}
 use Rattle.shop_history.proofs.cited.MayChange.{frame}
-use Rattle.shop_history.proofs.cited.Versions.{RaisedFor, versions_after}
+use Rattle.shop_history.proofs.cited.Versions.{RaisedWhere, versions_after}
 use Rattle.shop_history.proofs.cited.Rows.{tables_push}
 use Rattle.shop_attempt.specs.declared.attempts.Write.{Write}
 use Rattle.shop_attempt.specs.Writes.{written}
@@ -23,6 +24,7 @@ use Rattle.shop_book.specs.declared.counts.Counts.{Counts}
 use Rattle.shop_book.specs.declared.lists.Lists.{Lists}
 use Rattle.shop_book.specs.declared.rows.Rows.{Rows}
 use Rattle.shop_book.specs.declared.versions.Versions.{Versions}
+use Rattle.shop_book.specs.Additions.{AreAdded}
 use Rattle.shop_book.specs.Books.{BookValue, IsBook, tables_of}
 use Rattle.shop_book.specs.declared.plan.Plan.{Plan}
 use Rattle.shop_book.specs.Changing.{after, IsChange}
@@ -36,9 +38,8 @@ use Rattle.shop_book.specs.Readiness.{IdsFit, AreFit, AreReady}
 use Rattle.shop_book.specs.Watching.{MayCome}
 use Rattle.shop_book.specs.RowsNow.{tables_with, HasRoom}
 use Rattle.shop_book.specs.Preparing.{IsNext}
-use Rattle.shop_book.specs.Stored.{stored, HasPlaces, MorePlaces}
-use Rattle.shop_book.proofs.Placed.{more_have}
-use Rattle.shop_book.proofs.Fitting.{same_sizes}
+use Rattle.shop_book.specs.Stored.{stored, HasPlaces}
+use Rattle.shop_book.proofs.AddedItems.{added_roomy}
 use Rattle.shop_book.specs.Summaries.{cents_in}
 use Rattle.shop_book.proofs.Callers.{entries_mine, entries_theirs}
 use Rattle.shop_book.proofs.Readiness.{are_ready}
@@ -67,6 +68,8 @@ module _ (b : BookValue) (is_book : IsBook b) (left : length b.log < b.opening.l
     customers = omega (arith, good_now.room_for.customers, ap (λ (t : Tables). length t.customers) are);
     addresses = omega (arith, good_now.room_for.addresses, ap (λ (t : Tables). length t.addresses) are);
     orders = omega (arith, good_now.room_for.orders, ap (λ (t : Tables). length t.orders) are);
+    items = omega (arith, good_now.room_for.items, ap (λ (t : Tables). length t.items) are);
+    numbered = subst (λ (items : List ItemRow). Runs (map (λ i. i.id) items)) (sym (ap (λ (t : Tables). t.items) are)) good_now.sound.ids.items;
     named = subst AreNamed (sym (ap (λ (t : Tables). t.customers) are)) (sound_named (tables_of b) good_now.sound);
   }
 
@@ -110,8 +113,8 @@ module _ (b now : BookValue) (is_book : IsBook b) (entry : Entry) (plan : Plan) 
   }
 
   -- a key that the act can't change shows what it showed
-  stays : (key : Key) → Contains (may_change (tables_of b) entry.act) key ⊎ (row_of (tables_of (with_entry b entry)) key ≡ row_of (tables_of b) key)
-  stays key = subst (λ (t : Tables). Contains (may_change (tables_of b) entry.act) key ⊎ (row_of t key ≡ row_of (tables_of b) key)) (sym (tables_push b.opening.tables b.log entry))
+  stays : (key : Key) → MayChange (tables_of b) entry.act key ⊎ (row_of (tables_of (with_entry b entry)) key ≡ row_of (tables_of b) key)
+  stays key = subst (λ (t : Tables). MayChange (tables_of b) entry.act key ⊎ (row_of t key ≡ row_of (tables_of b) key)) (sym (tables_push b.opening.tables b.log entry))
       (frame (tables_of b) entry.stamp entry.act (good_now b is_book next.left).sound next.passes key)
 
   counts_after : (counts : ℕ → ℕ) → ((caller : ℕ) → counts caller ≡ length (entries_of caller b.log)) → (caller : ℕ)
@@ -149,19 +152,21 @@ module _ (b now : BookValue) (is_book : IsBook b) (entry : Entry) (plan : Plan) 
     -- and what a change makes of them, and of the versions and counts with room
     pub kept_after : (later : Rows) (wider raised : Versions) (counted : Counts) (moved : Lists) (charged : ℕ)
         → tables_with (tables_of b) later ≡ after (tables_of b) entry.stamp entry.act → HasPlaces raised later → ((key : Key) → stored wider key ≡ stored versions key)
-        → RaisedFor (tables_of b) (after (tables_of b) entry.stamp entry.act) (length b.log + 1) (may_change (tables_of b) entry.act) (stored wider) (stored raised)
+        → AreAdded (after (tables_of b) entry.stamp entry.act) raised.added
+        → RaisedWhere (tables_of b) (after (tables_of b) entry.stamp entry.act) (length b.log + 1) (MayChange (tables_of b) entry.act) (stored wider) (stored raised)
         → ((caller : ℕ) → count_in counted caller ≡ with_count (count_in counts) entry.caller entry.number caller) → AreLists (after (tables_of b) entry.stamp entry.act) moved
         → charged ≡ cents_in (after (tables_of b) entry.stamp entry.act) → IsKept (with_entry b entry) later raised counted moved charged
-    kept_after later wider raised counted moved charged made places same_versions rises counts_are lists_are cents_are =
+    kept_after later wider raised counted moved charged made places same_versions added_are rises counts_are lists_are cents_are =
         let pushed : after (tables_of b) entry.stamp entry.act ≡ tables_of (with_entry b entry) = sym (tables_push b.opening.tables b.log entry) in
         record {
           is_book = book_after;
           rows_are = ap (λ (t : Tables). tables_with t later) roomy_are ∙ made ∙ pushed;
           places = places;
           versions_are =
-              versions_after b.opening.tables b.log entry (may_change (tables_of b) entry.act) (stored wider) (stored raised) (λ key. same_versions key ∙ kept.versions_are key)
-              (subst (λ (t : Tables). RaisedFor (tables_of b) t (length b.log + 1) (may_change (tables_of b) entry.act) (stored wider) (stored raised)) pushed rises)
+              versions_after b.opening.tables b.log entry (MayChange (tables_of b) entry.act) (stored wider) (stored raised) (λ key. same_versions key ∙ kept.versions_are key)
+              (subst (λ (t : Tables). RaisedWhere (tables_of b) t (length b.log + 1) (MayChange (tables_of b) entry.act) (stored wider) (stored raised)) pushed rises)
               stays;
+          added_are = subst (λ (t : Tables). AreAdded t raised.added) pushed added_are;
           counts_are = λ caller. counts_are caller ∙ counts_after (count_in counts) kept.counts_are caller;
           lists_are = subst (λ (t : Tables). AreLists t moved) pushed lists_are;
           cents_are = cents_are ∙ ap cents_in pushed;
@@ -169,14 +174,15 @@ module _ (b now : BookValue) (is_book : IsBook b) (entry : Entry) (plan : Plan) 
 
 -- rows, versions, counts and lists with more room are kept too
 pub kept_roomy : (b : BookValue) (rows roomy : Rows) (versions wide : Versions) (counts counted : Counts) (lists more_lists : Lists) (cents : ℕ) → IsKept b rows versions counts lists cents → ((t : Tables) → tables_with t roomy ≡ tables_with t rows)
-    → ((key : Key) → stored wide key ≡ stored versions key) → MorePlaces versions wide → ((caller : ℕ) → count_in counted caller ≡ count_in counts caller) → ((t : Tables) → AreLists t lists → AreLists t more_lists)
+    → ((key : Key) → stored wide key ≡ stored versions key) → HasPlaces wide roomy → wide.added ≡ record versions.added { room = wide.added.room } → ((caller : ℕ) → count_in counted caller ≡ count_in counts caller) → ((t : Tables) → AreLists t lists → AreLists t more_lists)
     → IsKept b roomy wide counted more_lists cents
-kept_roomy b rows roomy versions wide counts counted lists more_lists cents kept same same_versions more same_counts same_lists =
+kept_roomy b rows roomy versions wide counts counted lists more_lists cents kept same same_versions places same_added same_counts same_lists =
     record {
       is_book = kept.is_book;
       rows_are = same b.opening.tables ∙ kept.rows_are;
-      places = more_have more (same_sizes b.opening.tables (same b.opening.tables) kept.places);
+      places = places;
       versions_are = λ key. same_versions key ∙ kept.versions_are key;
+      added_are = added_roomy (tables_of b) versions.added wide.added same_added kept.added_are;
       counts_are = λ caller. same_counts caller ∙ kept.counts_are caller;
       lists_are = same_lists (tables_of b) kept.lists_are;
       cents_are = kept.cents_are;

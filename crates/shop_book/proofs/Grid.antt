@@ -9,10 +9,11 @@ use Rattle.shop_model.specs.rows.Subjects.{subjects}
 use Rattle.shop_history.proofs.cited.Places.{row_set_apart}
 use Rattle.shop_history.specs.declared.keys.Key.{Key}
 use Rattle.shop_history.specs.declared.keys.Key.TheVariants as key
+use Rattle.shop_book.specs.Additions.{AddedItems, number_of, last_number, found_number}
 use Rattle.shop_book.specs.Columns.{at}
 use Rattle.shop_book.specs.Places.{place_of, subject_id}
 use Rattle.shop_book.specs.Said.{alike}
-use Rattle.shop_book.specs.Stored.{stored, stored_in, stored_text}
+use Rattle.shop_book.specs.Stored.{stored, stored_in, stored_apart}
 use Rattle.shop_book.specs.declared.versions.Versions.{Versions}
 use Rattle.shop_model.specs.declared.address.AddressText.{AddressText}
 use Rattle.std.specs.Prelude.{bytes_eq}
@@ -71,8 +72,8 @@ subject_of_id id = get_or subjects (id - 1) subjects_of.Arts
 -- the key at a place
 key_at : ℕ × ℕ → Key
 key_at place = get_or
-    (key.Item place.1 ∷ key.Label place.1 ∷ key.Customer place.1 ∷ key.Cart place.1 ∷ key.NewIn (subject_of_id place.1) ∷ key.BestIn (subject_of_id place.1)
-    ∷ key.Buyers place.1 ∷ key.Bought place.1 ∷ key.Address place.1 ∷ key.Country place.1 ∷ key.Order place.1 ∷ key.LastOrder place.1 ∷ [])
+    (key.Item place.1 ∷ key.LastOrder place.1 ∷ key.Customer place.1 ∷ key.Cart place.1 ∷ key.NewIn (subject_of_id place.1) ∷ key.BestIn (subject_of_id place.1)
+    ∷ key.Buyers place.1 ∷ key.Bought place.1 ∷ key.Address place.1 ∷ key.Country place.1 ∷ key.Order place.1 ∷ [])
     place.0 (key.Item 0)
 
 IsBack : Key → Option (ℕ × ℕ) → Type 0
@@ -89,6 +90,9 @@ back (key.NewIn subject) = ap key.NewIn (subject_back subject)
 back (key.BestIn subject) = ap key.BestIn (subject_back subject)
 back (key.Name user) = tt
 back (key.SameAddress text) = tt
+back (key.Label id) = tt
+back key.Count = tt
+back (key.Added search) = tt
 back _ = refl
 
 pub places_apart : (one other : Key) (place there : ℕ × ℕ) → place_of one ≡ Some place → place_of other ≡ Some there → other ≢ one → there ≢ place
@@ -100,13 +104,16 @@ places_apart one other place there one_is other_is apart same =
 
 -- versions that agree
 
-pub text_same : (old new : Versions) (k : Key) → ((user : List ℕ) → k ≡ key.Name user → get bytes_eq new.names user ≡ get bytes_eq old.names user)
-    → ((text : AddressText) → k ≡ key.SameAddress text → get alike new.said text ≡ get alike old.said text) → stored_text new k ≡ stored_text old k
-text_same old new (key.Name user) names said = ap (λ o. unwrap_or o 0) (names user refl)
-text_same old new (key.SameAddress text) names said = ap (λ o. unwrap_or o 0) (said text refl)
-text_same old new _ names said = refl
+pub apart_same : (old new : Versions) (k : Key) → new.added ≡ old.added → ((user : List ℕ) → k ≡ key.Name user → get bytes_eq new.names user ≡ get bytes_eq old.names user)
+    → ((text : AddressText) → k ≡ key.SameAddress text → get alike new.said text ≡ get alike old.said text) → stored_apart new k ≡ stored_apart old k
+apart_same old new (key.Name user) added names said = ap (λ o. unwrap_or o 0) (names user refl)
+apart_same old new (key.SameAddress text) added names said = ap (λ o. unwrap_or o 0) (said text refl)
+apart_same old new (key.Label id) added names said = ap (λ (a : AddedItems). number_of a id) added
+apart_same old new key.Count added names said = ap last_number added
+apart_same old new (key.Added search) added names said = ap (λ (a : AddedItems). found_number a search) added
+apart_same old new _ added names said = refl
 
-pub stored_same : (old new : Versions) (k : Key) → ((place : ℕ × ℕ) → place_of k ≡ Some place → at_place new.columns.items place ≡ at_place old.columns.items place) → stored_text new k ≡ stored_text old k
+pub stored_same : (old new : Versions) (k : Key) → ((place : ℕ × ℕ) → place_of k ≡ Some place → at_place new.columns.items place ≡ at_place old.columns.items place) → stored_apart new k ≡ stored_apart old k
     → stored new k ≡ stored old k
 stored_same old new k places texts = by (place_of k) refl
   where

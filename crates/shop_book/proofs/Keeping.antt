@@ -13,6 +13,7 @@ use Rattle.shop_book.specs.declared.lists.Lists.{Lists}
 use Rattle.shop_book.specs.declared.opening.Opening.{Opening}
 use Rattle.shop_book.specs.declared.rows.Rows.{Rows}
 use Rattle.shop_book.specs.declared.versions.Versions.{Versions}
+use Rattle.shop_book.specs.Additions.{AreAdded}
 use Rattle.shop_book.specs.Books.{BookValue, IsBook, tables_of}
 use Rattle.shop_book.specs.Counted.{count_in}
 use Rattle.shop_book.specs.Auths.{has_in}
@@ -24,12 +25,13 @@ use Rattle.shop_book.specs.Stored.{stored, HasPlaces}
 use Rattle.shop_book.specs.Summaries.{cents_in, has_auth}
 
 pub first_kept : (opening : Opening) (rows : Rows) (versions : Versions) (counts : Counts) (lists : Lists) → AreLists opening.tables lists → IsOpening opening → tables_with opening.tables rows ≡ opening.tables → HasPlaces versions rows
-    → ((key : Key) → stored versions key ≡ 0) → ((caller : ℕ) → count_in counts caller ≡ 0) → cents_in opening.tables ≡ 0 → IsKept (record { opening = opening; log = []; latest = 0 }) rows versions counts lists 0
-first_kept opening rows versions counts lists are opens copies places unchanged none free = record {
+    → ((key : Key) → stored versions key ≡ 0) → AreAdded opening.tables versions.added → ((caller : ℕ) → count_in counts caller ≡ 0) → cents_in opening.tables ≡ 0 → IsKept (record { opening = opening; log = []; latest = 0 }) rows versions counts lists 0
+first_kept opening rows versions counts lists are opens copies places unchanged added none free = record {
   is_book = record { opens = opens; legal = nothing; short = omega arith; stamps = All-nil (λ (e : Entry). e.stamp ≤ 0); bound = omega arith };
   rows_are = copies ∙ sym (tables_nil opening.tables);
   places = places;
   versions_are = λ key. unchanged key ∙ sym (version_nil opening.tables key);
+  added_are = subst (λ t. AreAdded t versions.added) (sym (tables_nil opening.tables)) added;
   counts_are = none;
   lists_are = subst (λ t. AreLists t lists) (sym (tables_nil opening.tables)) are;
   cents_are = sym (ap cents_in (tables_nil opening.tables) ∙ free);

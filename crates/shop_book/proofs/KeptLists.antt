@@ -61,8 +61,11 @@ pub all_admitted : (n : ℕ) (orders : List OrderRow) (i : ℕ) (kept : List Sol
 all_admitted n orders i kept all is = is ∙ ap (λ (l : List OrderRow). last n (map sold_of l)) (take_all i orders all) ∙ sym (map_last sold_of n orders)
 
 -- sound tables have orders that windows take in
-pub orders_admitted : (t : Tables) → Sound t → All (IsAdmitted (length t.items)) t.orders
-orders_admitted t sound = λ k d within. record { few = (sound.lines k d within).few; items = (sound.names.orders k d within).items }
+pub orders_admitted : (t : Tables) → Sound t → (size : ℕ) → length t.items ≤ size → All (IsAdmitted size) t.orders
+orders_admitted t sound size longer = λ k d within. record {
+  few = (sound.lines k d within).few;
+  items = λ l e inside. let has = (sound.names.orders k d within).items l e inside in record { first = has.first; last = omega (arith, has.last, longer) };
+}
 
 -- the units of an item
 
@@ -130,8 +133,8 @@ module _ (t u : Tables) (items : u.items ≡ t.items) (orders : u.orders ≡ t.o
 
   pub lists_same : (lists : Lists) → AreLists t lists → AreLists u lists
   lists_same lists are = record {
-    sold_items = are.sold_items ∙ ap length (sym items);
-    recent_items = are.recent_items ∙ ap length (sym items);
+    sold_items = omega (arith, are.sold_items, ap length items);
+    recent_items = omega (arith, are.recent_items, ap length items);
     sold = are.sold ∙ ap (λ (os : List OrderRow). map sold_of (last counted_orders os)) (sym orders);
     recent = are.recent ∙ ap (λ (os : List OrderRow). map sold_of (last recent_orders os)) (sym orders);
     units = record {

@@ -28,5 +28,7 @@ pub mod SaleChanges
 pub mod Doing
 pub mod SaleSteps
 pub mod MendedLists
+pub mod AddedItems
+pub mod AddedLists
 pub mod RankLemmas
 pub mod BuyerLemmas

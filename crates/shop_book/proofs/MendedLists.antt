@@ -43,12 +43,40 @@ values_same f g [] same = refl
 values_same f g (x ∷ xs) same = ap₂ (λ y ys. y ∷ ys) (same 0 x refl) (values_same f g xs (λ k y at. same (suc k) y at))
 
 -- where two functions differ at one place, its value alone is set
-value_set : {A B : Type 0} (f g : A → B) (xs : List A) (k : ℕ) (x : A) → slice_get xs k ≡ Some x
+pub value_set : {A B : Type 0} (f g : A → B) (xs : List A) (k : ℕ) (x : A) → slice_get xs k ≡ Some x
     → ((j : ℕ) (y : A) → slice_get xs j ≡ Some y → j ≢ k → g y ≡ f y) → set (map g xs) k (f x) ≡ map f xs
 value_set f g [] k x at same = absurd cc
 value_set f g (y ∷ ys) zero x at same = ap₂ (λ z zs. z ∷ zs) (ap f (cc)) (values_same f g ys (λ j z there. same (suc j) z there (λ e. cc)))
 value_set f g (y ∷ ys) (suc k) x at same =
     ap₂ (λ z zs. z ∷ zs) (same 0 y refl (λ e. cc)) (value_set f g ys k x at (λ j z there apart. same (suc j) z there (λ e. apart (cc))))
+
+-- where a subject's newest items were listed anew, the key that shows them gets the number if it shows another list
+pub newest_raised : (t now : Tables) (number : ℕ) (subject : Subject) (was is : List ℕ) (old new : Key → ℕ) → was ≡ newest t subject → is ≡ newest now subject
+    → IsListedAnew was is number subject old new → RaisedFor t now number (key.NewIn subject ∷ []) old new
+newest_raised t now number subject was is old new was_is newest_is anew = record {
+  each = λ k.
+      ⊎_elim
+      (λ (same : k ≡ key.NewIn subject).
+      ⊎_elim
+      (λ stays. inl (ap new same ∙ stays.1 ∙ sym (ap old same)))
+      (λ changed. inr (
+        (λ equal. changed.1 (was_is ∙ sym (shown (newest now subject) (newest t subject) (sym (ap (row_of now) same) ∙ equal ∙ ap (row_of t) same)) ∙ sym newest_is)),
+        ap new same ∙ changed.2,
+      ))
+      anew.here)
+      (λ (apart : k ≢ key.NewIn subject). inl (anew.others k apart))
+      (key_cases k (key.NewIn subject));
+  all = λ k has differs.
+      ⊎_elim
+      (λ (same : k ≡ key.NewIn subject).
+      ⊎_elim
+      (λ stays. absurd (differs (ap (row_of now) same ∙ ap row.Items (sym newest_is ∙ stays.0 ∙ was_is) ∙ sym (ap (row_of t) same))))
+      (λ changed. ap new same ∙ changed.2)
+      anew.here)
+      (λ (apart : k ≢ key.NewIn subject).
+      ⊎_elim (λ (none : Contains [] k). absurd (omega (arith, none.1))) (λ (here : key.NewIn subject ≡ k). absurd (apart (sym here))) (Contains-push_cases [] (key.NewIn subject) k has))
+      (key_cases k (key.NewIn subject));
+}
 
 module _ (t : Tables) (stamp : ℕ) (asked : AdminAsked) (item : ℕ) (rows : Rows) (is : IsMended t stamp asked item rows) where
   abbrev pub mended : ItemRow
@@ -142,8 +170,8 @@ module _ (t : Tables) (stamp : ℕ) (asked : AdminAsked) (item : ℕ) (rows : Ro
     pub lists_mended : (listed : Vec (List ℕ) Global) → listed.items ≡ set lists.newest_rows.items place (standing_newest days subject)
         → AreLists (tables_mended t stamp asked) (record lists { newest = days; newest_rows = listed })
     lists_mended listed listed_are = subst (λ (u : Tables). AreLists u (record lists { newest = days; newest_rows = listed })) (sym now_is) (record {
-      sold_items = are.sold_items ∙ sym same_length;
-      recent_items = are.recent_items ∙ sym same_length;
+      sold_items = omega (arith, are.sold_items, same_length);
+      recent_items = omega (arith, are.recent_items, same_length);
       sold = are.sold;
       recent = are.recent;
       units = units;
@@ -157,33 +185,5 @@ module _ (t : Tables) (stamp : ℕ) (asked : AdminAsked) (item : ℕ) (rows : Ro
       was_is : get_or lists.newest_rows.items place [] ≡ newest t subject
       was_is = ap (λ (ls : List (List ℕ)). get_or ls place []) are.newest_rows ∙ value_at (newest t) subjects place subject [] (there subject)
 
-      -- its key gets the number where it shows another list
-      newest_raised : RaisedFor t now number (key.NewIn subject ∷ []) old new
-      newest_raised = record {
-        each = λ k.
-            ⊎_elim
-            (λ (same : k ≡ key.NewIn subject).
-            ⊎_elim
-            (λ stays. inl (ap new same ∙ stays.1 ∙ sym (ap old same)))
-            (λ changed. inr (
-              (λ equal. changed.1
-                  (was_is ∙ sym (shown (newest now subject) (newest t subject) (sym (ap (row_of now) same) ∙ equal ∙ ap (row_of t) same)) ∙ sym (newest_is subject))),
-              ap new same ∙ changed.2,
-            ))
-            anew.here)
-            (λ (apart : k ≢ key.NewIn subject). inl (anew.others k apart))
-            (key_cases k (key.NewIn subject));
-        all = λ k has differs.
-            ⊎_elim
-            (λ (same : k ≡ key.NewIn subject).
-            ⊎_elim
-            (λ stays. absurd (differs (ap (row_of now) same ∙ ap row.Items (sym (newest_is subject) ∙ stays.0 ∙ was_is) ∙ sym (ap (row_of t) same))))
-            (λ changed. ap new same ∙ changed.2)
-            anew.here)
-            (λ (apart : k ≢ key.NewIn subject).
-            ⊎_elim (λ (none : Contains [] k). absurd (omega (arith, none.1))) (λ (here : key.NewIn subject ≡ k). absurd (apart (sym here))) (Contains-push_cases [] (key.NewIn subject) k has))
-            (key_cases k (key.NewIn subject));
-      }
-
       pub raised_mended : RaisedFor t (tables_mended t stamp asked) number (key.NewIn subject ∷ []) old new
-      raised_mended = subst (λ (u : Tables). RaisedFor t u number (key.NewIn subject ∷ []) old new) (sym now_is) newest_raised
+      raised_mended = subst (λ (u : Tables). RaisedFor t u number (key.NewIn subject ∷ []) old new) (sym now_is) (newest_raised t now number subject _ _ old new was_is (newest_is subject) anew)

@@ -21,7 +21,7 @@ use Rattle.shop_model.specs.trade.Mending.{with_mended}
 use Rattle.shop_model.specs.trade.Money.{money, sub_of, tax_of, ship_of, sum_of, units_of}
 use Rattle.shop_model.specs.trade.Sales.{Terms, new_order, tables_bought}
 use Rattle.shop_history.specs.declared.acts.Act.{Act}
-use Rattle.shop_history.specs.declared.acts.Act.TheVariants.{Cart, Enter, Confirm, Admin}
+use Rattle.shop_history.specs.declared.acts.Act.TheVariants.{Cart, Enter, Confirm, Admin, Add}
 use Rattle.shop_history.specs.declared.acts.Entry.{Entry}
 use Rattle.shop_history.specs.Acts.{play}
 use Rattle.shop_history.specs.Logs.{tables}
@@ -85,6 +85,7 @@ play_adds t stamp (Cart asked draw) = adds_none t.orders
 play_adds t stamp (Enter asked draw) = enter_adds t stamp draw asked.buyer
 play_adds t stamp (Confirm asked draw auth tax) = confirm_adds t stamp draw (record { auth = auth; tax = tax }) asked (row_numbered t.customers asked.c)
 play_adds t stamp (Admin asked) = admin_adds t stamp asked (row_numbered t.items asked.item)
+play_adds t stamp (Add asked) = adds_none t.orders
 
 few_came : (t : Tables) (log : List Entry) → length (tables t log).orders ≤ length t.orders + length log
 few_came t =
@@ -137,7 +138,7 @@ module _ (b : BookValue) (book : IsBook b) where
   born = b.opening.tables.born_orders
 
   born_same : (tables_of b).born_orders ≡ born
-  born_same = (kept b.opening.tables b.log).born_orders
+  born_same = (kept b.opening.tables b.log book.opens.good.sound.born_items).born_orders
 
   pub born_within : born ≤ length (tables_of b).orders
   born_within = omega (arith, sound.born, born_same)
@@ -196,7 +197,7 @@ module _ (t : Tables) (sound : Sound t) (stamp : ℕ) (act : Act) (sound_after :
   cents_more =
       ap (λ (os : List OrderRow). sum_by (λ (o : OrderRow). o.total) os)
       (orders_behind (play t stamp act).tables sound_after
-      ∙ ap (λ n. drop n (play t stamp act).tables.orders) (play_keeps t stamp act).born_orders
+      ∙ ap (λ n. drop n (play t stamp act).tables.orders) (play_keeps t stamp act sound.born_items).born_orders
       ∙ ap (drop t.born_orders) adds.is
       ∙ drop-append-le t.born_orders t.orders adds.more sound.born
       ∙ ap (λ (os : List OrderRow). os ++ adds.more) (sym (orders_behind t sound)))

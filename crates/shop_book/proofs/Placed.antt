@@ -30,10 +30,10 @@ pub more_places : (size more id : ℕ) → size ≤ more → Has size id → Has
 more_places size more id longer has = record { first = has.first; last = omega (arith, has.last, longer) }
 
 pub same_places : {v : Versions} → MorePlaces v v
-same_places = record { long = refl; each = λ column. omega arith }
+same_places = record { long = refl; each = λ column. omega arith; added = refl }
 
 pub then_more : {old mid new : Versions} → MorePlaces old mid → MorePlaces mid new → MorePlaces old new
-then_more first next = record { long = next.long ∙ first.long; each = λ column. omega (arith, first.each column, next.each column) }
+then_more first next = record { long = next.long ∙ first.long; each = λ column. omega (arith, first.each column, next.each column); added = next.added ∙ first.added }
 
 pub more_have : {v w : Versions} {rows : Rows} → MorePlaces v w → HasPlaces v rows → HasPlaces w rows
 more_have more has = record { long = more.long ∙ has.long; each = λ column. omega (arith, more.each column, has.each column) }

@@ -162,7 +162,7 @@ module _ (t : Tables) (sound : Sound t) (asked : PurchaseAsked) (stamp draw : �
         last_place =
             let has = has_row t.customers asked.c customer buys in
             let long : length rows.customers.items ≡ length t.customers = ap (λ (u : Tables). length u.customers) are in
-            record { first = has.first; last = omega (arith, has.last, long, places.each 11) }
+            record { first = has.first; last = omega (arith, has.last, long, places.each 1) }
 
         item_places : All (HasPlace v) (map key.Item (items_in t asked.cart))
         item_places =

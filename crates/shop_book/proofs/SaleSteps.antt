@@ -1,6 +1,6 @@
 -- The steps by which an order's coming moves the kept lists on, put together.
 use Rattle.std.proofs.Common.{◌≡◌, ℕ, ◌+◌, ◌-◌, ◌≤◌, nat_lt, Bool, true, false, cond, List, [], ◌∷◌, ◌++◌, length, map, get_or, Option, Some, None, option_map, slice_get, inl, append_assoc, length-append, ap₂, refl, sym, ◌∙◌, ap, subst, arith}
-use Rattle.std.specs.Prelude.{◌||◌, All, IfSome, bytes_eq, option_and_then}
+use Rattle.std.specs.Prelude.{◌||◌, max, All, IfSome, bytes_eq, option_and_then}
 use Rattle.std.specs.List.{list_any}
 use Rattle.std.proofs.lemmas.List.{length-map}
 use Rattle.std.proofs.lemmas.List.Elements.{All-weaker}
@@ -10,7 +10,7 @@ use Rattle.shop_model.specs.declared.subject.Subject.{Subject}
 use Rattle.shop_model.specs.declared.tables.Tables.{Tables}
 use Rattle.shop_model.specs.lists.Rankings.{best, sold_lately}
 use Rattle.shop_model.specs.lists.Related.{Sold, sold_of, last, units_in_orders}
-use Rattle.shop_model.specs.rows.Limits.{counted_orders, recent_orders}
+use Rattle.shop_model.specs.rows.Limits.{counted_orders, recent_orders, items_limit}
 use Rattle.shop_model.specs.rows.Lookups.{row_numbered}
 use Rattle.shop_model.specs.rows.Rows.{ItemRow, LineRow, OrderRow}
 use Rattle.shop_model.specs.rows.Sound.{Has, HasLines, OrderNames}
@@ -59,8 +59,11 @@ some_mapped f P None holds = tt
 some_mapped f P (Some x) holds = holds
 
 module _ (t : Tables) (order : OrderRow) (rows : Rows) (sale : IsSale t order rows) where
-  pub admitted : IsAdmitted (length t.items) order
-  admitted = record { few = sale.lines.few; items = sale.there }
+  pub admitted : (size : ℕ) → max items_limit (length t.items) ≤ size → IsAdmitted size order
+  admitted size longer = record {
+    few = sale.lines.few;
+    items = All-weaker (λ (l : LineRow). Has (length t.items) l.item) (λ (l : LineRow). Has size l.item) (λ l has. record { first = has.first; last = omega (arith, has.last, longer) }) order.lines sale.there;
+  }
 
   -- the order that leaves is found
   pub gone_is : (most : ℕ) (kept : List Sold) → 1 ≤ most → kept ≡ map sold_of (last most t.orders)

@@ -16,7 +16,7 @@ use Rattle.shop_book.specs.Puts.{put_one, all_put}
 -- how many places each column needs for the rows of some tables
 abbrev pub sizes_in : Tables → List ℕ
 sizes_in t =
-    length t.items ∷ 0 ∷ length t.customers ∷ length t.carts ∷ 24 ∷ 24 ∷ length t.items ∷ length t.customers ∷ length t.addresses ∷ 0 ∷ length t.orders ∷ length t.customers ∷ []
+    length t.items ∷ length t.customers ∷ length t.customers ∷ length t.carts ∷ 24 ∷ 24 ∷ length t.items ∷ length t.customers ∷ length t.addresses ∷ 0 ∷ length t.orders ∷ []
 
 -- each number is larger by so many at most
 AreFew : List ℕ → List ℕ → (ℕ → ℕ) → Type 0

@@ -20,7 +20,7 @@ use Rattle.shop_history.specs.declared.keys.Key.TheVariants as key
 use Rattle.shop_history.specs.contracts.keys.Key.{the_field}
 use Rattle.shop_history.specs.Keys.{row_of}
 use Rattle.shop_book.specs.declared.watching.Watched.{Watched}
-use Rattle.shop_history.proofs.cited.Versions.{RaisedFor}
+use Rattle.shop_history.proofs.cited.Versions.{RaisedFor, RaisedWhere}
 use Rattle.shop_history.specs.Same.{same}
 use Rattle.shop_book.specs.declared.rows.Rows.{Rows}
 use Rattle.shop_book.specs.declared.versions.Versions.{Versions}
@@ -36,8 +36,9 @@ key_cases one other =
     elim (decided_by the_field.row.coded the_field.into the_field.into_one one other) as (λ _. (one ≡ other) ⊎ (one ≢ other)) [ yes is ↦ inl is | no apart ↦ inr apart ]
 
 -- versions that were raised for some keys, and then for others
-pub raised_and : (before now : Tables) (number : ℕ) (keys more : List Key) (first mid end : Key → ℕ) → RaisedFor before now number keys first mid → RaisedFor before now number more mid end → RaisedFor before now number (keys ++ more) first end
-raised_and before now number keys more first mid end one other = record {
+pub raised_then : (before now : Tables) (number : ℕ) (some more : Key → Type 0) (first mid end : Key → ℕ) → RaisedWhere before now number some first mid → RaisedWhere before now number more mid end
+    → RaisedWhere before now number (λ k. some k ⊎ more k) first end
+raised_then before now number some more first mid end one other = record {
   each = λ k.
       ⊎_elim
       (λ (same : end k ≡ mid k). ⊎_elim (λ stays. inl (same ∙ stays)) (λ raised. inr (raised.0, same ∙ raised.1)) (one.each k))
@@ -47,8 +48,14 @@ raised_and before now number keys more first mid end one other = record {
       ⊎_elim
       (λ here. let raised : mid k ≡ number = one.all k here differs in ⊎_elim (λ same. same ∙ raised) (λ again. again.1) (other.each k))
       (λ there. other.all k there differs)
-      (Contains-append_cases keys more k has);
+      has;
 }
+
+-- so for those of two lists
+pub raised_and : (before now : Tables) (number : ℕ) (keys more : List Key) (first mid end : Key → ℕ) → RaisedFor before now number keys first mid → RaisedFor before now number more mid end → RaisedFor before now number (keys ++ more) first end
+raised_and before now number keys more first mid end one other =
+    let both = raised_then before now number (Contains keys) (Contains more) first mid end one other in
+    record { each = both.each; all = λ k has. both.all k (Contains-append_cases keys more k has) }
 
 -- one watched key more
 module _ (before t : Tables) (rows : Rows) (number : ℕ) (keys : List Key) (old : Key → ℕ) (mid next : Versions) (kept : Watched) (was : kept.row ≡ row_of before kept.key)

@@ -1,6 +1,7 @@
 -- A change of rows and of lists by an act, in tables that it is not refused in.
-use Rattle.std.specs.Prelude.{◌≡◌, ◌⊎◌, ℕ, List, All, Contains, None}
+use Rattle.std.specs.Prelude.{◌≡◌, ◌⊎◌, ℕ, List, All, Contains, Some, None}
 use Rattle.shop_model.specs.declared.tables.Tables.{Tables}
+use Rattle.shop_model.specs.lists.Catalogues.{naming}
 use Rattle.shop_model.specs.pages.Show.{check}
 use Rattle.shop_model.specs.rows.Sound.{Sound}
 use Rattle.shop_history.specs.declared.acts.Act.{Act}
@@ -9,7 +10,7 @@ use Rattle.shop_history.specs.declared.keys.Key.{Key}
 use Rattle.shop_history.specs.Acts.{play, request_of}
 use Rattle.shop_book.specs.declared.lists.Lists.{Lists}
 use Rattle.shop_book.specs.declared.plan.Plan.{Plan}
-use Rattle.shop_book.specs.declared.plan.Plan.TheVariants.{One, Compare, Sell, Mend}
+use Rattle.shop_book.specs.declared.plan.Plan.TheVariants.{One, Compare, Sell, Mend, Add}
 use Rattle.shop_book.specs.declared.puts.Put.{Put}
 use Rattle.shop_book.specs.declared.rows.Rows.{Rows}
 use Rattle.shop_book.specs.declared.versions.Versions.{Versions}
@@ -47,7 +48,13 @@ abbrev pub AreWatchable : Versions → Plan → Type 0
 AreWatchable versions (One watched) = CanWatch versions watched
 AreWatchable versions (Compare watched) = All (CanWatch versions) watched.items
 AreWatchable versions (Sell keys) = Unit {0}
+AreWatchable versions (Add addition) = Unit {0}
 AreWatchable versions (Mend item row) = CanWatch versions (record { key = key.TheVariants.Item item; row = row })
+
+-- there is room for the item that is added, where one is
+abbrev pub IsExpected : Versions → Plan → Type 0
+IsExpected versions (Add addition) = versions.added.room ≡ Some (naming addition.item)
+IsExpected versions _ = Unit {0}
 
 -- these keys get this number as their version, and no other does
 pub record RaisesAll (keys : List Key) (number : ℕ) (old new : Key → ℕ) : Type 0 where

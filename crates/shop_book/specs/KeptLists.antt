@@ -1,9 +1,9 @@
 -- What is kept of the latest orders and of the items.
-use Rattle.std.specs.Prelude.{◌≡◌, ℕ, ◌≤◌, List, length, map, All}
+use Rattle.std.specs.Prelude.{◌≡◌, ℕ, ◌≤◌, max, List, length, map, All}
 use Rattle.shop_model.specs.declared.tables.Tables.{Tables}
 use Rattle.shop_model.specs.lists.Rankings.{best, newest}
 use Rattle.shop_model.specs.lists.Related.{sold_of, last, recent}
-use Rattle.shop_model.specs.rows.Limits.{lines_limit, counted_orders}
+use Rattle.shop_model.specs.rows.Limits.{lines_limit, counted_orders, items_limit}
 use Rattle.shop_model.specs.rows.Rows.{ItemRow, OrderRow}
 use Rattle.shop_model.specs.rows.Sound.{Has}
 use Rattle.shop_model.specs.rows.Subjects.{subjects}
@@ -23,11 +23,11 @@ pub record UnitsAre (items : List ItemRow) (sold : ℕ → ℕ) (best : Units) :
   pub subjects : best.subjects ≡ map (λ i. i.subject) items
   pub units : best.units ≡ map (λ i. sold i.id) items
 
--- the windows are over the items of these tables and hold their latest orders, the units that stand of each item are those that were sold and the days those
--- of its publication, the lists are shown, and the authorisations are those of the orders
+-- the windows are over the items of these tables, with as many as may be added, and hold their latest orders, the units that stand of each item are those that
+-- were sold and the days those of its publication, the lists are shown, and the authorisations are those of the orders
 pub record AreLists (t : Tables) (lists : Lists) : Type 0 where
-  pub sold_items : lists.sold.items ≡ length t.items
-  pub recent_items : lists.recent.items ≡ length t.items
+  pub sold_items : max items_limit (length t.items) ≤ lists.sold.items
+  pub recent_items : max items_limit (length t.items) ≤ lists.recent.items
   pub sold : lists.sold.kept ≡ map sold_of (last counted_orders t.orders)
   pub recent : lists.recent.kept ≡ recent t
   pub units : AreSoldLately t lists.best

@@ -9,6 +9,7 @@ pub mod Puts
 pub mod Readiness
 pub mod Sizes
 pub mod Columns
+pub mod Additions
 pub mod Places
 pub mod Stored
 pub mod Counted
@@ -18,6 +19,7 @@ pub mod Listings
 pub mod KeptLists
 pub mod Sales
 pub mod Mending
+pub mod Adding
 pub mod Planning
 pub mod Changing
 pub mod Preparing

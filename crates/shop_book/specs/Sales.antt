@@ -1,12 +1,12 @@
 -- What an order changes of the lists that are kept, part by part.
-use Rattle.std.specs.Prelude.{◌≡◌, ◌≢◌, ℕ, ◌+◌, ◌-◌, ◌<◌, ◌⊎◌, Bool, false, List, [], ◌∷◌, ◌++◌, length, map, filter, All, Contains, Option, Some, None, option_map, unwrap_or, slice_get, slice_index, get_or}
+use Rattle.std.specs.Prelude.{◌≡◌, ◌≢◌, ℕ, ◌+◌, ◌-◌, ◌<◌, ◌≤◌, max, ◌⊎◌, Bool, false, List, [], ◌∷◌, ◌++◌, length, map, filter, All, Contains, Option, Some, None, option_map, unwrap_or, slice_get, slice_index, get_or}
 use Rattle.std.specs.List.{list_any}
 use Rattle.shop_model.specs.declared.subject.Subject.{Subject}
 use Rattle.shop_model.specs.declared.subject.Subject.TheVariants.{Arts}
 use Rattle.shop_model.specs.declared.tables.Tables.{Tables}
 use Rattle.shop_model.specs.lists.Rankings.{best}
 use Rattle.shop_model.specs.lists.Related.{Sold, sold_of, last, is_of, has_item, recent}
-use Rattle.shop_model.specs.rows.Limits.{counted_orders}
+use Rattle.shop_model.specs.rows.Limits.{counted_orders, items_limit}
 use Rattle.shop_model.specs.rows.Lookups.{row_numbered}
 use Rattle.shop_model.specs.rows.Rows.{ItemRow, OrderRow}
 use Rattle.shop_model.specs.rows.Sound.{Sound, Has, HasLines, units_in}
@@ -90,14 +90,14 @@ has_bought orders customer item = list_any (has_item item) (filter (is_of custom
 
 -- the lists of best sold items are those of these tables, and so is what they are made of
 pub record AreRanked (t : Tables) (lists : Lists) : Type 0 where
-  pub items : lists.sold.items ≡ length t.items
+  pub items : max items_limit (length t.items) ≤ lists.sold.items
   pub sold : lists.sold.kept ≡ map sold_of (last counted_orders t.orders)
   pub units : AreSoldLately t lists.best
   pub best_rows : lists.best_rows.items ≡ map (best t) subjects
 
 -- the window of those that related items are counted over is that of these tables
 pub record IsRemembered (t : Tables) (lists : Lists) : Type 0 where
-  pub items : lists.recent.items ≡ length t.items
+  pub items : max items_limit (length t.items) ≤ lists.recent.items
   pub kept : lists.recent.kept ≡ recent t
 
 -- the items of an order that leaves a window, where one does, and their subjects

@@ -4,6 +4,7 @@ use Rattle.std.specs.HashMap.{get, spare}
 use Rattle.shop_model.specs.rows.Sound.{Has}
 use Rattle.shop_history.specs.declared.keys.Key as key
 use Rattle.shop_history.specs.declared.keys.Key.{Key}
+use Rattle.shop_book.specs.Additions.{number_of, last_number, found_number}
 use Rattle.shop_book.specs.Columns.{at}
 use Rattle.shop_book.specs.Places.{place_of, sizes, grown, growth}
 use Rattle.shop_book.specs.Said.{alike}
@@ -15,14 +16,17 @@ use Rattle.shop_book.specs.declared.versions.Versions.{Versions}
 abbrev pub numbers : Versions → ℕ → List ℕ
 numbers v column = get_or v.columns.items column []
 
--- the version of a key that is a text, or 0
-abbrev pub stored_text : Versions → Key → ℕ
-stored_text v (key.TheVariants.Name user) = unwrap_or (get bytes_eq v.names user) 0
-stored_text v (key.TheVariants.SameAddress text) = unwrap_or (get alike v.said text) 0
-stored_text v _ = 0
+-- the version of a key that has no place in a column, or 0
+abbrev pub stored_apart : Versions → Key → ℕ
+stored_apart v (key.TheVariants.Name user) = unwrap_or (get bytes_eq v.names user) 0
+stored_apart v (key.TheVariants.SameAddress text) = unwrap_or (get alike v.said text) 0
+stored_apart v (key.TheVariants.Label id) = number_of v.added id
+stored_apart v key.TheVariants.Count = last_number v.added
+stored_apart v (key.TheVariants.Added search) = found_number v.added search
+stored_apart v _ = 0
 
 abbrev pub stored_in : Versions → Key → Option (ℕ × ℕ) → ℕ
-stored_in v key None = stored_text v key
+stored_in v key None = stored_apart v key
 stored_in v key (Some place) = at (numbers v place.0) place.1
 
 -- the version of a key, where it has one, or 0
@@ -44,13 +48,14 @@ HasPlace v key = HasPlaceIn v key (place_of key)
 
 -- each row has a place
 pub record HasPlaces (v : Versions) (rows : Rows) : Type 0 where
-  pub long : length v.columns.items ≡ 12
+  pub long : length v.columns.items ≡ 11
   pub each : (column : ℕ) → get_or (sizes rows) column 0 ≤ length (numbers v column)
 
--- no place goes
+-- no place goes, and what is kept of added items stays
 pub record MorePlaces (old new : Versions) : Type 0 where
   pub long : length new.columns.items ≡ length old.columns.items
   pub each : (column : ℕ) → length (numbers old column) ≤ length (numbers new column)
+  pub added : new.added ≡ old.added
 
 -- so many rows that a write may add have places, beside each row
 abbrev pub HasRoomFor : Versions → Rows → ℕ → Put → Type 0
@@ -58,7 +63,7 @@ HasRoomFor v rows more put = All (λ column. get_or (sizes rows) column 0 + more
 
 -- each row has a place, and each that the writes add
 pub record HasRoom (v : Versions) (rows : Rows) (puts : List Put) : Type 0 where
-  pub long : length v.columns.items ≡ 12
+  pub long : length v.columns.items ≡ 11
   pub each : (column : ℕ) → get_or (sizes rows) column 0 + growth puts column ≤ length (numbers v column)
 
 -- so many keys more that are texts can get versions

@@ -1,6 +1,7 @@
 -- What is kept of the keys that a change may change, so that only those that it does change get its version.
 use Rattle.std.specs.Prelude.{◌≡◌, ◌≢◌, ℕ, ◌+◌, ◌^◌, ◌<◌, List, length, map, All}
 use Rattle.shop_model.specs.declared.tables.Tables.{Tables}
+use Rattle.shop_model.specs.rows.Sound.{Runs}
 use Rattle.shop_history.specs.declared.keys.Key as key
 use Rattle.shop_history.specs.declared.keys.Key.{Key}
 use Rattle.shop_history.specs.declared.keys.Row.TheVariants.{Absent}
@@ -22,12 +23,14 @@ IsWatchable (key.TheVariants.Address id) = Unit {0}
 IsWatchable (key.TheVariants.SameAddress text) = Unit {0}
 IsWatchable _ = ⊥
 
--- rows of which one more may come of each kind, with customers who are found by name
+-- rows of which one more may come of each kind, with items that are numbered and customers who are found by name
 pub record MayCome (rows : Rows) : Type 0 where
   pub carts : length rows.carts.items + 1 < 2 ^ 32
   pub customers : length rows.customers.items + 1 < 2 ^ 32
   pub addresses : length rows.addresses.rows + 1 < 2 ^ 32
   pub orders : length rows.orders.items + 1 < 2 ^ 32
+  pub items : length rows.items.items + 1 < 2 ^ 32
+  pub numbered : Runs (map (λ i. i.id) rows.items.items)
   pub named : AreNamed rows.customers.items
 
 -- a watched key, which has a place for a version where it showed a row

@@ -70,7 +70,7 @@ impl Book {
         ensures kept { IfOk result IsBook }
     {
         let rows = Rows::copy_of(alloc, &tables)?;
-        let versions = Versions::new(alloc, &rows)?;
+        let versions = Versions::new(alloc, &tables, &rows)?;
         let lists = Lists::of(alloc, &tables)?;
         Ok(Book {
             opening: Opening { tables, limit },
@@ -95,7 +95,8 @@ impl Book {
         ensures kept { IsBook self.now }
         ensures sound { IsGoodThroughout self.now }
     {
-        match shown(&self.opening.tables, &self.rows, &self.lists, key)? {
+        let (tables, added) = (&self.opening.tables, &self.versions.added);
+        match shown(tables, &self.rows, &self.lists, added, key)? {
             Ok(row) => Some(Ok((row, self.versions.of(key)))),
             Err(Memory) => Some(Err(Memory)),
         }
@@ -325,7 +326,7 @@ impl Book {
         }
         let stamp = self.latest.max(moment);
         let alloc = *self.log.allocator();
-        let Ok(plan) = Plan::of(alloc, &self.rows, &act) else {
+        let Ok(plan) = Plan::of(alloc, &self.rows, &self.lists.sold, &act) else {
             return Err(Settle::Memory);
         };
         let Ok(puts) = puts_of(alloc, &self.rows, stamp, writes) else {
@@ -373,15 +374,14 @@ impl Book {
         ensures taken { TakenAs self.old self.new entry.caller entry.number entry.stamp (Some entry.act) result }
         ensures kept { IsBook self.new }
     {
-        let (added, keys) = (puts.as_slice(), plan.len());
         if !make_room(
             &mut self.log,
             &mut self.rows,
             &mut self.versions,
             &mut self.counts,
             &mut self.lists,
-            added,
-            keys,
+            puts.as_slice(),
+            &plan,
         ) {
             return Settle::Memory;
         }

@@ -2,6 +2,9 @@
 //! versions; and the store of a caller who has the book for now.
 #![tactic(auto)]
 
+mod adding;
+mod addition;
+mod additions;
 mod addresses;
 mod auths;
 mod book;

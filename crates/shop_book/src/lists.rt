@@ -14,7 +14,7 @@ ghost use Rattle.shop_book.specs.Listings.{IsList};
 use crate::auths::Auths;
 use crate::listing::{Listing, listings};
 use shop_history::{Key, Row};
-use shop_model::{Item, Order, Subject, Tables};
+use shop_model::{ITEMS_LIMIT, Item, Order, Subject, Tables};
 use shop_ranking::{Best, Newest};
 use shop_text::{Memory, Shared};
 use shop_window::OrderWindow;
@@ -56,7 +56,11 @@ fn window_of<const N: usize>(
 }
 
 /// The units of each item in the orders of a window.
-fn best_of(alloc: Global, items: &[Item], sold: &OrderWindow<3_333>) -> Result<Best, Memory>
+pub(crate) fn best_of(
+    alloc: Global,
+    items: &[Item],
+    sold: &OrderWindow<3_333>,
+) -> Result<Best, Memory>
     requires { Runs (map (λ i. i.id) items.now) }
     ensures { IfOk result (UnitsAre items.now (λ item. units_in_orders item sold.now.kept)) }
 {
@@ -74,8 +78,10 @@ impl Lists {
         ensures { IfOk result (AreLists tables.now) }
     {
         let (items, orders) = (tables.items.as_slice(), tables.orders.as_slice());
-        let sold = window_of(alloc, orders, items.len() as u32)?;
-        let recent = window_of(alloc, orders, items.len() as u32)?;
+        // An item may be added without the windows being made anew.
+        let size = ITEMS_LIMIT.max(items.len() as u32);
+        let sold = window_of(alloc, orders, size)?;
+        let recent = window_of(alloc, orders, size)?;
         let best = best_of(alloc, items, &sold)?;
         let newest = Newest::new(alloc, items)?;
         let auths = Auths::of(alloc, orders)?;

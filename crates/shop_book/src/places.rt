@@ -6,17 +6,17 @@ use crate::rows::Rows;
 use shop_history::Key;
 
 /// How many columns there are.
-pub(crate) const COLUMNS: usize = 12;
+pub(crate) const COLUMNS: usize = 11;
 
-/// The column of a key and its place there, counted from 1; none for a key that is a text. Labels and
-/// countries never change: their columns stay empty.
+/// The column of a key and its place there, counted from 1; none for a key that is a text, and for those
+/// of added items. Countries never change: their column stays empty.
 #[inline(always)]
 pub(crate) fn place_of(key: &Key) -> Option<(usize, u32)>
     ensures { result ≡ spec.place_of key.now }
 {
     match key {
         Key::Item(id) => Some((0, *id)),
-        Key::Label(id) => Some((1, *id)),
+        Key::Label(_) => None,
         Key::Customer(id) => Some((2, *id)),
         Key::Cart(id) => Some((3, *id)),
         Key::NewIn(subject) => Some((4, u32::from(subject.number()) + 1)),
@@ -28,7 +28,9 @@ pub(crate) fn place_of(key: &Key) -> Option<(usize, u32)>
         Key::SameAddress(_) => None,
         Key::Country(id) => Some((9, *id)),
         Key::Order(id) => Some((10, *id)),
-        Key::LastOrder(customer) => Some((11, *customer)),
+        Key::LastOrder(customer) => Some((1, *customer)),
+        Key::Count => None,
+        Key::Added(_) => None,
     }
 }
 
@@ -38,7 +40,7 @@ pub(crate) fn sizes(rows: &Rows) -> [usize; COLUMNS]
 {
     [
         rows.items.len(),
-        0,
+        rows.customers.len(),
         rows.customers.len(),
         rows.carts.len(),
         24,
@@ -48,6 +50,5 @@ pub(crate) fn sizes(rows: &Rows) -> [usize; COLUMNS]
         rows.addresses.len(),
         0,
         rows.orders.len(),
-        rows.customers.len(),
     ]
 }

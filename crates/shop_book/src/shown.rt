@@ -1,10 +1,12 @@
 ghost use Rattle.std.specs.Prelude.{◌≡◌, None, IfOk, IfSome};
+ghost use Rattle.shop_model.specs.lists.Catalogues as catalogues;
 ghost use Rattle.shop_model.specs.rows.Sound.{Sound};
 ghost use Rattle.shop_history.specs.Keys.{row_of};
 ghost use Rattle.shop_book.specs.KeptLists.{AreLists};
 ghost use Rattle.shop_book.specs.Listings.{IsList};
 ghost use Rattle.shop_book.specs.RowsNow.{tables_with};
 
+use crate::additions::Additions;
 use crate::lists::Lists;
 use crate::rows::{Rows, country_row, id_row};
 use shop_history::{Key, Row};
@@ -17,10 +19,12 @@ pub(crate) fn shown(
     tables: &Tables,
     rows: &Rows,
     lists: &Lists,
+    added: &Additions,
     key: &Key,
 ) -> Option<Result<Row, Memory>>
     requires sound { Sound (tables_with tables.now rows.now) }
     requires lists { AreLists (tables_with tables.now rows.now) lists.now }
+    requires added { added.now.contents ≡ catalogues.added (tables_with tables.now rows.now) }
     ensures row { IfSome result (λ looked. IfOk looked (λ row. row ≡ row_of (tables_with tables.now rows.now) key.now)) }
     ensures list { result ≡ None → IsList key.now }
 {
@@ -39,5 +43,7 @@ pub(crate) fn shown(
         Key::Country(id) => Some(country_row(tables.countries.as_slice(), *id)),
         Key::Order(id) => Some(rows.order_row(*id)),
         Key::LastOrder(customer) => Some(Ok(rows.last_row(*customer))),
+        Key::Count => Some(Ok(Row::Number(rows.items.len() as u32))),
+        Key::Added(sought) => Some(added.row(sought)),
     }
 }

@@ -1,16 +1,18 @@
 //! The versions of all keys.
-ghost use Rattle.std.specs.Prelude.{◌≡◌, ◌≢◌, ℕ, ◌+◌, ◌<◌, ◌≤◌, length, Some, IfOk, unwrap_or};
+ghost use Rattle.std.specs.Prelude.{◌≡◌, ◌≢◌, ◌+◌, ◌<◌, ◌≤◌, length, Some, IfOk, unwrap_or};
 ghost use Rattle.std.specs.HashMap.{get, spare, Updates};
 ghost use Rattle.std.specs.Bool.{OnTrue};
 ghost use Rattle.shop_history.specs.declared.keys.Key.{Key};
+ghost use Rattle.shop_book.specs.Additions.{AreAdded};
 ghost use Rattle.shop_book.specs.Stored as spec;
 
+use crate::additions::Additions;
 use crate::columns::Column;
 use crate::places::{COLUMNS, place_of, sizes};
 use crate::puts::Put;
 use crate::rows::Rows;
 use shop_history::Key;
-use shop_model::AddressText;
+use shop_model::{AddressText, Tables};
 use shop_text::{Memory, Text};
 use std::alloc::Global;
 use std::collections::HashMap;
@@ -24,6 +26,8 @@ pub(crate) struct Versions {
     names: HashMap<Text, u64>,
     /// Of the texts that addresses came to say since.
     said: HashMap<AddressText, u64>,
+    /// The items that were added since, with the numbers that are their versions.
+    pub(crate) added: Additions,
 }
 
 /// The version of a text, or 0.
@@ -53,10 +57,12 @@ fn set_version<K: Eq + Hash + Drop>(versions: &mut HashMap<K, u64>, key: K, vers
 }
 
 impl Versions {
-    /// Version 0 for each row.
-    pub(crate) fn new(alloc: Global, rows: &Rows) -> Result<Versions, Memory>
+    /// Version 0 for each row of these tables.
+    pub(crate) fn new(alloc: Global, tables: &Tables, rows: &Rows) -> Result<Versions, Memory>
+        requires { tables.now.born_items ≡ length tables.now.items }
         ensures places { IfOk result (λ versions. spec.HasPlaces versions rows.now) }
         ensures none { IfOk result (λ versions. (key : Key) → spec.stored versions key ≡ 0) }
+        ensures added { IfOk result (λ versions. AreAdded tables.now versions.added) }
     {
         let mut columns = Vec::with_capacity(alloc, COLUMNS)?;
         for size in sizes(rows) {
@@ -66,16 +72,20 @@ impl Versions {
             columns,
             names: HashMap::new(alloc),
             said: HashMap::new(alloc),
+            added: Additions::new(alloc, tables.born_items, tables.authors.as_slice())?,
         })
     }
 
-    /// The version of a key that is a text.
-    fn of_text(&self, key: &Key) -> u64
-        ensures { result ≡ spec.stored_text self.now key.now }
+    /// The version of a key that has no place in a column.
+    fn of_apart(&self, key: &Key) -> u64
+        ensures { result ≡ spec.stored_apart self.now key.now }
     {
         match key {
             Key::Name(user) => version_at(&self.names, user),
             Key::SameAddress(text) => version_at(&self.said, text.get()),
+            Key::Label(id) => self.added.number_of(*id),
+            Key::Count => self.added.last_number(),
+            Key::Added(sought) => self.added.found_number(sought),
             _ => 0,
         }
     }
@@ -90,7 +100,23 @@ impl Versions {
                 Some(column) => column.at(id),
                 None => 0,
             },
-            None => self.of_text(key),
+            None => self.of_apart(key),
+        }
+    }
+
+    /// Gives a key that is a text this version, and leaves all others; takes no memory.
+    fn raise_text(&mut self, key: Key, version: u64)
+        requires text { spec.IsText key }
+        requires spare { spec.SpareFor key self.old }
+        ensures here { spec.stored self.new key ≡ version }
+        ensures others { (other : Key) → other ≢ key → spec.stored self.new other ≡ spec.stored self.old other }
+        ensures places { spec.MorePlaces self.old self.new }
+        ensures spare { spec.SparesOne self.old self.new }
+    {
+        match key {
+            Key::Name(user) => set_version(&mut self.names, user, version),
+            Key::SameAddress(text) => set_version(&mut self.said, text.into_inner(), version),
+            _other => unreachable!(),
         }
     }
 
@@ -105,11 +131,7 @@ impl Versions {
     {
         match place_of(&key) {
             Some((column, id)) => self.columns[column].set(id, version),
-            None => match key {
-                Key::Name(user) => set_version(&mut self.names, user, version),
-                Key::SameAddress(text) => set_version(&mut self.said, text.into_inner(), version),
-                _ => unreachable!(),
-            },
+            None => self.raise_text(key, version),
         }
     }
 
@@ -125,7 +147,7 @@ impl Versions {
 
     /// Gives so many rows that come into the table of a write a place; answers whether they have one.
     fn make_room_for(&mut self, rows: &Rows, put: &Put, more: usize) -> bool
-        requires { length self.old.columns.items ≡ 12 }
+        requires { length self.old.columns.items ≡ 11 }
         ensures room { OnTrue result (spec.HasRoomFor self.new rows.now more put.now) }
         ensures places { spec.MorePlaces self.old self.new }
         ensures same { (key : Key) → spec.stored self.new key ≡ spec.stored self.old key }
@@ -137,9 +159,9 @@ impl Versions {
             }
             Put::Customer(_) => {
                 let customers = rows.customers.len();
-                self.grow(2, customers, more)
+                self.grow(1, customers, more)
+                    && self.grow(2, customers, more)
                     && self.grow(7, customers, more)
-                    && self.grow(11, customers, more)
             }
             Put::Cart(_) => self.grow(3, rows.carts.len(), more),
             Put::Address(_, _) => self.grow(8, rows.addresses.len(), more),

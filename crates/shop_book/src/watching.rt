@@ -111,6 +111,7 @@ pub(crate) fn raise_changed(
     requires named { AreNamed rows.now.customers.items }
     ensures raised { (before t : Tables) → spec.AreOf before watched.items → RaisedFor before (tables_with t rows.now) number (spec.keys_of watched.items) (stored versions.old) (stored versions.new) }
     ensures places { HasPlaces versions.new rows.now }
+    ensures added { versions.new.added ≡ versions.old.added }
 {
     for kept in watched {
         raise_if_changed(versions, rows, kept, number);

@@ -1,17 +1,18 @@
 -- What the driver has read, round by round, and the attempt that it makes of a decision.
-use Rattle.std.proofs.Common.{◌≡◌, ℕ, suc, List, [], ◌∷◌, ◌++◌, ◌+◌, ◌≤◌, get_or, All, Some, None, refl, sym, ◌∙◌, ap, subst, arith}
+use Rattle.std.proofs.Common.{◌≡◌, ◌≢◌, ℕ, suc, List, [], ◌∷◌, ◌++◌, ◌+◌, ◌≤◌, All, Some, None, refl, sym, ◌∙◌, ap, subst, arith}
 use Rattle.std.proofs.lemmas.List.{append_assoc, append-nil, map-append}
-use Rattle.std.proofs.lemmas.List.Elements.{All-nil, All-cons, All-append, All-head, All-tail}
+use Rattle.std.proofs.lemmas.List.Elements.{All-nil, All-append, All-head, All-tail}
 use Rattle.shop_model.specs.declared.page.Page.{Page}
 use Rattle.shop_model.specs.declared.requests.IdsAsked.{IdsAsked}
 use Rattle.shop_model.specs.declared.requests.Request.{Request}
 use Rattle.shop_model.specs.declared.tables.Tables.{Tables}
-use Rattle.shop_model.specs.lists.Catalogues.{Catalogue, catalogue}
+use Rattle.shop_model.specs.lists.Catalogues.{Catalogue, opened}
 use Rattle.shop_history.specs.declared.acts.Drawn.{Drawn}
 use Rattle.shop_history.specs.declared.acts.Entry.{Entry}
 use Rattle.shop_history.specs.declared.keys.Key.{Key}
 use Rattle.shop_history.specs.Keys.{row_of}
 use Rattle.shop_history.specs.Logs.{tables}
+use Rattle.shop_history.proofs.cited.GoodTables.{sound_throughout}
 use Rattle.shop_history.proofs.cited.KeptTables.{kept}
 use Rattle.shop_cache.specs.declared.lines.ListLine.{ListLine}
 use Rattle.shop_draft.specs.declared.draft.Draft.{Draft}
@@ -31,7 +32,7 @@ use Rattle.shop_browse.specs.declared.attempted.Attempted.TheVariants as attempt
 use Rattle.shop_history.specs.declared.acts.Act.{Act}
 use Rattle.shop_attempt.specs.declared.attempts.Write.{Write}
 use Rattle.shop_browse.specs.Attempts.{AreReadFor, IsAttempt, AttemptedAs, Suits, asking_of}
-use Rattle.shop_browse.specs.Driver.{keys_of, Fits, FollowsOne, AreSeen, WereRead, MayRead, AsksFor, IsNext, AddsReads, attempt_with}
+use Rattle.shop_browse.specs.Driver.{keys_of, Fits, AreSeen, WereRead, MayRead, AsksFor, IsNext, AddsReads, attempt_with}
 use Rattle.shop_browse.specs.Footprints.{InFootprint}
 use Rattle.shop_browse.proofs.Items.{seat_sound}
 
@@ -41,10 +42,10 @@ read_since : (start now : Seat) (key : Key) (read : ReadOf) → Looked start now
 read_since start now key read looked is =
     since_now start now read.key read.row read.version looked (subst (λ (k : Key). IsReadAt now k (read.row, read.version)) (sym is.key_is) is.is)
 
-read_fits : (now : Seat) (key : Key) (read : ReadOf) → IsSeat now → IsReadOf now key read → Fits (catalogue now.opening) (tables now.opening now.seen) (read ∷ [])
+read_fits : (now : Seat) (key : Key) (read : ReadOf) → IsSeat now → IsReadOf now key read → Fits (opened now.opening) (tables now.opening now.seen) (read ∷ [])
 read_fits now key read valid is = record {
   sound = seat_sound now valid;
-  named = (kept now.opening now.seen).catalogue;
+  named = (kept now.opening now.seen valid.good.sound.born_items).catalogue;
   shows = (ap (row_of (tables now.opening now.seen)) is.key_is ∙ sym is.is.row, tt);
 }
 
@@ -65,6 +66,7 @@ read_adds start now key old new read looked valid of pushed = record {
   keys_are = ap (λ (k : Key). k ∷ []) of.key_is;
   since = (read_since start now key read looked of, tt);
   seen = ((tables now.opening now.seen, read_fits now key read valid of), tt);
+  valid = λ some. valid;
 }
 
 -- some of these rows were read, and these keys are left
@@ -73,10 +75,11 @@ pub record ReadsSome (start now : Seat) (keys left : List Key) (old new : List R
   pub added : new ≡ old ++ more
   pub keys_are : keys ≡ keys_of more ++ left
   pub since : AreReadSince start now more
-  pub seen : AreSeen (catalogue now.opening) more
+  pub seen : AreSeen (opened now.opening) more
+  pub valid : more ≢ [] → IsSeat now
 
 pub none_read : (seat : Seat) (keys left : List Key) (reads : List ReadOf) → keys ≡ left → ReadsSome seat seat keys left reads reads
-none_read seat keys left reads is = record { more = []; added = sym (append-nil reads); keys_are = is; since = tt; seen = tt }
+none_read seat keys left reads is = record { more = []; added = sym (append-nil reads); keys_are = is; since = tt; seen = tt; valid = λ some. absurd (some refl) }
 
 pub one_more : (start middle now : Seat) (keys before left : List Key) (key : Key) (old reads new : List ReadOf) → ReadsSome start middle keys before old reads
     → before ≡ key ∷ left → Looked start middle → Looked middle now → AddsReads middle now (key ∷ []) reads new → ReadsSome start now keys left old new
@@ -89,8 +92,9 @@ one_more start middle now keys before left key old reads new some is first secon
       ∙ sym (append_assoc (keys_of some.more) (keys_of adds.more) left)
       ∙ ap (λ (l : List Key). l ++ left) (sym (map-append (λ (r : ReadOf). r.key) some.more adds.more));
   since = since_append start now some.more adds.more (all_since_later start middle now some.more second some.since) (all_since_earlier start middle now adds.more first second adds.since);
-  seen = seen_append (catalogue now.opening) some.more adds.more
-      (subst (λ (t : Tables). AreSeen (catalogue t) some.more) (sym second.follows.opening) some.seen) adds.seen;
+  seen = seen_append (opened now.opening) some.more adds.more
+      (subst (λ (t : Tables). AreSeen (opened t) some.more) (sym second.follows.opening) some.seen) adds.seen;
+  valid = λ both. adds.valid (λ none. absurd (cc (adds.keys_are)));
 }
 
 pub all_read : (start now : Seat) (keys left : List Key) (old new : List ReadOf) → ReadsSome start now keys left old new → left ≡ [] → AddsReads start now keys old new
@@ -100,6 +104,7 @@ all_read start now keys left old new some none = record {
   keys_are = sym (some.keys_are ∙ ap (λ (l : List Key). keys_of some.more ++ l) none ∙ append-nil (keys_of some.more));
   since = some.since;
   seen = some.seen;
+  valid = some.valid;
 }
 
 -- a draft with the ids that a request hands on
@@ -107,40 +112,24 @@ pub with_ids : (draft : Draft) (page : IdsAsked → Page) (given : PageIds) (ids
     → Shows draft (λ drawn. page (ids_at drawn given)) → Shows draft (λ drawn. page ids)
 with_ids draft page given ids same shows drawn = subst (λ i. IsPage draft drawn (page i)) (same drawn) (shows drawn)
 
--- reads by their keys
-
-pub two_reads : (k l : Key) (reads : List ReadOf) (first second : ReadOf) → keys_of reads ≡ k ∷ l ∷ [] → first ≡ get_or reads 0 first → second ≡ get_or reads 1 second
-    → (reads ≡ first ∷ second ∷ []) × (first.key ≡ k) × (second.key ≡ l)
-two_reads k l [] first second are at then = absurd cc
-two_reads k l (one ∷ []) first second are at then = absurd cc
-two_reads k l (one ∷ two ∷ []) first second are at then = (cc, cc, cc)
-two_reads k l (one ∷ two ∷ other ∷ reads) first second are at then = absurd cc
-
--- the first round reads a row that the request is about
-pub asks_one : (k : Key) (request : Request) (ask : Ask) (round : ℕ) (reads : List ReadOf) → round ≡ 0 → FollowsOne k round reads
-    → ((opening : Tables) (log : List Entry) → ask.index.now ≡ catalogue opening → InFootprint opening log request ask.draw k)
-    → AsksFor (FollowsOne k) request ask round reads (k ∷ [])
-asks_one k request ask round reads is follows about = record {
-  few = omega (arith, is);
-  goes_on = λ more of.
-      let none : reads ≡ [] = subst (λ r. FollowsOne k r reads) is follows in
-      subst (λ r. FollowsOne k (suc r) (reads ++ more)) (sym is) (subst (λ l. FollowsOne k 1 (l ++ more)) (sym none) of);
-  may = λ opening log were.
-      let P : Key → Type 0 = InFootprint opening log request ask.draw in
-      All-cons P k [] (about opening log were.named) (All-nil P);
-}
-
 -- the rounds
 
 -- what holds of what a request has read since its call began
 pub record HasRead (start now : Seat) (request : Request) (ask : Ask) (reads : List ReadOf) : Type 0 where
-  pub same : ask.index.now ≡ catalogue now.opening
+  pub same : ask.index.now ≡ opened now.opening
   pub since : AreReadSince start now reads
   pub seen : AreSeen ask.index.now reads
   pub may : MayRead request ask reads (keys_of reads)
+  pub valid : reads ≢ [] → IsSeat now
 
 pub has_none : (start : Seat) (request : Request) (ask : Ask) (reads : List ReadOf) → Suits ask start → reads ≡ [] → HasRead start start request ask reads
-has_none start request ask [] suits none = record { same = suits.index; since = tt; seen = tt; may = λ opening log were. All-nil (InFootprint opening log request ask.draw) }
+has_none start request ask [] suits none = record {
+  same = suits;
+  since = tt;
+  seen = tt;
+  may = λ opening log were. All-nil (InFootprint opening log request ask.draw);
+  valid = λ some. absurd (some refl);
+}
 has_none start request ask (read ∷ reads) suits none = absurd cc
 
 true_front : (opening : Tables) (log : List Entry) (one other : List ReadOf) → AreTrue opening log (one ++ other) → AreTrue opening log one
@@ -158,16 +147,21 @@ more_may follows request ask round reads more keys may asks are opening log were
 pub has_more : (start middle now : Seat) (follows : ℕ → List ReadOf → Type 0) (request : Request) (ask : Ask) (round : ℕ) (reads new : List ReadOf) (keys : List Key) → Looked start middle → Looked middle now
     → HasRead start middle request ask reads → AsksFor follows request ask round reads keys → AddsReads middle now keys reads new → HasRead start now request ask new × follows (suc round) new
 has_more start middle now follows request ask round reads new keys first second has asks adds =
-    let same : ask.index.now ≡ catalogue now.opening = has.same ∙ ap catalogue (sym second.follows.opening) in
+    let same : ask.index.now ≡ opened now.opening = has.same ∙ ap opened (sym second.follows.opening) in
     subst (λ l. HasRead start now request ask l × follows (suc round) l) (sym adds.added) (
       record {
         same = same;
         since = since_append start now reads adds.more (all_since_later start middle now reads second has.since) (all_since_earlier start middle now adds.more first second adds.since);
         seen = seen_append ask.index.now reads adds.more has.seen (subst (λ c. AreSeen c adds.more) (sym same) adds.seen);
         may = more_may follows request ask round reads adds.more keys has.may asks adds.keys_are;
+        valid = λ some. either adds.more (λ before. second.follows.valid (has.valid before)) adds.valid some;
       },
       asks.goes_on adds.more adds.keys_are,
     )
+  where
+    either : (more : List ReadOf) → (reads ≢ [] → IsSeat now) → (more ≢ [] → IsSeat now) → reads ++ more ≢ [] → IsSeat now
+    either [] before behind some = before (λ none. some (append-nil reads ∙ none))
+    either (read ∷ more) before behind some = behind (λ none. absurd cc)
 
 -- what has been read in so many rounds
 pub record HasGone {Store : Type 0} (seat : Store → Seat) (marked : Store → ℕ → ℕ → Type 0) (first now : Store) (follows : ℕ → List ReadOf → Type 0) (request : Request) (ask : Ask) (round : ℕ) (reads : List ReadOf) : Type 0 where
@@ -204,10 +198,10 @@ next_is follows own request ask round reads seen draft next one same are is righ
 reads_for : (start now : Seat) (request : Request) (ask : Ask) (reads : List ReadOf) → HasRead start now request ask reads → AreReadFor start now (asking_of ask request) reads
 reads_for start now request ask [] has = tt
 reads_for start now request ask (read ∷ reads) has =
-    let seen = has.seen.0 in
+    let valid : IsSeat now = has.valid (λ none. absurd cc) in
     each (read ∷ reads) has.since (has.may now.opening now.seen (record {
       named = has.same;
-      sound = (seen.0, record { sound = seen.1.sound; named = seen.1.named; shows = tt });
+      sound = sound_throughout now.opening (now.limit + 1) valid.good now.seen valid.legal (omega (arith, valid.short));
       are = are_true start now (read ∷ reads) has.since;
     }))
   where
@@ -218,7 +212,7 @@ reads_for start now request ask (read ∷ reads) has =
         (record { since = since.0; footprint = All-head P r.key (keys_of rs) about }, each rs since.1 (All-tail P r.key (keys_of rs) about))
 
 -- tables that agree with what was read fit it
-fits : (c : Catalogue) (opening t : Tables) (reads : List ReadOf) → c ≡ catalogue opening → Agrees opening t reads → Fits c t reads
+fits : (c : Catalogue) (opening t : Tables) (reads : List ReadOf) → c ≡ opened opening → Agrees opening t reads → Fits c t reads
 fits c opening t reads is agrees = record { sound = agrees.sound; named = agrees.catalogue ∙ sym is; shows = agrees.shows }
 
 looks_only : (start now : Seat) (request : Request) (ask : Ask) (reads : List ReadOf) → HasRead start now request ask reads → IsAttempt start now (asking_of ask request) (attempt_with ask reads None None)

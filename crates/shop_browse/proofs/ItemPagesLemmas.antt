@@ -1,11 +1,11 @@
--- The pages of an item, by what was read of it, and by its author, whom a catalogue knows.
+-- The pages of an item, by what was read of it, and by its author, whom the catalogue knows.
 use Rattle.std.proofs.Common.{◌≡◌, ℕ, [], ◌∷◌, length, Option, Some, None, option_map, unwrap_or, refl, sym, ◌∙◌, ap}
 use Rattle.shop_model.specs.declared.author.Author.{Author}
 use Rattle.shop_model.specs.declared.page.Page.{Page}
 use Rattle.shop_model.specs.declared.refusal.Refusal.TheVariants.{NoItem}
 use Rattle.shop_model.specs.declared.tables.Tables.{Tables}
 use Rattle.shop_model.specs.asked.Refusals.{page_of}
-use Rattle.shop_model.specs.lists.Catalogues.{Catalogue, catalogue}
+use Rattle.shop_model.specs.lists.Catalogues.{Catalogue, opened}
 use Rattle.shop_model.specs.pages.AdminRequest.{admin_page}
 use Rattle.shop_model.specs.pages.ProductDetail.{product_page}
 use Rattle.shop_model.specs.pages.Show.{check_there, show, refused_or}
@@ -43,7 +43,7 @@ lists_none (Detail asked) = refl
 lists_none (Admin asked) = refl
 
 -- the author of an item is that of the tables
-pub author_is : (t : Tables) (c : Catalogue) (x : ItemRow) (author : Author) → catalogue t ≡ c → row_numbered c.authors x.author ≡ Some author → author_of t x ≡ author
+pub author_is : (t : Tables) (c : Catalogue) (x : ItemRow) (author : Author) → opened t ≡ c → row_numbered c.authors x.author ≡ Some author → author_of t x ≡ author
 author_is t c x author named there =
     ap (λ o. unwrap_or o (record { id = 0; first = []; last = [] })) (ap (λ (d : Catalogue). row_numbered d.authors x.author) named ∙ there)
 
@@ -57,7 +57,7 @@ module _ (page : ItemPage) (read : ReadOf) (key_is : read.key ≡ key.Item (item
     found : (t : Tables) → Fits ask.index.now t (read ∷ []) → row_numbered t.items (item_of page) ≡ Some x
     found t fits = item_found (row_numbered t.items (item_of page)) x (ap (row_of t) (sym key_is) ∙ fits.shows.0 ∙ is)
 
-    pub item_shown : (draft : Draft) (p : Page) → ((t : Tables) → catalogue t ≡ ask.index.now → page_at t page x ≡ p) → Shows draft (λ drawn. p) → IsPageFor (request_of page) ask (read ∷ []) draft
+    pub item_shown : (draft : Draft) (p : Page) → ((t : Tables) → opened t ≡ ask.index.now → page_at t page x ≡ p) → Shows draft (λ drawn. p) → IsPageFor (request_of page) ask (read ∷ []) draft
     item_shown draft p page_is written t fits =
         shows_page t (request_of page) ask.draw draft p (by_row t ask.draw page (Some x) (found t fits) ∙ ap Some (page_is t fits.named)) written
 

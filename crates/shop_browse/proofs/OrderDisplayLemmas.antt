@@ -1,6 +1,7 @@
 -- What Order Display shows, by what it has read.
-use Rattle.std.proofs.Common.{◌≡◌, ℕ, List, [], ◌∷◌, length, get_or, All, Option, Some, None, IfSome, option_map, unwrap_or, refl, sym, ◌∙◌, ap, subst}
-use Rattle.std.proofs.lemmas.List.Elements.{All-nil, All-cons, All-head, All-tail}
+use Rattle.std.proofs.Common.{◌≡◌, ℕ, ◌-◌, List, [], ◌∷◌, length, take, drop, get_or, Option, Some, None, IfSome, option_map, unwrap_or, refl, sym, ◌∙◌, ap, subst}
+use Rattle.std.proofs.lemmas.List.{length-map}
+use Rattle.std.proofs.Math.ListN.{get_or-map}
 use Rattle.shop_model.specs.declared.address.Address.{Address}
 use Rattle.shop_model.specs.declared.buying.OrderDisplay as asked_for
 use Rattle.shop_model.specs.declared.refusal.Refusal.TheVariants.{NoUserName, WrongPassword}
@@ -8,19 +9,19 @@ use Rattle.shop_model.specs.declared.requests.Request.TheVariants.{OrderDisplay}
 use Rattle.shop_model.specs.declared.tables.Tables.{Tables}
 use Rattle.shop_model.specs.asked.CustomersAsked.{LoginAsked}
 use Rattle.shop_model.specs.asked.Refusals.{page_of}
-use Rattle.shop_model.specs.lists.Catalogues.{Catalogue, naming, catalogue}
+use Rattle.shop_model.specs.lists.Catalogues.{Catalogue}
 use Rattle.shop_model.specs.pages.OrderDisplay.{last_page, order_page, no_order_page}
 use Rattle.shop_model.specs.pages.Show.{show, refused_or}
-use Rattle.shop_model.specs.rows.Lookups.{row_numbered, joined, order_of, last_order, country_name}
+use Rattle.shop_model.specs.rows.Lookups.{row_numbered, joined, order_of, last_order, country_name, title_of}
 use Rattle.shop_model.specs.rows.Rows.{CountryRow, CustomerRow, LineRow, OrderRow}
-use Rattle.shop_model.specs.rows.Sound.{Has, Sound, OrderNames}
+use Rattle.shop_model.specs.rows.Sound.{Has, Sound}
 use Rattle.shop_model.specs.trade.Buyers.{customer_named, check_password}
 use Rattle.shop_history.specs.declared.keys.Key.{Key}
 use Rattle.shop_history.specs.declared.keys.Key.TheVariants as key
 use Rattle.shop_history.specs.declared.keys.Row.{Row}
 use Rattle.shop_history.specs.declared.keys.Row.TheVariants as row
 use Rattle.shop_history.specs.Keys.{row_of}
-use Rattle.shop_history.proofs.cited.Places.{all_numbered, some_row}
+use Rattle.shop_history.proofs.cited.Places.{all_numbered}
 use Rattle.shop_attempt.specs.declared.attempts.ReadOf.{ReadOf}
 use Rattle.shop_attempt.specs.Reads.{Shows}
 use Rattle.shop_browse.specs.Driver.{keys_of, Fits}
@@ -28,8 +29,12 @@ use Rattle.shop_model.specs.declared.refusal.Refusal.{Refusal}
 use Rattle.shop_browse.proofs.Items.{row_missing}
 use Rattle.shop_browse.proofs.Logins.{customer_of_name, no_name, password_passes, password_fails}
 use Rattle.shop_browse.proofs.Rows.{shown_some, found_by, there_shown}
-use Rattle.shop_browse.proofs.cited.Titles.{item_named}
-use Rattle.shop_browse.specs.OrderDisplay.{Then, Ends, HasUser, HasLogin, HasLast, HasOrder, HasAddress, HasAll, IsThere, HaveItems, ShipsTo}
+use Rattle.shop_browse.proofs.OrderReads.{order_names, items_there}
+use Rattle.shop_browse.proofs.cited.Names.{titles_known}
+use Rattle.shop_browse.proofs.cited.Reads.{rest_of}
+use Rattle.shop_browse.specs.declared.names.Names.{Names}
+use Rattle.shop_browse.specs.Names.{known_title, label_keys}
+use Rattle.shop_browse.specs.OrderDisplay.{Then, Ends, HasUser, HasLogin, HasLast, HasOrder, HasAddress, HasAll, HaveItems, ShipsTo, items_of}
 
 -- one read more, behind what holds of those so far
 then_shows : (t : Tables) (before : List ReadOf → Type 0) (k : Key) (r : Row) (rest : List ReadOf) → ((all : List ReadOf) → before all → Shows t all) → Then before k r rest
@@ -203,18 +208,6 @@ module _ (asked : LoginAsked) (reads : List ReadOf) (at : (order : ℕ) × Ends 
       let found = there_shown row.Order t.orders at.0 at.1.read.row (last_there t fits.sound asked reads fits.shows at.0 last.0) (ap (row_of t) (sym at.1.key_is) ∙ last.1.0) in
       (found.0, ap (λ (r : ReadOf). r.row) order_read ∙ found.1)
 
--- the items of lines, which the tables have, are in their catalogue
-lines_there : (c : Catalogue) (t : Tables) → catalogue t ≡ c → (lines : List LineRow) → All (λ l. Has (length t.items) l.item) lines → All (IsThere c) lines
-lines_there c t named [] within = All-nil (IsThere c)
-lines_there c t named (line ∷ lines) within =
-    let P : LineRow → Type 0 = λ l. Has (length t.items) l.item in
-    let item = some_row t.items line.item (All-head P line lines within) in
-    All-cons (IsThere c) line lines (naming item.0, item_named c t named line.item ∙ ap (option_map naming) item.1) (lines_there c t named lines (All-tail P line lines within))
-
--- what an order names is there
-order_names : (t : Tables) (order : OrderRow) (id : ℕ) → Sound t → row_numbered t.orders id ≡ Some order → OrderNames t order
-order_names t order id sound is = all_numbered (OrderNames t) t.orders id order is sound.names.orders
-
 -- the address
 
 module _ (asked : LoginAsked) (reads : List ReadOf) (order : OrderRow) (at : Ends (HasOrder asked order reads) (key.Address order.ship_address)) (d : ReadOf) where
@@ -236,9 +229,9 @@ module _ (asked : LoginAsked) (reads : List ReadOf) (order : OrderRow) (at : End
 
 -- all that is read
 
-module _ (asked : asked_for.OrderDisplay) (reads : List ReadOf) (all : HasAll asked.login reads) where
+module _ (asked : asked_for.OrderDisplay) (c : Catalogue) (reads : List ReadOf) (all : HasAll asked.login c reads) where
   reads_of : reads
-      ≡ all.is.has.has.is.has.is.has.is.has.read ∷ all.is.has.has.is.has.is.has.is.read ∷ all.is.has.has.is.has.is.read ∷ all.is.has.has.is.read ∷ all.is.has.read ∷ all.is.read ∷ []
+      ≡ all.is.has.has.is.has.is.has.is.has.read ∷ all.is.has.has.is.has.is.has.is.read ∷ all.is.has.has.is.has.is.read ∷ all.is.has.has.is.read ∷ all.is.has.read ∷ all.is.read ∷ all.labels
   reads_of = all.is.has.has.is.has.is.has.is.has.has
 
   pub all_order : (d : ReadOf) → (get_or reads 3 d).row ≡ row.Order all.order
@@ -247,11 +240,15 @@ module _ (asked : asked_for.OrderDisplay) (reads : List ReadOf) (all : HasAll as
   pub all_address : (d : ReadOf) → (get_or reads 4 d).row ≡ row.Address all.address
   all_address d = ap (λ (l : List ReadOf). (get_or l 4 d).row) reads_of ∙ all.is.has.row_is
 
+  -- the labels are behind the sixth
+  pub labels_behind : take (length reads - 6) (drop 6 reads) ≡ all.labels
+  labels_behind = rest_of 6 reads ∙ ap (drop 6) reads_of
+
   -- what tables show of it
-  module _ (c : Catalogue) (t : Tables) (fits : Fits c t reads) where
-    address_found : (row_numbered t.addresses all.order.ship_address ≡ Some all.address) × Shows t (all.is.read ∷ [])
+  module _ (t : Tables) (fits : Fits c t reads) where
+    address_found : (row_numbered t.addresses all.order.ship_address ≡ Some all.address) × Shows t (all.is.read ∷ all.labels)
     address_found =
-        let behind = then_shows t (HasOrder asked.login all.order reads) _ _ (all.is.read ∷ []) (λ rest is. (order_is t fits.sound asked.login reads fits.shows all.order rest is).3) all.is.has in
+        let behind = then_shows t (HasOrder asked.login all.order reads) _ _ (all.is.read ∷ all.labels) (λ rest is. (order_is t fits.sound asked.login reads fits.shows all.order rest is).3) all.is.has in
         (found_by row.Address (λ x is. absurd cc) (λ x y is. cc) (row_numbered t.addresses all.order.ship_address) all.address behind.0, behind.1)
 
     pub country_there : (d : ReadOf) → (x : CountryRow) × ((get_or reads 5 d).row ≡ row.Country x)
@@ -273,14 +270,19 @@ module _ (asked : asked_for.OrderDisplay) (reads : List ReadOf) (all : HasAll as
           country_is = ap (λ o. country_name t (unwrap_or (option_map (λ (a : Address). a.text.country) o) 0)) address.0 ∙ ap (λ o. unwrap_or (option_map (λ (x : CountryRow). x.name) o) []) country;
         }
 
-    pub have_items : HaveItems t c all.order.lines
-    have_items =
-        let is = order_is t fits.sound asked.login reads fits.shows all.order (all.is.has.read ∷ all.is.read ∷ []) all.is.has.has in
-        record { named = fits.named; there = lines_there c t fits.named all.order.lines (order_names t all.order is.0 fits.sound is.2).items }
+    pub have_items : (names : Names) → names.index.now ≡ c → names.labels.now ≡ all.labels → (lines : List LineRow) → lines ≡ all.order.lines → HaveItems t names lines
+    have_items names same labels lines lines_are =
+        let is = order_is t fits.sound asked.login reads fits.shows all.order (all.is.has.read ∷ all.is.read ∷ all.labels) all.is.has.has in
+        let item : LineRow → ℕ = λ l. l.item in
+        let items : List ℕ = items_of all.order.lines in
+        let known = titles_known names t (fits.named ∙ sym same) (subst (Shows t) (sym labels) address_found.1.1) items
+        (ap keys_of labels ∙ all.labels_are ∙ ap (λ d. label_keys d items) (sym same)) (items_there t all.order (order_names t all.order is.0 fits.sound is.2)) in
+        subst (HaveItems t names) (sym lines_are)
+        (λ k d within. subst (λ i. known_title names i ≡ Some (title_of t i)) (get_or-map item all.order.lines k d) (known k (item d) (rw length-map within)))
 
     pub order_shown : (draw : ℕ) → show t (OrderDisplay asked) draw ≡ Some (order_page t asked.ids all.order)
     order_shown draw =
-        let is = order_is t fits.sound asked.login reads fits.shows all.order (all.is.has.read ∷ all.is.read ∷ []) all.is.has.has in
+        let is = order_is t fits.sound asked.login reads fits.shows all.order (all.is.has.read ∷ all.is.read ∷ all.labels) all.is.has.has in
         let login : LogsIn t asked.login is.1.id = is.1.login in
         let last : joined (row_numbered t.last login.customer.id) ≡ Some is.0 = ap (λ n. joined (row_numbered t.last n)) login.id_is ∙ is.1.last in
         login_shows t asked draw login.customer (Some is.0) login.named login.passes last ∙ ap (λ (o : Option OrderRow). Some (last_page t asked.ids o)) is.2

@@ -1,12 +1,15 @@
 -- What Order Display asks for, round by round, by what it has read.
-use Rattle.std.proofs.Common.{◌≡◌, ℕ, List, [], ◌∷◌, ◌++◌, take, All, refl, sym, ◌∙◌, ap, subst, inl, inr, arith}
-use Rattle.std.proofs.lemmas.List.Elements.{All-nil, All-cons}
+use Rattle.std.proofs.Common.{◌≡◌, ℕ, List, [], ◌∷◌, ◌++◌, length, take, All, Some, refl, sym, ◌∙◌, ap, subst, inl, inr, arith}
+use Rattle.std.proofs.lemmas.List.Elements.{All-nil, All-cons, All-map}
 use Rattle.shop_model.specs.declared.address.Address.{Address}
 use Rattle.shop_model.specs.declared.buying.OrderDisplay as asked_for
 use Rattle.shop_model.specs.declared.requests.Request.TheVariants.{OrderDisplay}
 use Rattle.shop_model.specs.declared.tables.Tables.{Tables}
 use Rattle.shop_model.specs.asked.CustomersAsked.{LoginAsked}
-use Rattle.shop_model.specs.rows.Rows.{OrderRow}
+use Rattle.shop_model.specs.lists.Catalogues.{Catalogue}
+use Rattle.shop_model.specs.rows.Lookups.{row_numbered}
+use Rattle.shop_model.specs.rows.Rows.{LineRow, OrderRow}
+use Rattle.shop_model.specs.rows.Sound.{Has, Sound, OrderNames}
 use Rattle.shop_history.specs.declared.acts.Entry.{Entry}
 use Rattle.shop_history.specs.declared.keys.Key.{Key}
 use Rattle.shop_history.specs.declared.keys.Key.TheVariants as key
@@ -14,12 +17,16 @@ use Rattle.shop_history.specs.declared.keys.Row.{Row}
 use Rattle.shop_history.specs.declared.keys.Row.TheVariants as row
 use Rattle.shop_history.specs.Keys.{row_of}
 use Rattle.shop_history.specs.Logs.{history, tables}
+use Rattle.shop_history.proofs.cited.Places.{all_numbered}
 use Rattle.shop_attempt.specs.declared.attempts.ReadOf.{ReadOf}
 use Rattle.shop_attempt.specs.Reads.{AreTrue}
 use Rattle.shop_browse.specs.declared.attempted.Ask.{Ask}
 use Rattle.shop_browse.specs.Driver.{keys_of, AsksFor}
 use Rattle.shop_browse.specs.Footprints.{InFootprint, WasShown, IsOfOrder}
-use Rattle.shop_browse.specs.OrderDisplay.{Then, Ends, HasUser, HasLogin, HasLast, HasOrder, HasAddress, FollowsDisplay}
+use Rattle.shop_browse.specs.Names.{label_keys}
+use Rattle.shop_browse.specs.OrderDisplay.{Then, Ends, HasUser, HasLogin, HasLast, HasOrder, HasAddress, HasAll, FollowsDisplay, items_of}
+use Rattle.shop_browse.proofs.Rows.{found_by}
+use Rattle.shop_browse.proofs.cited.Names.{labels_may}
 
 -- one read more, behind what holds of those so far
 
@@ -74,6 +81,16 @@ module _ (opening : Tables) (log : List Entry) (asked : LoginAsked) (reads : Lis
       let last = then_true opening log (HasLogin asked has.id reads) _ _ rest (λ all is. (login_true has.id all is).1) has.is in
       record { id = has.id; named = login.0; last = last.0; behind = last.1 }
 
+  order_true : (order : OrderRow) (rest : List ReadOf) (has : HasOrder asked order reads rest) → WasShown opening log (key.Order has.id) (row.Order order)
+  order_true order rest has = (then_true opening log (HasLast asked has.id reads) _ _ rest (λ all is. (last_true has.id all is).behind) has.is).0
+
+-- what an order names is there
+pub order_names : (t : Tables) (order : OrderRow) (id : ℕ) → Sound t → row_numbered t.orders id ≡ Some order → OrderNames t order
+order_names t order id sound is = all_numbered (OrderNames t) t.orders id order is sound.names.orders
+
+pub items_there : (t : Tables) (order : OrderRow) → OrderNames t order → All (Has (length t.items)) (items_of order.lines)
+items_there t order names = All-map (Has (length t.items)) (λ (l : LineRow). l.item) order.lines names.items
+
 -- what is asked for next
 
 one_key : (k : Key) (after : List ReadOf → Type 0) (more : List ReadOf) → after more → keys_of more ≡ k ∷ [] → Ends after k
@@ -81,14 +98,14 @@ one_key k after [] has are = absurd cc
 one_key k after (read ∷ []) has are = record { read = read; has = has; key_is = cc }
 one_key k after (read ∷ other ∷ more) has are = absurd cc
 
-module _ (asked : asked_for.OrderDisplay) (ask : Ask) (reads : List ReadOf) where
+module _ (c : Catalogue) (asked : asked_for.OrderDisplay) (ask : Ask) (reads : List ReadOf) where
   -- a row that an order's request is about
   one_may : (opening : Tables) (log : List Entry) (k : Key) → IsOfOrder opening log asked.login.user k → All (InFootprint opening log (OrderDisplay asked) ask.draw) (k ∷ [])
   one_may opening log k is =
       let P : Key → Type 0 = InFootprint opening log (OrderDisplay asked) ask.draw in
       All-cons P k [] (inl (inr is)) (All-nil P)
 
-  pub asks_customer : (id : ℕ) → HasUser asked.login.user id reads [] → AsksFor (FollowsDisplay asked) (OrderDisplay asked) ask 1 reads (key.Customer id ∷ [])
+  pub asks_customer : (id : ℕ) → HasUser asked.login.user id reads [] → AsksFor (FollowsDisplay asked c) (OrderDisplay asked) ask 1 reads (key.Customer id ∷ [])
   asks_customer id has = record {
     few = omega arith;
     goes_on = λ more of. (id, one_key (key.Customer id) (HasUser asked.login.user id (reads ++ more)) more (user_more asked.login reads more id [] has) of);
@@ -98,14 +115,14 @@ module _ (asked : asked_for.OrderDisplay) (ask : Ask) (reads : List ReadOf) wher
         All-cons P (key.Customer id) [] (inl (inl (inr (id, named, refl)))) (All-nil P);
   }
 
-  pub asks_last : (id : ℕ) → HasLogin asked.login id reads [] → AsksFor (FollowsDisplay asked) (OrderDisplay asked) ask 2 reads (key.LastOrder id ∷ [])
+  pub asks_last : (id : ℕ) → HasLogin asked.login id reads [] → AsksFor (FollowsDisplay asked c) (OrderDisplay asked) ask 2 reads (key.LastOrder id ∷ [])
   asks_last id has = record {
     few = omega arith;
     goes_on = λ more of. (id, one_key (key.LastOrder id) (HasLogin asked.login id (reads ++ more)) more (login_more asked.login reads more id [] has) of);
     may = λ opening log were. one_may opening log (key.LastOrder id) (id, (login_true opening log asked.login reads were.are id [] has).0, inl refl);
   }
 
-  pub asks_order : (order : ℕ) → HasLast asked.login order reads [] → AsksFor (FollowsDisplay asked) (OrderDisplay asked) ask 3 reads (key.Order order ∷ [])
+  pub asks_order : (order : ℕ) → HasLast asked.login order reads [] → AsksFor (FollowsDisplay asked c) (OrderDisplay asked) ask 3 reads (key.Order order ∷ [])
   asks_order order has = record {
     few = omega arith;
     goes_on = λ more of. (order, one_key (key.Order order) (HasLast asked.login order (reads ++ more)) more (last_more asked.login reads more order [] has) of);
@@ -114,26 +131,40 @@ module _ (asked : asked_for.OrderDisplay) (ask : Ask) (reads : List ReadOf) wher
         one_may opening log (key.Order order) (last.id, last.named, inr (order, last.last, inl refl));
   }
 
-  pub asks_address : (order : OrderRow) → HasOrder asked.login order reads [] → AsksFor (FollowsDisplay asked) (OrderDisplay asked) ask 4 reads (key.Address order.ship_address ∷ [])
+  pub asks_address : (order : OrderRow) → HasOrder asked.login order reads [] → AsksFor (FollowsDisplay asked c) (OrderDisplay asked) ask 4 reads (key.Address order.ship_address ∷ [])
   asks_address order has = record {
     few = omega arith;
     goes_on = λ more of. (order, one_key (key.Address order.ship_address) (HasOrder asked.login order (reads ++ more)) more (order_more asked.login reads more order [] has) of);
     may = λ opening log were.
         let last = last_true opening log asked.login reads were.are has.id (has.is.read ∷ []) has.is.has in
-        let was = (then_true opening log (HasLast asked.login has.id reads) _ _ [] (λ all is. (last_true opening log asked.login reads were.are has.id all is).behind) has.is).0 in
+        let was = order_true opening log asked.login reads were.are order [] has in
         one_may opening log (key.Address order.ship_address) (last.id, last.named, inr (has.id, last.last, inr (order, was, refl)));
   }
 
-  pub asks_country : (order : OrderRow) (address : Address) → HasAddress asked.login order address reads [] → AsksFor (FollowsDisplay asked) (OrderDisplay asked) ask 5 reads (key.Country address.text.country ∷ [])
-  asks_country order address has = record {
+  pub asks_last_keys : (order : OrderRow) (address : Address) → HasAddress asked.login order address reads []
+      → AsksFor (FollowsDisplay asked c) (OrderDisplay asked) ask 5 reads (key.Country address.text.country ∷ label_keys c (items_of order.lines))
+  asks_last_keys order address has = record {
     few = omega arith;
-    goes_on = λ more of. record {
-      order = order;
-      address = address;
-      is = one_key (key.Country address.text.country) (HasAddress asked.login order address (reads ++ more)) more
-          (then_more _ _ _ _ [] more (λ all. order_more asked.login reads more order all) has) of;
-    };
+    goes_on = λ more of. goes more of;
     may = λ opening log were.
         let P : Key → Type 0 = InFootprint opening log (OrderDisplay asked) ask.draw in
-        All-cons P (key.Country address.text.country) [] (inr (inr (address.text.country, refl))) (All-nil P);
+        let was = order_true opening log asked.login reads were.are order (has.read ∷ []) has.has in
+        let t : Tables = tables opening (take was.front log) in
+        let found : row_numbered t.orders has.has.id ≡ Some order = found_by row.Order (λ x is. absurd cc) (λ x y is. cc) (row_numbered t.orders has.has.id) order was.is in
+        All-cons P (key.Country address.text.country) (label_keys c (items_of order.lines)) (inr (inr (address.text.country, refl)))
+        (labels_may c opening log was.front (OrderDisplay asked) ask.draw (items_of order.lines) (items_there t order (order_names t order has.has.id (were.sound was.front) found)));
   }
+    where
+      goes : (more : List ReadOf) → keys_of more ≡ key.Country address.text.country ∷ label_keys c (items_of order.lines) → HasAll asked.login c (reads ++ more)
+      goes [] of = absurd cc
+      goes (read ∷ labels) of = record {
+        order = order;
+        address = address;
+        labels = labels;
+        is = record {
+          read = read;
+          has = then_more _ _ _ _ [] (read ∷ labels) (λ all. order_more asked.login reads (read ∷ labels) order all) has;
+          key_is = cc;
+        };
+        labels_are = cc;
+      }

@@ -1,22 +1,18 @@
 -- The lists of a subject: that their rows may be read, and what their lines show.
-use Rattle.std.proofs.Common.{◌≡◌, ℕ, List, [], ◌∷◌, length, All, Some, inl, refl}
+use Rattle.std.proofs.Common.{◌≡◌, ℕ, List, length, All, Some, inl, refl}
 use Rattle.shop_model.specs.declared.tables.Tables.{Tables}
-use Rattle.shop_model.specs.lists.Catalogues.{Catalogue}
 use Rattle.shop_model.specs.pages.Show.{show}
 use Rattle.shop_model.specs.rows.Sound.{Has, Sound}
 use Rattle.shop_history.specs.declared.acts.Entry.{Entry}
 use Rattle.shop_history.specs.Keys.{row_of}
 use Rattle.shop_cache.specs.declared.keys.ListKey.TheVariants as list_key
 use Rattle.shop_cache.specs.declared.lines.ListLine.{ListLine}
-use Rattle.shop_attempt.specs.declared.attempts.ReadOf.{ReadOf}
 use Rattle.shop_browse.specs.declared.subject_lists.SubjectList.{SubjectList}
 use Rattle.shop_browse.specs.declared.subject_lists.SubjectList.TheVariants.{New, Best}
-use Rattle.shop_browse.specs.Driver.{Fits}
 use Rattle.shop_browse.specs.Footprints.{InFootprint}
-use Rattle.shop_browse.specs.Lines.{AreLinesOf, items_in}
-use Rattle.shop_browse.specs.Lists.{AreListed}
+use Rattle.shop_browse.specs.Lines.{items_in}
+use Rattle.shop_browse.specs.Lists.{AreLines, AreListed}
 use Rattle.shop_browse.specs.SubjectLists.{request_of, key_of, page_of}
-use Rattle.shop_browse.proofs.LinesLemmas.{key_lines}
 use Rattle.shop_browse.proofs.ListedItems.{newest_within, best_within}
 use Rattle.shop_browse.proofs.cited.Lists.{listed_shown}
 
@@ -24,12 +20,9 @@ pub may_read : (list : SubjectList) (opening : Tables) (log : List Entry) (draw 
 may_read (New asked) opening log draw = inl refl
 may_read (Best asked) opening log draw = inl refl
 
-pub listed_by : (list : SubjectList) (c : Catalogue) (reads : List ReadOf) (read : ReadOf) → (reads ≡ read ∷ []) × (read.key ≡ key_of list) → (items : List ℕ) → items ≡ items_in read.row
-    → (lines : List ListLine) → AreLinesOf c items (Some lines) → (t : Tables) → Fits c t reads → AreListed t (request_of list) lines
-listed_by (New asked) c reads read one items are lines of t fits =
-    record { key = list_key.New asked.now.subject; asked = refl; are = key_lines c (key_of (New asked)) reads read one items are t fits lines of }
-listed_by (Best asked) c reads read one items are lines of t fits =
-    record { key = list_key.Best asked.now.subject; asked = refl; are = key_lines c (key_of (Best asked)) reads read one items are t fits lines of }
+pub listed_by : (list : SubjectList) (t : Tables) (lines : List ListLine) → AreLines t (items_in (row_of t (key_of list))) lines → AreListed t (request_of list) lines
+listed_by (New asked) t lines are = record { key = list_key.New asked.now.subject; asked = refl; are = are }
+listed_by (Best asked) t lines are = record { key = list_key.Best asked.now.subject; asked = refl; are = are }
 
 pub page_shown : (list : SubjectList) (t : Tables) (draw : ℕ) (lines : List ListLine) → AreListed t (request_of list) lines → show t (request_of list) draw ≡ Some (page_of list lines)
 page_shown (New asked) t draw lines listed = listed_shown t (request_of (New asked)) draw lines listed

@@ -1,4 +1,4 @@
 pub mod Reads
-pub mod Sizes
-pub mod Titles
+pub mod Counting
+pub mod Names
 pub mod Lists

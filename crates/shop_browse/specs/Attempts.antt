@@ -1,10 +1,10 @@
 -- What an attempt call answers, and writes.
-use Rattle.std.specs.Prelude.{◌≡◌, ℕ, ◌≤◌, List, [], ◌∷◌, length, Option, Some, None}
+use Rattle.std.specs.Prelude.{◌≡◌, ℕ, ◌≤◌, List, [], ◌∷◌, Option, Some, None}
 use Rattle.shop_model.specs.declared.page.Page.{Page}
 use Rattle.shop_model.specs.declared.requests.Request.{Request}
 use Rattle.shop_model.specs.declared.tables.Tables.{Tables}
 use Rattle.shop_model.specs.declared.tax.TaxRule.{TaxRule}
-use Rattle.shop_model.specs.lists.Catalogues.{catalogue}
+use Rattle.shop_model.specs.lists.Catalogues.{opened}
 use Rattle.shop_model.specs.rows.Limits.{stamp_limit}
 use Rattle.shop_model.specs.pages.Show.{show}
 use Rattle.shop_history.specs.declared.acts.Act.{Act}
@@ -27,10 +27,9 @@ use Rattle.shop_browse.specs.Baskets.{HasBasket}
 use Rattle.shop_browse.specs.Footprints.{InFootprint}
 use Rattle.shop_browse.specs.Lists.{AreListed}
 
--- an ask of the opening tables: its index is of their catalogue, and its scale has as many items
-pub record Suits (ask : Ask) (seat : Seat) : Type 0 where
-  pub index : ask.index.now ≡ catalogue seat.opening
-  pub scale : ask.scale.now.items ≡ length seat.opening.items
+-- an ask of the opening tables: its index is of their catalogue
+abbrev pub Suits : Ask → Seat → Type 0
+Suits ask seat = ask.index.now ≡ opened seat.opening
 
 -- a request, its moment, the word that was drawn for it, and the rule of the tax, if it is a purchase
 pub record Asking : Type 0 where
@@ -105,7 +104,7 @@ pub record IsList (start now : Seat) (asking : Asking) (draft : Draft) (attempt 
 pub record IsPayable (start now : Seat) (asking : Asking) (attempt : Attempt) : Type 0 where
   pub attempts : IsAttempt start now asking attempt
   pub reading : attempt.act ≡ None
-  pub basket : HasBasket (catalogue now.opening) asking.tax asking.request attempt.reads
+  pub basket : HasBasket (opened now.opening) asking.tax asking.request attempt.reads
 
 -- no tables agree with the reads
 pub record IsContradiction (start now : Seat) (asking : Asking) (attempt : Attempt) : Type 0 where

@@ -60,7 +60,7 @@ pub record IsBasket (tax : TaxRule) (asked : PurchaseAsked) (reads : List ReadOf
 abbrev pub IsBasketFor : TaxRule → Request → List ReadOf → Type 0
 IsBasketFor tax request reads = (asked : PurchaseAsked) × (request ≡ BuyConfirm asked) × IsBasket tax asked reads
 
--- each of these rows was shown by some sound tables of the catalogue
+-- each of these rows was shown by some sound tables that opened with the catalogue
 pub record HasBasket (c : Catalogue) (tax : TaxRule) (request : Request) (reads : List ReadOf) : Type 0 where
   pub basket : IsBasketFor tax request reads
   pub seen : AreSeen c reads

@@ -1,13 +1,15 @@
 -- The driver of interactions: what one may do next by what it has read, and the attempt of what it decides.
-use Rattle.std.specs.Prelude.{◌≡◌, ℕ, zero, suc, ◌≤◌, List, [], ◌∷◌, ◌++◌, length, All, Option, Some, None}
+use Rattle.std.specs.Prelude.{◌≡◌, ◌≢◌, ℕ, zero, suc, ◌≤◌, List, [], ◌∷◌, ◌++◌, take, All, Option, Some, None}
 use Rattle.shop_model.specs.declared.requests.Request.{Request}
 use Rattle.shop_model.specs.declared.tables.Tables.{Tables}
-use Rattle.shop_model.specs.lists.Catalogues.{Catalogue, catalogue}
+use Rattle.shop_model.specs.lists.Catalogues.{Catalogue, opened}
 use Rattle.shop_model.specs.rows.Limits.{stamp_limit}
+use Rattle.shop_model.specs.rows.Sound.{Sound}
 use Rattle.shop_history.specs.declared.acts.Act.{Act}
 use Rattle.shop_history.specs.declared.acts.Entry.{Entry}
 use Rattle.shop_history.specs.declared.keys.Key.{Key}
 use Rattle.shop_history.specs.Acts.{IsActOf}
+use Rattle.shop_history.specs.Logs.{tables}
 use Rattle.shop_cache.specs.Keys.{key_asked}
 use Rattle.shop_draft.specs.declared.draft.Draft.{Draft}
 use Rattle.shop_attempt.specs.declared.attempts.Attempt.{Attempt}
@@ -15,7 +17,7 @@ use Rattle.shop_attempt.specs.declared.attempts.ReadOf.{ReadOf}
 use Rattle.shop_attempt.specs.declared.attempts.Write.{Write}
 use Rattle.shop_attempt.specs.Faithful.{Makes}
 use Rattle.shop_attempt.specs.Reads.{AreTrue, AreReadSince}
-use Rattle.shop_attempt.specs.Seats.{Seat}
+use Rattle.shop_attempt.specs.Seats.{Seat, IsSeat}
 use Rattle.shop_browse.specs.declared.attempted.Ask.{Ask}
 use Rattle.shop_browse.specs.declared.driver.Next.{Next}
 use Rattle.shop_browse.specs.declared.driver.Next.TheVariants.{ReadOne, Read, Show, ShowList, Change, Pay, Never}
@@ -25,14 +27,10 @@ pub use Rattle.shop_browse.specs.Fitting.{keys_of, Fits, AreSeen}
 use Rattle.shop_browse.specs.Footprints.{InFootprint}
 use Rattle.shop_browse.specs.Lists.{AreListed}
 
--- the scale of an ask has as many items as its catalogue
-abbrev pub IsWhole : Ask → Type 0
-IsWhole ask = ask.scale.now.items ≡ length ask.index.now.items
-
--- a log over an opening of this catalogue, which some sound tables have, of which the reads are true
+-- a log over an opening of this catalogue, each beginning of which leaves sound tables, of which the reads are true
 pub record WereRead (c : Catalogue) (opening : Tables) (log : List Entry) (reads : List ReadOf) : Type 0 where
-  pub named : c ≡ catalogue opening
-  pub sound : (t : Tables) × Fits c t []
+  pub named : c ≡ opened opening
+  pub sound : (front : ℕ) → Sound (tables opening (take front log))
   pub are : AreTrue opening log reads
 
 -- after whichever log of which the reads are true, the request may read these rows
@@ -76,13 +74,14 @@ IsNext follows request ask round reads draft (Change act writes) = IsChange requ
 IsNext follows request ask round reads draft Pay = IsBasketFor ask.tax request reads
 IsNext follows request ask round reads draft Never = (t : Tables) → Fits ask.index.now t reads → ⊥
 
--- these rows were read one after another, behind others, and each was shown by sound tables
+-- these rows were read one after another, behind others, and each was shown by sound tables; where there is one, the seat is in order
 pub record AddsReads (start now : Seat) (keys : List Key) (old new : List ReadOf) : Type 0 where
   pub more : List ReadOf
   pub added : new ≡ old ++ more
   pub keys_are : keys_of more ≡ keys
   pub since : AreReadSince start now more
-  pub seen : AreSeen (catalogue now.opening) more
+  pub seen : AreSeen (opened now.opening) more
+  pub valid : more ≢ [] → IsSeat now
 
 -- the attempt with these reads, and with this act and its writes
 abbrev pub attempt_with : Ask → List ReadOf → Option (List Write) → Option Act → Attempt

@@ -1,48 +1,67 @@
 -- What Home reads, and what it shows by that.
-use Rattle.std.specs.Prelude.{◌≡◌, ℕ, ◌+◌, ◌%◌, zero, suc, List, [], ◌∷◌, ◌++◌, map, codes, Option, Some, None}
+use Rattle.std.specs.Prelude.{◌≡◌, ℕ, zero, suc, List, [], ◌∷◌, ◌++◌, map, codes, Option, Some, None}
 use Rattle.shop_model.specs.declared.page.Block.TheVariants.{Heading}
 use Rattle.shop_model.specs.declared.page.Page.{Page}
 use Rattle.shop_model.specs.declared.requests.IdsAsked.{IdsAsked}
+use Rattle.shop_model.specs.declared.refusal.Refusal.TheVariants.{NoCustomer}
 use Rattle.shop_model.specs.declared.subject.Subject.TheVariants.{Arts}
-use Rattle.shop_model.specs.declared.tables.Tables.{Tables}
+use Rattle.shop_model.specs.asked.Refusals.{page_of}
+use Rattle.shop_model.specs.lists.Catalogues.{Catalogue}
 use Rattle.shop_model.specs.rows.Rows.{CustomerRow}
-use Rattle.shop_model.specs.pages.Home.{home_page, greetings, subject_links}
+use Rattle.shop_model.specs.pages.Home.{greetings, subject_links}
 use Rattle.shop_model.specs.rows.Subjects.{subjects}
 use Rattle.shop_model.specs.pages.Targets.{nav}
 use Rattle.shop_model.specs.population.Words.{entry}
 use Rattle.shop_history.specs.declared.keys.Key.{Key}
-use Rattle.shop_history.specs.declared.keys.Key.TheVariants.{Item, Customer}
+use Rattle.shop_history.specs.declared.keys.Key.TheVariants.{Customer}
+use Rattle.shop_history.specs.declared.keys.Row.{Row}
+use Rattle.shop_history.specs.declared.keys.Row.TheVariants as row
 use Rattle.shop_draft.specs.declared.draft.Draft.{Draft}
 use Rattle.shop_draft.specs.Pages.{Shows}
 use Rattle.shop_attempt.specs.declared.attempts.ReadOf.{ReadOf}
 use Rattle.shop_browse.specs.declared.attempted.Ask.{Ask}
-use Rattle.shop_browse.specs.Driver.{keys_of, Fits, FollowsOne}
-use Rattle.shop_browse.specs.Related.{promoted_in}
+use Rattle.shop_browse.specs.declared.driver.Next.{Next}
+use Rattle.shop_browse.specs.declared.driver.Next.TheVariants.{Show, Never}
+use Rattle.shop_browse.specs.Counting.{FollowsCount, drawn_key}
+use Rattle.shop_browse.specs.Fitting.{keys_of}
+use Rattle.shop_browse.specs.declared.names.Names.{Names}
+use Rattle.shop_browse.specs.Names.{ReadsNamed, FollowsNamed}
+use Rattle.shop_browse.specs.Related.{promoted_in, related_in}
 
--- the key of the item that the word draws
-abbrev pub drawn_key : Ask → Key
-drawn_key ask = Item (1 + ask.draw % ask.scale.now.items)
+-- the customer whose number is given was read, if any, and the drawn item, and behind it labels of items related to it
+pub record ReadsKnown (number : ℕ) (c : Catalogue) (drawn : Key) (reads : List ReadOf) : Type 0 where
+  pub known : ReadOf
+  pub rest : List ReadOf
+  pub reads_are : reads ≡ known ∷ rest
+  pub key_is : known.key ≡ Customer number
+  pub rest_are : ReadsNamed c related_in drawn rest
 
--- after the first round the customer whose number is given was read, and the drawn item
+abbrev pub FollowsWelcome : Option ℕ → Catalogue → Key → ℕ → List ReadOf → Type 0
+FollowsWelcome None c drawn round reads = FollowsNamed c related_in drawn round reads
+FollowsWelcome (Some number) c drawn zero reads = reads ≡ []
+FollowsWelcome (Some number) c drawn (suc zero) reads = keys_of reads ≡ Customer number ∷ drawn ∷ []
+FollowsWelcome (Some number) c drawn (suc (suc more)) reads = ReadsKnown number c drawn reads
+
+-- the number of items was read first
 abbrev pub FollowsHome : Option ℕ → Ask → ℕ → List ReadOf → Type 0
-FollowsHome None ask round reads = FollowsOne (drawn_key ask) round reads
-FollowsHome (Some number) ask zero reads = reads ≡ []
-FollowsHome (Some number) ask (suc more) reads = keys_of reads ≡ Customer number ∷ drawn_key ask ∷ []
+FollowsHome number ask = FollowsCount (λ items. FollowsWelcome number ask.index.now (drawn_key ask.draw items))
 
 -- the page for a customer or for anyone, with a promotion of these items
-unfoldable pub home_in : Ask → IdsAsked → Option CustomerRow → List ℕ → Page
-home_in ask ids customer items = record {
+unfoldable pub home_in : Names → ℕ → IdsAsked → Option CustomerRow → List ℕ → Page
+home_in names draw ids customer items = record {
   status = 200;
   title = codes "Home";
   blocks =
       Heading (codes "Welcome")
       ∷ greetings customer
-      ++ map (promoted_in ask.index.now ids) items
-      ++ subject_links (entry Arts subjects ask.draw) ids
+      ++ map (promoted_in names ids) items
+      ++ subject_links (entry Arts subjects draw) ids
       ++ nav ids;
 }
 
--- the draft is of the page for a customer or for anyone, in whichever tables show what was read of the drawn item
-abbrev pub IsWelcome : IdsAsked → Option CustomerRow → Ask → ReadOf → Draft → Type 0
-IsWelcome ids customer ask drawn draft =
-    (t : Tables) → Fits ask.index.now t (drawn ∷ []) → Shows draft (λ ids_drawn. home_page t ids ask.draw customer)
+-- what is done by what was read of a customer: the page for it, or a refusal; no shop shows another row
+abbrev pub IsGreeting : Names → ℕ → IdsAsked → Row → List ℕ → Draft → Next → Type 0
+IsGreeting names draw ids row.Absent items draft next = (next ≡ Show) × Shows draft (λ drawn. page_of NoCustomer)
+IsGreeting names draw ids (row.Customer customer) items draft next =
+    (next ≡ Show) × Shows draft (λ drawn. home_in names draw ids (Some customer) items)
+IsGreeting names draw ids _ items draft next = next ≡ Never

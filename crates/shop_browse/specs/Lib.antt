@@ -1,6 +1,8 @@
 pub mod Fitting
 pub mod Baskets
 pub mod Footprints
+pub mod Names
+pub mod Counting
 pub mod Lists
 pub mod ListEnds
 pub mod Attempts
@@ -10,6 +12,7 @@ pub mod Lines
 pub mod Home
 pub mod ItemPages
 pub mod SearchRequest
+pub mod SearchResults
 pub mod SubjectLists
 pub mod Known
 pub mod LoginPages

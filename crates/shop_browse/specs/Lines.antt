@@ -1,39 +1,29 @@
--- The lines of a list, by what a catalogue knows of its items.
-use Rattle.std.specs.Prelude.{◌≡◌, ℕ, List, [], map, All, Option, Some, None, option_map}
-use Rattle.std.specs.Option.{option_and_then}
-use Rattle.shop_model.specs.declared.author.Author.{Author}
-use Rattle.shop_model.specs.lists.Catalogues.{Catalogue, Naming}
-use Rattle.shop_model.specs.rows.Lookups.{row_numbered}
+-- The lines of a list, by what is known of its items.
+use Rattle.std.specs.Prelude.{◌≡◌, ℕ, List, [], map, All, Option, Some, None}
 use Rattle.shop_cache.specs.declared.lines.ListLine.{ListLine}
 use Rattle.shop_history.specs.declared.keys.Row.{Row}
 use Rattle.shop_history.specs.declared.keys.Row.TheVariants as row
 use Rattle.shop_history.specs.Labels.{LabelRow}
+use Rattle.shop_browse.specs.declared.names.Names.{Names}
+use Rattle.shop_browse.specs.Names.{label_in}
 
 -- the items on the list in a row
 abbrev pub items_in : Row → List ℕ
 items_in (row.Items items) = items
 items_in _ = []
 
--- how an item of this author is named
-abbrev pub named_by : Naming → Author → LabelRow
-named_by item author = record { title = item.title; first = author.first; last = author.last }
-
--- how the item with an id is named
-abbrev pub label_in : Catalogue → ℕ → Option LabelRow
-label_in c id = option_and_then (λ item. option_map (named_by item) (row_numbered c.authors item.author)) (row_numbered c.items id)
-
--- an item, and how a line or a catalogue names it
+-- an item, and how a line names it, or what is known of items
 abbrev pub line_names : ListLine → ℕ × Option LabelRow
 line_names line = (line.item, Some line.label)
 
-abbrev pub names_in : Catalogue → ℕ → ℕ × Option LabelRow
-names_in c item = (item, label_in c item)
+abbrev pub names_in : Names → ℕ → ℕ × Option LabelRow
+names_in names item = (item, label_in names item)
 
--- a catalogue names an item
-abbrev pub IsNamed : Catalogue → ℕ → Type 0
-IsNamed c item = (label : LabelRow) × (label_in c item ≡ Some label)
+-- an item is known
+abbrev pub IsNamed : Names → ℕ → Type 0
+IsNamed names item = (label : LabelRow) × (label_in names item ≡ Some label)
 
--- a line for each item, or one is not named
-abbrev pub AreLinesOf : Catalogue → List ℕ → Option (List ListLine) → Type 0
-AreLinesOf c items (Some lines) = map line_names lines ≡ map (names_in c) items
-AreLinesOf c items None = All (IsNamed c) items → ⊥
+-- a line for each item, or one is not known
+abbrev pub AreLinesOf : Names → List ℕ → Option (List ListLine) → Type 0
+AreLinesOf names items (Some lines) = map line_names lines ≡ map (names_in names) items
+AreLinesOf names items None = All (IsNamed names) items → ⊥

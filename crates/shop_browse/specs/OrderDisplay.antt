@@ -1,12 +1,12 @@
 -- What Order Display reads, from a user name on to the rows of its customer's last order.
-use Rattle.std.specs.Prelude.{◌≡◌, ℕ, zero, suc, List, [], ◌∷◌, All, Some}
+use Rattle.std.specs.Prelude.{◌≡◌, ℕ, zero, suc, List, [], ◌∷◌, map, All, Some}
 use Rattle.shop_model.specs.declared.address.Address.{Address}
 use Rattle.shop_model.specs.declared.buying.OrderDisplay as asked_for
 use Rattle.shop_model.specs.declared.requests.Request.TheVariants.{OrderDisplay}
 use Rattle.shop_model.specs.declared.tables.Tables.{Tables}
 use Rattle.shop_model.specs.asked.CustomersAsked.{LoginAsked}
-use Rattle.shop_model.specs.lists.Catalogues.{Catalogue, Naming, catalogue}
-use Rattle.shop_model.specs.rows.Lookups.{city_of, country_of, country_name, row_numbered}
+use Rattle.shop_model.specs.lists.Catalogues.{Catalogue}
+use Rattle.shop_model.specs.rows.Lookups.{city_of, country_of, country_name, title_of}
 use Rattle.shop_model.specs.rows.Rows.{CustomerRow, LineRow, OrderRow}
 use Rattle.shop_history.specs.declared.keys.Key.{Key}
 use Rattle.shop_history.specs.declared.keys.Key.TheVariants as key
@@ -17,6 +17,8 @@ use Rattle.shop_draft.specs.declared.draft.Draft.{Draft}
 use Rattle.shop_browse.specs.declared.attempted.Ask.{Ask}
 use Rattle.shop_browse.specs.declared.driver.Next.{Next}
 use Rattle.shop_browse.specs.Driver.{keys_of, IsNext}
+use Rattle.shop_browse.specs.declared.names.Names.{Names}
+use Rattle.shop_browse.specs.Names.{known_title, label_keys}
 
 -- behind what holds of the reads, a key that showed a row, and the rest
 pub record Then (before : List ReadOf → Type 0) (k : Key) (shown : Row) (rest : List ReadOf) : Type 0 where
@@ -25,11 +27,15 @@ pub record Then (before : List ReadOf → Type 0) (k : Key) (shown : Row) (rest 
   pub key_is : read.key ≡ k
   pub row_is : read.row ≡ shown
 
--- behind what holds of the reads, that of a key ends them
-pub record Ends (before : List ReadOf → Type 0) (k : Key) : Type 0 where
+-- behind what holds of the reads, that of a key, and the rest
+pub record Comes (before : List ReadOf → Type 0) (k : Key) (rest : List ReadOf) : Type 0 where
   pub read : ReadOf
-  pub has : before (read ∷ [])
+  pub has : before (read ∷ rest)
   pub key_is : read.key ≡ k
+
+-- it ends them
+abbrev pub Ends : (List ReadOf → Type 0) → Key → Type 0
+Ends before k = Comes before k []
 
 -- the reads begin with that of the user name of a customer
 abbrev pub HasUser : List ℕ → ℕ → List ReadOf → List ReadOf → Type 0
@@ -56,36 +62,52 @@ abbrev pub HasAddress : LoginAsked → OrderRow → Address → List ReadOf → 
 HasAddress asked order address reads rest =
     Then (HasOrder asked order reads) (key.Address order.ship_address) (row.Address address) rest
 
--- then that of the address's country
-pub record HasAll (asked : LoginAsked) (reads : List ReadOf) : Type 0 where
+-- the items of lines
+abbrev pub items_of : List LineRow → List ℕ
+items_of lines = map (λ l. l.item) lines
+
+-- then that of the address's country, and the labels of the items that the catalogue doesn't have
+pub record HasAll (asked : LoginAsked) (c : Catalogue) (reads : List ReadOf) : Type 0 where
   pub order : OrderRow
   pub address : Address
-  pub is : Ends (HasAddress asked order address reads) (key.Country address.text.country)
+  pub labels : List ReadOf
+  pub is : Comes (HasAddress asked order address reads) (key.Country address.text.country) labels
+  pub labels_are : keys_of labels ≡ label_keys c (items_of order.lines)
 
 -- after each round the reads reach one row further
-abbrev pub FollowsDisplay : asked_for.OrderDisplay → ℕ → List ReadOf → Type 0
-FollowsDisplay asked zero reads = reads ≡ []
-FollowsDisplay asked (suc zero) reads = keys_of reads ≡ key.Name asked.login.user ∷ []
-FollowsDisplay asked (suc (suc zero)) reads = (id : ℕ) × Ends (HasUser asked.login.user id reads) (key.Customer id)
-FollowsDisplay asked (suc (suc (suc zero))) reads = (id : ℕ) × Ends (HasLogin asked.login id reads) (key.LastOrder id)
-FollowsDisplay asked (suc (suc (suc (suc zero)))) reads = (order : ℕ) × Ends (HasLast asked.login order reads) (key.Order order)
-FollowsDisplay asked (suc (suc (suc (suc (suc zero))))) reads =
-    (order : OrderRow) × Ends (HasOrder asked.login order reads) (key.Address order.ship_address)
-FollowsDisplay asked (suc (suc (suc (suc (suc (suc more)))))) reads = HasAll asked.login reads
 
--- what is done next after so many rounds, in any ask, with the draft as it is then
-abbrev pub DisplaysNext : asked_for.OrderDisplay → ℕ → List ReadOf → Draft → Next → Type 0
-DisplaysNext asked round reads draft next =
-    (ask : Ask) → IsNext (FollowsDisplay asked) (OrderDisplay asked) ask round reads draft next
+abbrev pub ReachesName : LoginAsked → List ReadOf → Type 0
+ReachesName asked reads = keys_of reads ≡ key.Name asked.user ∷ []
 
--- the item of a line is in a catalogue
-abbrev pub IsThere : Catalogue → LineRow → Type 0
-IsThere c line = (item : Naming) × (row_numbered c.items line.item ≡ Some item)
+abbrev pub ReachesCustomer : LoginAsked → List ReadOf → Type 0
+ReachesCustomer asked reads = (id : ℕ) × Ends (HasUser asked.user id reads) (key.Customer id)
 
--- the tables are of a catalogue that has the items of lines
-pub record HaveItems (t : Tables) (c : Catalogue) (lines : List LineRow) : Type 0 where
-  pub named : catalogue t ≡ c
-  pub there : All (IsThere c) lines
+abbrev pub ReachesLast : LoginAsked → List ReadOf → Type 0
+ReachesLast asked reads = (id : ℕ) × Ends (HasLogin asked id reads) (key.LastOrder id)
+
+abbrev pub ReachesOrder : LoginAsked → List ReadOf → Type 0
+ReachesOrder asked reads = (order : ℕ) × Ends (HasLast asked order reads) (key.Order order)
+
+abbrev pub ReachesAddress : LoginAsked → List ReadOf → Type 0
+ReachesAddress asked reads = (order : OrderRow) × Ends (HasOrder asked order reads) (key.Address order.ship_address)
+
+abbrev pub FollowsDisplay : asked_for.OrderDisplay → Catalogue → ℕ → List ReadOf → Type 0
+FollowsDisplay asked c zero reads = reads ≡ []
+FollowsDisplay asked c (suc zero) reads = ReachesName asked.login reads
+FollowsDisplay asked c (suc (suc zero)) reads = ReachesCustomer asked.login reads
+FollowsDisplay asked c (suc (suc (suc zero))) reads = ReachesLast asked.login reads
+FollowsDisplay asked c (suc (suc (suc (suc zero)))) reads = ReachesOrder asked.login reads
+FollowsDisplay asked c (suc (suc (suc (suc (suc zero))))) reads = ReachesAddress asked.login reads
+FollowsDisplay asked c (suc (suc (suc (suc (suc (suc more)))))) reads = HasAll asked.login c reads
+
+-- what is done next after so many rounds, in any ask of this catalogue, with the draft as it is then
+abbrev pub DisplaysNext : Catalogue → asked_for.OrderDisplay → ℕ → List ReadOf → Draft → Next → Type 0
+DisplaysNext c asked round reads draft next =
+    (ask : Ask) → ask.index.now ≡ c → IsNext (FollowsDisplay asked c) (OrderDisplay asked) ask round reads draft next
+
+-- the titles of the items of lines are known, as the tables have them
+abbrev pub HaveItems : Tables → Names → List LineRow → Type 0
+HaveItems t names lines = All (λ l. known_title names l.item ≡ Some (title_of t l.item)) lines
 
 -- an address has this city, and is in the country with this name
 pub record ShipsTo (t : Tables) (address : ℕ) (city country : List ℕ) : Type 0 where

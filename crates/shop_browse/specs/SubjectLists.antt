@@ -10,8 +10,9 @@ use Rattle.shop_attempt.specs.declared.attempts.ReadOf.{ReadOf}
 use Rattle.shop_browse.specs.declared.attempted.Ask.{Ask}
 use Rattle.shop_browse.specs.declared.subject_lists.SubjectList.{SubjectList}
 use Rattle.shop_browse.specs.declared.subject_lists.SubjectList.TheVariants.{New, Best}
-use Rattle.shop_browse.specs.Driver.{FollowsOne}
+use Rattle.shop_browse.specs.Lines.{items_in}
 use Rattle.shop_browse.specs.Lists.{new_page, best_page}
+use Rattle.shop_browse.specs.Names.{FollowsNamed}
 
 abbrev pub request_of : SubjectList → Request
 request_of (New asked) = NewProducts asked.now
@@ -28,4 +29,4 @@ page_of (New asked) = new_page asked.now
 page_of (Best asked) = best_page asked.now
 
 abbrev pub follows : SubjectList → Ask → ℕ → List ReadOf → Type 0
-follows list ask = FollowsOne (key_of list)
+follows list ask = FollowsNamed ask.index.now items_in (key_of list)

@@ -1,15 +1,13 @@
 use shop_attempt::Attempt;
 use shop_cache::ListLines;
-use shop_model::{Scale, TaxRule};
+use shop_model::TaxRule;
 use shop_search::Index;
 use shop_text::Listed;
 
-/// What an attempt is made with: how many rows the shop opened with, the index of its catalogue, the
-/// moment in milliseconds since 1970-01-01, the word that was drawn for the request, and the rule by
-/// which a purchase is taxed.
+/// What an attempt is made with: the index of what the shop opened with, the moment in milliseconds
+/// since 1970-01-01, the word that was drawn for the request, and the rule by which a purchase is taxed.
 #[derive(Clone, Copy)]
 pub struct Ask<'a> {
-    pub scale: &'a Scale,
     pub index: &'a Index,
     pub moment: u64,
     pub draw: u32,

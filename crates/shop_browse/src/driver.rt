@@ -20,7 +20,7 @@ use std::alloc::Global;
 const ROUNDS: u32 = 7;
 
 /// How many reads have room from the start: those of most requests.
-const READS: usize = 12;
+const READS: usize = 11;
 
 /// What an interaction does next.
 #[derive(Drop)]
@@ -58,7 +58,6 @@ pub trait Interaction {
         reads: &[ReadOf],
         draft: &mut Draft,
     ) -> Result<Next, Memory>
-        requires whole { spec.IsWhole ask.now }
         requires follows { follows self.old ask.now round reads.now }
         requires seen { spec.AreSeen ask.now.index.now reads.now }
         ensures same { request self.new ≡ request self.old }

@@ -1,4 +1,4 @@
-ghost use Rattle.std.specs.Prelude.{◌≡◌, ◌∷◌, [], ℕ, Some, IfOk, OnOk, codes, option_copied};
+ghost use Rattle.std.specs.Prelude.{◌≡◌, ◌∷◌, [], Some, IfOk, OnOk, codes, option_copied};
 ghost use Rattle.std.specs.List.{flat_map};
 ghost use Rattle.shop_model.specs.pages.PageText.{block_line};
 ghost use Rattle.shop_model.specs.declared.page.Block.TheVariants as block;
@@ -9,10 +9,11 @@ ghost use Rattle.shop_history.specs.declared.keys.Key.TheVariants as key_kinds;
 ghost use Rattle.shop_model.specs.pages.Home as spec;
 ghost use Rattle.shop_attempt.specs.Marks.{Looks};
 ghost use Rattle.shop_browse.specs.Attempts.{AttemptedAs, Suits, asking_of};
-ghost use Rattle.shop_browse.specs.Driver.{IsWhole, IsNext};
-ghost use Rattle.shop_browse.specs.Home.{FollowsHome, IsWelcome, home_in, drawn_key as drawn_key_is};
+ghost use Rattle.shop_browse.specs.Home.{FollowsHome, IsGreeting, home_in};
 
+use crate::counting::{count_in, drawn_key};
 use crate::driver::{Interaction, Next, attempt_by};
+use crate::names::{Names, unread_labels};
 use crate::related::{promotion, related_in};
 use crate::{Ask, Attempted};
 use shop_attempt::{ReadOf, Store};
@@ -66,76 +67,44 @@ fn subject_links(page: &mut Template, subject: Subject, ids: PageIds) -> Result<
 /// Writes the page for a customer or for anyone, with a promotion of these items.
 fn write_page(
     draft: &mut Draft,
-    ask: &Ask,
+    draw: u32,
+    names: Names,
     ids: PageIds,
     customer: Option<&Customer>,
     items: &[u32],
 ) -> Result<(), Memory>
-    ensures { OnOk result (Shows draft.new (λ drawn. home_in ask.now (ids_at drawn ids) (option_copied customer.entry) items.now)) }
+    ensures { OnOk result (Shows draft.new (λ drawn. home_in names.entry draw (ids_at drawn ids) (option_copied customer.entry) items.now)) }
 {
     draft.status = 200;
     let page = &mut draft.page;
     page.begin(b"Home")?;
     heading(page)?;
     greetings(page, customer)?;
-    promotion(page, ids, ask.index, items)?;
-    subject_links(page, Subject::picked(ask.draw), ids)?;
+    promotion(page, ids, names, items)?;
+    subject_links(page, Subject::picked(draw), ids)?;
     page.nav(ids)?;
     page.end()?;
     Ok(())
 }
 
-/// The key of the item that the word draws.
-pub(crate) fn drawn_key(ask: &Ask) -> Key
-    ensures { result ≡ drawn_key_is ask.now }
-{
-    let scale = ask.scale;
-    Key::Item(1 + ask.draw % scale.items)
-}
-
-/// Writes the page by what was read of the drawn item, for a customer or for anyone.
-fn welcome(
-    ask: &Ask,
-    ids: IdsAsked,
-    customer: Option<&Customer>,
-    drawn: &ReadOf,
-    draft: &mut Draft,
-) -> Result<(), Memory>
-    requires whole { IsWhole ask.now }
-    requires drawn { drawn.now.key ≡ drawn_key_is ask.now }
-    ensures { OnOk result (IsWelcome ids (option_copied customer.entry) ask.now drawn.now draft.new) }
-{
-    write_page(
-        draft,
-        ask,
-        PageIds::of(ids),
-        customer,
-        related_in(&drawn.row),
-    )
-}
-
-/// What is done by what was read of the customer with a number, and of the drawn item.
+/// Writes the page by what was read of the customer whose number is given, with a promotion of these items.
 fn greet(
-    ask: &Ask,
-    asked: &Home,
-    number: u32,
-    known: &ReadOf,
-    drawn: &ReadOf,
+    draw: u32,
+    names: Names,
+    ids: IdsAsked,
+    known: &Row,
+    items: &[u32],
     draft: &mut Draft,
 ) -> Result<Next, Memory>
-    requires whole { IsWhole ask.now }
-    requires number { asked.now.ids.c ≡ Some number }
-    requires known { known.now.key ≡ key_kinds.Customer number }
-    requires drawn { drawn.now.key ≡ drawn_key_is ask.now }
-    ensures { IfOk result (λ next. (round : ℕ) → IsNext (FollowsHome (Some number) ask.now) (Request.Home asked.now) ask.now round (known.now ∷ drawn.now ∷ []) draft.new next) }
+    ensures { IfOk result (IsGreeting names.entry draw ids known.now items.now draft.new) }
 {
-    match &known.row {
+    match known {
         Row::Absent => {
             refusal(draft, Refusal::NoCustomer)?;
             Ok(Next::Show)
         }
         Row::Customer(customer) => {
-            welcome(ask, asked.ids, Some(customer), drawn, draft)?;
+            write_page(draft, draw, names, PageIds::of(ids), Some(customer), items)?;
             Ok(Next::Show)
         }
         _ => Ok(Next::Never),
@@ -143,12 +112,12 @@ fn greet(
 }
 
 /// The keys of a customer and of the drawn item.
-fn first_keys(alloc: Global, ask: &Ask, number: u32) -> Result<Listed<Key>, Memory>
-    ensures { IfOk result (λ keys. keys ≡ key_kinds.Customer number ∷ drawn_key_is ask.now ∷ []) }
+fn first_keys(alloc: Global, number: u32, drawn: Key) -> Result<Listed<Key>, Memory>
+    ensures { IfOk result (λ keys. keys ≡ key_kinds.Customer number ∷ drawn ∷ []) }
 {
     let mut keys = Listed::with_capacity(alloc, 2)?;
     keys.push(Key::Customer(number))?;
-    keys.push(drawn_key(ask))?;
+    keys.push(drawn)?;
     Ok(keys)
 }
 
@@ -167,19 +136,44 @@ impl<'a> Interaction for &'a Home {
         reads: &[ReadOf],
         draft: &mut Draft,
     ) -> Result<Next, Memory> {
+        if round == 0 {
+            return Ok(Next::ReadOne(Key::Count));
+        }
+        let items = count_in(&reads[0]);
         match self.ids.c {
             None => {
-                if round == 0 {
-                    return Ok(Next::ReadOne(drawn_key(ask)));
+                if round == 1 {
+                    return Ok(Next::ReadOne(drawn_key(ask.draw, items)));
                 }
-                welcome(ask, self.ids, None, &reads[0], draft)?;
+                let related = related_in(&reads[1].row);
+                if round == 2 {
+                    if let Some(keys) = unread_labels(alloc, ask.index, related)? {
+                        return Ok(Next::Read(keys));
+                    }
+                }
+                let names = Names {
+                    index: ask.index,
+                    labels: &reads[2..],
+                };
+                write_page(draft, ask.draw, names, PageIds::of(self.ids), None, related)?;
                 Ok(Next::Show)
             }
             Some(number) => {
-                if round == 0 {
-                    return Ok(Next::Read(first_keys(alloc, ask, number)?));
+                if round == 1 {
+                    let drawn = drawn_key(ask.draw, items);
+                    return Ok(Next::Read(first_keys(alloc, number, drawn)?));
                 }
-                greet(ask, *self, number, &reads[0], &reads[1], draft)
+                let related = related_in(&reads[2].row);
+                if round == 2 {
+                    if let Some(keys) = unread_labels(alloc, ask.index, related)? {
+                        return Ok(Next::Read(keys));
+                    }
+                }
+                let names = Names {
+                    index: ask.index,
+                    labels: &reads[3..],
+                };
+                greet(ask.draw, names, self.ids, &reads[1].row, related, draft)
             }
         }
     }

@@ -4,6 +4,7 @@
 
 pub mod admin_request;
 mod attempted;
+mod counting;
 mod driver;
 pub mod home;
 mod item_pages;
@@ -11,6 +12,7 @@ mod known;
 mod lines;
 mod lists;
 pub mod login_pages;
+mod names;
 pub mod order_display;
 mod order_page;
 pub mod product_detail;
@@ -20,6 +22,8 @@ pub mod search_results;
 pub mod subject_lists;
 
 pub use attempted::{Ask, Attempted};
+pub use counting::count_in;
 pub use driver::{Interaction, Next, attempt_by};
 pub use lists::write_list;
+pub use names::{Names, unread_labels};
 pub use related::promotion;

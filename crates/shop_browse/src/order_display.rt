@@ -1,21 +1,22 @@
-ghost use Rattle.std.specs.Prelude.{◌≡◌, ◌↔◌, ℕ, IfOk, IsTrue};
+ghost use Rattle.std.specs.Prelude.{◌≡◌, ◌∷◌, ◌↔◌, ℕ, IfOk, IsTrue};
 ghost use Rattle.shop_history.specs.declared.keys.Key.TheVariants as key_kinds;
 ghost use Rattle.shop_attempt.specs.Marks.{Looks};
 ghost use Rattle.shop_draft.specs.declared.draft.Draft.{Draft};
-ghost use Rattle.shop_browse.specs.declared.attempted.Ask.{Ask};
+ghost use Rattle.shop_model.specs.lists.Catalogues.{Catalogue};
 ghost use Rattle.shop_browse.specs.Attempts.{AttemptedAs, Suits, asking_of};
-ghost use Rattle.shop_browse.specs.Driver.{IsNext};
-ghost use Rattle.shop_browse.specs.OrderDisplay.{FollowsDisplay, DisplaysNext};
+ghost use Rattle.shop_browse.specs.Names.{label_keys};
+ghost use Rattle.shop_browse.specs.OrderDisplay.{DisplaysNext, FollowsDisplay, HasAll, ReachesAddress, ReachesCustomer, ReachesLast, ReachesName, ReachesOrder, items_of};
 
 use crate::driver::{Interaction, Next, attempt_by};
+use crate::names::{Names, add_label_key};
 use crate::order_page::{no_order_page, order_page};
 use crate::{Ask, Attempted};
 use shop_attempt::{ReadOf, Store};
 use shop_draft::{Draft, PageIds, refusal};
 use shop_history::{Key, Row};
-use shop_model::{Customer, OrderDisplay, Refusal, Request};
+use shop_model::{Customer, Line, OrderDisplay, Refusal, Request};
 use shop_search::Index;
-use shop_text::{Memory, Text, is_digsyl_lower};
+use shop_text::{Listed, Memory, Text, is_digsyl_lower};
 use std::alloc::Global;
 
 /// Whether this is the password of a customer.
@@ -34,8 +35,8 @@ fn name_key(alloc: Global, asked: &OrderDisplay) -> Result<Key, Memory>
 
 /// What is done next by what was read of the user name.
 fn by_name(asked: &OrderDisplay, reads: &[ReadOf], draft: &mut Draft) -> Result<Next, Memory>
-    requires { FollowsDisplay asked.now 1 reads.now }
-    ensures { IfOk result (DisplaysNext asked.now 1 reads.now draft.new) }
+    requires { ReachesName asked.now.login reads.now }
+    ensures { IfOk result (λ next. (c : Catalogue) → DisplaysNext c asked.now 1 reads.now draft.new next) }
 {
     match &reads[0].row {
         Row::Absent => {
@@ -49,8 +50,8 @@ fn by_name(asked: &OrderDisplay, reads: &[ReadOf], draft: &mut Draft) -> Result<
 
 /// What is done next by what was read of the user name and of its customer.
 fn by_customer(asked: &OrderDisplay, reads: &[ReadOf], draft: &mut Draft) -> Result<Next, Memory>
-    requires { FollowsDisplay asked.now 2 reads.now }
-    ensures { IfOk result (DisplaysNext asked.now 2 reads.now draft.new) }
+    requires { ReachesCustomer asked.now.login reads.now }
+    ensures { IfOk result (λ next. (c : Catalogue) → DisplaysNext c asked.now 2 reads.now draft.new next) }
 {
     match (&reads[0].row, &reads[1].row) {
         (Row::Id(id), Row::Customer(customer)) => {
@@ -67,8 +68,8 @@ fn by_customer(asked: &OrderDisplay, reads: &[ReadOf], draft: &mut Draft) -> Res
 
 /// What is done next for a customer who logs in, by what was read of its last order's id.
 fn by_last(asked: &OrderDisplay, reads: &[ReadOf], draft: &mut Draft) -> Result<Next, Memory>
-    requires { FollowsDisplay asked.now 3 reads.now }
-    ensures { IfOk result (DisplaysNext asked.now 3 reads.now draft.new) }
+    requires { ReachesLast asked.now.login reads.now }
+    ensures { IfOk result (λ next. (c : Catalogue) → DisplaysNext c asked.now 3 reads.now draft.new next) }
 {
     match &reads[2].row {
         Row::Absent => {
@@ -82,8 +83,8 @@ fn by_last(asked: &OrderDisplay, reads: &[ReadOf], draft: &mut Draft) -> Result<
 
 /// What is done next by what was read of the order.
 fn by_order(asked: &OrderDisplay, reads: &[ReadOf]) -> Next
-    requires { FollowsDisplay asked.now 4 reads.now }
-    ensures { (draft : Draft) → DisplaysNext asked.now 4 reads.now draft result }
+    requires { ReachesOrder asked.now.login reads.now }
+    ensures { (c : Catalogue) (draft : Draft) → DisplaysNext c asked.now 4 reads.now draft result }
 {
     match &reads[3].row {
         Row::Order(order) => Next::ReadOne(Key::Address(order.get().ship_address)),
@@ -91,39 +92,63 @@ fn by_order(asked: &OrderDisplay, reads: &[ReadOf]) -> Next
     }
 }
 
-/// What is done next by what was read of the order and of its address.
-fn by_address(asked: &OrderDisplay, reads: &[ReadOf]) -> Next
-    requires { FollowsDisplay asked.now 5 reads.now }
-    ensures { (draft : Draft) → DisplaysNext asked.now 5 reads.now draft result }
+/// The keys of a country, and of the labels of the items of lines that an index doesn't have.
+fn last_keys(
+    alloc: Global,
+    index: &Index,
+    country: u32,
+    lines: &[Line],
+) -> Result<Listed<Key>, Memory>
+    ensures { IfOk result (λ keys. keys ≡ key_kinds.Country country ∷ label_keys index.now (items_of lines.now)) }
 {
-    match &reads[4].row {
-        Row::Address(address) => Next::ReadOne(Key::Country(address.get().text.country)),
-        _ => Next::Never,
+    let mut keys = Listed::with_capacity(alloc, 1)?;
+    keys.push(Key::Country(country))?;
+    for line in lines {
+        add_label_key(&mut keys, index, line.item)?;
+    }
+    Ok(keys)
+}
+
+/// What is done next by what was read of the order and of its address.
+fn by_address(
+    alloc: Global,
+    index: &Index,
+    asked: &OrderDisplay,
+    reads: &[ReadOf],
+) -> Result<Next, Memory>
+    requires { ReachesAddress asked.now.login reads.now }
+    ensures { IfOk result (λ next. (draft : Draft) → DisplaysNext index.now asked.now 5 reads.now draft next) }
+{
+    match (&reads[3].row, &reads[4].row) {
+        (Row::Order(order), Row::Address(address)) => {
+            let country = address.get().text.country;
+            let lines = order.get().lines.as_slice();
+            Ok(Next::Read(last_keys(alloc, index, country, lines)?))
+        }
+        _ => Ok(Next::Never),
     }
 }
 
-/// What is done by all that was read, with the titles of the items that an index knows.
+/// What is done by all that was read.
 fn by_all(
     index: &Index,
     asked: &OrderDisplay,
     reads: &[ReadOf],
     draft: &mut Draft,
 ) -> Result<Next, Memory>
-    requires { FollowsDisplay asked.now 6 reads.now }
-    ensures { IfOk result (λ next. (ask : Ask) (round : ℕ) → ask.index.now ≡ index.now → IsNext (FollowsDisplay asked.now) (Request.OrderDisplay asked.now) ask round reads.now draft.new next) }
+    requires { HasAll asked.now.login index.now reads.now }
+    ensures { IfOk result (λ next. (round : ℕ) → DisplaysNext index.now asked.now round reads.now draft.new next) }
 {
     match (&reads[3].row, &reads[4].row, &reads[5].row) {
         (Row::Order(order), Row::Address(address), Row::Country(country)) => {
+            let names = Names {
+                index,
+                labels: &reads[6..],
+            };
             let city = address.get().text.city.bytes();
             let country = country.get().name.bytes();
-            order_page(
-                draft,
-                PageIds::of(asked.ids),
-                index,
-                order.get(),
-                city,
-                country,
-            )?;
+            let ids = PageIds::of(asked.ids);
+            order_page(draft, ids, names, order.get(), city, country)?;
             Ok(Next::Show)
         }
         _ => Ok(Next::Never),
@@ -135,7 +160,7 @@ impl<'a> Interaction for &'a OrderDisplay {
 
     ghost request = { λ asked. request_kinds.OrderDisplay asked.now };
 
-    ghost follows = { λ asked ask. FollowsDisplay asked.now };
+    ghost follows = { λ asked ask. FollowsDisplay asked.now ask.index.now };
 
     fn next(
         &mut self,
@@ -151,7 +176,7 @@ impl<'a> Interaction for &'a OrderDisplay {
             2 => by_customer(*self, reads, draft),
             3 => by_last(*self, reads, draft),
             4 => Ok(by_order(*self, reads)),
-            5 => Ok(by_address(*self, reads)),
+            5 => by_address(alloc, ask.index, *self, reads),
             _ => by_all(ask.index, *self, reads, draft),
         }
     }

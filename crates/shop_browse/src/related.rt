@@ -6,9 +6,9 @@ ghost use Rattle.shop_draft.specs.Drawing.{ids_at};
 ghost use Rattle.shop_draft.specs.Templates.{Adds};
 ghost use Rattle.shop_browse.specs.Related as spec;
 
+use crate::names::Names;
 use shop_draft::{PageIds, Template};
 use shop_history::Row;
-use shop_search::Index;
 use shop_text::Memory;
 
 /// The items that are related to the one in a row.
@@ -22,11 +22,11 @@ pub(crate) fn related_in(row: &Row) -> &[u32]
 }
 
 /// Adds a link to the page of an item, labelled with its title.
-fn promoted(page: &mut Template, ids: PageIds, index: &Index, item: u32) -> Result<(), Memory>
-    ensures { OnOk result (Adds page.old page.new (λ drawn. block_line (spec.promoted_in index.now (ids_at drawn ids) item))) }
+fn promoted(page: &mut Template, ids: PageIds, names: Names, item: u32) -> Result<(), Memory>
+    ensures { OnOk result (Adds page.old page.new (λ drawn. block_line (spec.promoted_in names.entry (ids_at drawn ids) item))) }
 {
-    match index.details(item) {
-        Some(details) => page.title_link(item, ids, &details.get().title)?,
+    match names.title_of(item) {
+        Some(title) => page.title_link(item, ids, title)?,
         None => page.item_link(b"/product_detail", item, ids, b"")?,
     }
     Ok(())
@@ -36,13 +36,13 @@ fn promoted(page: &mut Template, ids: PageIds, index: &Index, item: u32) -> Resu
 pub fn promotion(
     page: &mut Template,
     ids: PageIds,
-    index: &Index,
+    names: Names,
     items: &[u32],
 ) -> Result<(), Memory>
-    ensures { OnOk result (Adds page.old page.new (λ drawn. flat_map block_line (map (spec.promoted_in index.now (ids_at drawn ids)) items.now))) }
+    ensures { OnOk result (Adds page.old page.new (λ drawn. flat_map block_line (map (spec.promoted_in names.entry (ids_at drawn ids)) items.now))) }
 {
     for item in items {
-        promoted(page, ids, index, *item)?;
+        promoted(page, ids, names, *item)?;
     }
     Ok(())
 }

@@ -6,18 +6,17 @@ ghost use Rattle.shop_draft.specs.Pages.{Shows};
 ghost use Rattle.shop_draft.specs.Templates.{Says};
 ghost use Rattle.shop_attempt.specs.Marks.{Looks};
 ghost use Rattle.shop_browse.specs.Attempts.{AttemptedAs, Suits, asking_of};
-ghost use Rattle.shop_browse.specs.Driver.{FollowsOne};
-ghost use Rattle.shop_browse.specs.Home.{drawn_key};
-ghost use Rattle.shop_browse.specs.SearchRequest.{search_in};
+ghost use Rattle.shop_browse.specs.SearchRequest.{FollowsSearch, search_in};
 
+use crate::counting::{count_in, drawn_key};
 use crate::driver::{Interaction, Next, attempt_by};
-use crate::home::drawn_key;
+use crate::names::{Names, unread_labels};
 use crate::related::{promotion, related_in};
 use crate::{Ask, Attempted};
 use shop_attempt::{ReadOf, Store};
 use shop_draft::{Draft, PageIds, Template};
+use shop_history::Key;
 use shop_model::{Request, SearchRequest};
-use shop_search::Index;
 use shop_text::Memory;
 use std::alloc::Global;
 
@@ -31,14 +30,14 @@ fn heading(page: &mut Template) -> Result<(), Memory>
 }
 
 /// Writes the form of a search, with a promotion of these items.
-fn write_page(draft: &mut Draft, ids: PageIds, index: &Index, items: &[u32]) -> Result<(), Memory>
-    ensures { OnOk result (Shows draft.new (λ drawn. search_in index.now (ids_at drawn ids) items.now)) }
+fn write_page(draft: &mut Draft, ids: PageIds, names: Names, items: &[u32]) -> Result<(), Memory>
+    ensures { OnOk result (Shows draft.new (λ drawn. search_in names.entry (ids_at drawn ids) items.now)) }
 {
     draft.status = 200;
     let page = &mut draft.page;
     page.begin(b"Search Request")?;
     heading(page)?;
-    promotion(page, ids, index, items)?;
+    promotion(page, ids, names, items)?;
     page.search_form(ids)?;
     page.nav(ids)?;
     page.end()?;
@@ -50,7 +49,7 @@ impl<'a> Interaction for &'a SearchRequest {
 
     ghost request = { λ asked. request_kinds.SearchRequest asked.now };
 
-    ghost follows = { λ asked ask. FollowsOne (drawn_key ask) };
+    ghost follows = { λ asked. FollowsSearch };
 
     fn next(
         &mut self,
@@ -60,16 +59,24 @@ impl<'a> Interaction for &'a SearchRequest {
         reads: &[ReadOf],
         draft: &mut Draft,
     ) -> Result<Next, Memory> {
-        let _ = alloc;
         if round == 0 {
-            return Ok(Next::ReadOne(drawn_key(ask)));
+            return Ok(Next::ReadOne(Key::Count));
         }
-        write_page(
-            draft,
-            PageIds::of(self.ids),
-            ask.index,
-            related_in(&reads[0].row),
-        )?;
+        if round == 1 {
+            let items = count_in(&reads[0]);
+            return Ok(Next::ReadOne(drawn_key(ask.draw, items)));
+        }
+        let related = related_in(&reads[1].row);
+        if round == 2 {
+            if let Some(keys) = unread_labels(alloc, ask.index, related)? {
+                return Ok(Next::Read(keys));
+            }
+        }
+        let names = Names {
+            index: ask.index,
+            labels: &reads[2..],
+        };
+        write_page(draft, PageIds::of(self.ids), names, related)?;
         Ok(Next::Show)
     }
 }

@@ -1,4 +1,4 @@
-ghost use Rattle.std.specs.Prelude.{◌≡◌, [], OnOk};
+ghost use Rattle.std.specs.Prelude.{◌≡◌, IfOk, OnOk, map};
 ghost use Rattle.std.specs.List.{flat_map};
 ghost use Rattle.shop_model.specs.pages.PageText.{block_line};
 ghost use Rattle.shop_draft.specs.Pages.{Shows};
@@ -6,16 +6,21 @@ ghost use Rattle.shop_draft.specs.Templates.{Says};
 ghost use Rattle.shop_attempt.specs.Marks.{Looks};
 ghost use Rattle.shop_browse.specs.Attempts.{AttemptedAs, Suits, asking_of};
 ghost use Rattle.shop_browse.specs.Lists.{found_page, head_of};
+ghost use Rattle.shop_browse.specs.SearchResults as spec;
+ghost use Rattle.shop_browse.specs.SearchResults.{FollowsFound};
 
 use crate::driver::{Interaction, Next, attempt_by};
-use crate::lines::lines_of;
+use crate::lines::{items_in, lines_of};
 use crate::lists::finish;
+use crate::names::{Names, unread_labels};
 use crate::{Ask, Attempted};
 use shop_attempt::{ReadOf, Store};
 use shop_cache::ListLines;
 use shop_draft::{Draft, Template};
-use shop_model::{Request, SearchResults};
-use shop_text::Memory;
+use shop_history::Key;
+use shop_model::{Request, SearchResults, Sought};
+use shop_search::{Titled, merge};
+use shop_text::{Listed, Memory};
 use std::alloc::Global;
 
 /// Adds the heading, and what was searched for.
@@ -45,12 +50,53 @@ pub(crate) fn write_page(
     Ok(())
 }
 
+/// The key of the added items that are found.
+fn added_key(alloc: Global, asked: &SearchResults) -> Result<Key, Memory>
+    ensures { IfOk result (λ key. key ≡ spec.added_key asked.now) }
+{
+    let sought = Sought::of(alloc, asked.kind, asked.text.bytes())?;
+    Ok(Key::Added(sought))
+}
+
+/// The items, each by the title that is known of it.
+fn titled<'a>(alloc: Global, names: Names<'a>, items: &[u32]) -> Result<Vec<Titled<'a>>, Memory>
+    ensures { IfOk result (λ titled. titled.items ≡ map (spec.titled_in names.entry) items.now) }
+{
+    let mut titled = Vec::with_capacity(alloc, items.len())?;
+    for item in items {
+        let title: &[u8] = match names.title_of(*item) {
+            Some(title) => title.bytes(),
+            None => b"",
+        };
+        titled.push(Titled { id: *item, title })?;
+    }
+    Ok(titled)
+}
+
+/// The first items that are found of what is sought: those of the opening, and these that were added.
+fn found_in(
+    alloc: Global,
+    names: Names,
+    sought: &Sought,
+    added: &[u32],
+) -> Result<Listed<u32>, Memory>
+    ensures { IfOk result (spec.IsFound names.entry sought.now added.now) }
+{
+    let first = names.index.sought(sought)?;
+    if added.is_empty() {
+        return Ok(first);
+    }
+    let first = titled(alloc, names, first.as_slice())?;
+    let second = titled(alloc, names, added)?;
+    merge(alloc, &first, &second)
+}
+
 impl<'a> Interaction for &'a SearchResults {
     ghost use Rattle.shop_model.specs.declared.requests.Request.TheVariants as request_kinds;
 
     ghost request = { λ asked. request_kinds.SearchResults asked.now };
 
-    ghost follows = { λ asked ask round reads. reads ≡ [] };
+    ghost follows = { λ asked. FollowsFound asked.now };
 
     fn next(
         &mut self,
@@ -61,10 +107,24 @@ impl<'a> Interaction for &'a SearchResults {
         draft: &mut Draft,
     ) -> Result<Next, Memory> {
         let asked: &SearchResults = self;
-        let _ = round;
-        let _ = reads;
-        let found = ask.index.search(asked.kind, asked.text.bytes())?;
-        match lines_of(alloc, ask.index, found.as_slice())? {
+        if round == 0 {
+            return Ok(Next::ReadOne(added_key(alloc, asked)?));
+        }
+        let added = items_in(&reads[0].row);
+        if round == 1 {
+            if let Some(keys) = unread_labels(alloc, ask.index, added)? {
+                return Ok(Next::Read(keys));
+            }
+        }
+        let names = Names {
+            index: ask.index,
+            labels: &reads[1..],
+        };
+        let Key::Added(sought) = &reads[0].key else {
+            unreachable!()
+        };
+        let found = found_in(alloc, names, sought, added)?;
+        match lines_of(alloc, names, found.as_slice())? {
             Some(lines) => {
                 write_page(draft, asked, &lines)?;
                 Ok(Next::ShowList(lines))

@@ -8,6 +8,7 @@ ghost use Rattle.shop_browse.specs.SubjectLists as spec;
 use crate::driver::{Interaction, Next, attempt_by};
 use crate::lines::{items_in, lines_of};
 use crate::lists::subject_page;
+use crate::names::{Names, label_keys};
 use crate::{Ask, Attempted};
 use shop_attempt::{ReadOf, Store};
 use shop_cache::ListLines;
@@ -67,12 +68,23 @@ impl<'a> Interaction for SubjectList<'a> {
         if round == 0 {
             return Ok(Next::ReadOne(self.key()));
         }
-        match lines_of(alloc, ask.index, items_in(&reads[0].row))? {
+        let items = items_in(&reads[0].row);
+        let names = Names {
+            index: ask.index,
+            labels: &reads[1..],
+        };
+        match lines_of(alloc, names, items)? {
             Some(lines) => {
                 self.write_page(draft, &lines)?;
                 Ok(Next::ShowList(lines))
             }
-            None => Ok(Next::Never),
+            None => {
+                if round == 1 {
+                    Ok(Next::Read(label_keys(alloc, ask.index, items)?))
+                } else {
+                    Ok(Next::Never)
+                }
+            }
         }
     }
 }

@@ -18,7 +18,7 @@ use Rattle.shop_model.specs.trade.Carts.{carts_with, check_asked, lines_named}
 use Rattle.shop_model.specs.trade.Mending.{with_mended}
 use Rattle.shop_model.specs.trade.Sales.{Terms, tables_bought}
 use Rattle.shop_history.specs.declared.acts.Act.{Act}
-use Rattle.shop_history.specs.declared.acts.Act.TheVariants.{Cart, Enter, Confirm, Admin}
+use Rattle.shop_history.specs.declared.acts.Act.TheVariants.{Cart, Enter, Confirm, Admin, Add}
 use Rattle.shop_history.specs.declared.acts.Entry.{Entry}
 use Rattle.shop_history.specs.Acts.{request_of}
 use Rattle.shop_history.specs.Logs.{tables, after, Legal, MayFollow}
@@ -81,6 +81,7 @@ act_leaves t entry cart (Cart asked draw) is passes leaves empty =
 act_leaves t entry cart (Enter asked draw) is passes leaves empty = rw (is, entered_stays t entry.stamp draw asked.buyer) empty
 act_leaves t entry cart (Admin asked) is passes leaves empty =
     rw (is, mended_stays t entry.stamp asked (row_numbered t.items asked.item)) empty
+act_leaves t entry cart (Add asked) is passes leaves empty = rw is empty
 act_leaves t entry cart (Confirm asked draw auth tax) is passes leaves empty =
     let terms : Terms = record { auth = auth; tax = tax } in
     rw is

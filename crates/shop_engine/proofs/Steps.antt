@@ -1,5 +1,5 @@
 -- How what came of a request makes a step.
-use Rattle.std.proofs.Common.{◌≡◌, ℕ, ◌+◌, min, max, Bool, List, [], ◌∷◌, ◌++◌, length, Option, None, Some, IsSome, Ok, Err, inl, refl, sym, ◌∙◌, ap, subst, arith}
+use Rattle.std.proofs.Common.{◌≡◌, ℕ, ◌+◌, min, max, Bool, List, [], ◌∷◌, ◌++◌, Option, None, Some, IsSome, Ok, Err, inl, refl, sym, ◌∙◌, ap, subst, arith}
 use Rattle.shop_edges.specs.Causes.{count_up}
 use Rattle.shop_edges.specs.Clocks.{Tells}
 use Rattle.shop_edges.specs.Gateways.{Answered}
@@ -7,8 +7,7 @@ use Rattle.shop_edges.specs.declared.gateway.Answer.{Answer}
 use Rattle.shop_edges.proofs.cited.Answering.{answered_nothing}
 use Rattle.shop_message.specs.declared.messages.Message.{Message}
 use Rattle.shop_model.specs.declared.requests.Request.{Request}
-use Rattle.shop_model.specs.declared.tables.Tables.{Tables}
-use Rattle.shop_model.specs.lists.Catalogues.{Catalogue, catalogue}
+use Rattle.shop_model.specs.lists.Catalogues.{Catalogue, opened}
 use Rattle.shop_model.specs.rows.Limits.{stamp_limit}
 use Rattle.shop_model.specs.asked.Refusals.{page_of}
 use Rattle.shop_history.specs.declared.acts.Entry.{Entry}
@@ -45,8 +44,7 @@ pub still_posted : (old new : Seat) (index : Catalogue) (caller : Caller) → Is
 still_posted old new index caller was follows = record {
   valid = follows.valid was.valid;
   number = follows.caller ∙ was.number;
-  named = was.named ∙ ap catalogue (sym follows.opening);
-  scaled = was.scaled ∙ ap (λ (t : Tables). length t.items) (sym follows.opening);
+  named = was.named ∙ ap opened (sym follows.opening);
 }
 
 -- the log of a seat is legal, and the tables are sound throughout

@@ -53,12 +53,6 @@ impl Calls {
         self.caller
     }
 
-    pub(crate) fn scale(&self) -> &Scale
-        ensures { result.now ≡ self.now.caller.scale }
-    {
-        &self.scale
-    }
-
     /// Counts one more call; its number, and its word.
     pub(crate) fn next(&mut self) -> (u64, u32)
         ensures call { result.0 ≡ count_up self.old.made }

@@ -229,7 +229,6 @@ impl<St: Store> Worker<St> {
             Err(Memory) => return None,
         }
         let ask = Ask {
-            scale: self.calls.scale(),
             index: &self.index,
             moment: accepted.moment,
             draw: accepted.draw,

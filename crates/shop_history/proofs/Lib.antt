@@ -11,3 +11,5 @@ pub mod WindowFrame
 pub mod SaleFrame
 pub mod SoundMending
 pub mod MendFrame
+pub mod SoundAdding
+pub mod AddFrame

@@ -1,12 +1,13 @@
 -- What the administration of an item leaves as it was.
-use Rattle.std.proofs.Common.{◌≡◌, ℕ, zero, suc, ◌-◌, Bool, true, false, nat_lt, List, [], ◌∷◌, map, filter, take, Option, Some, None, option_map, unwrap_or, slice_get, slice_set, Contains, ◌⊎◌, inl, inr, ⊎_elim, refl, sym, ◌∙◌, ap, arith}
+use Rattle.std.proofs.Common.{◌≡◌, ℕ, zero, suc, ◌-◌, Bool, true, false, nat_lt, List, [], ◌∷◌, map, filter, take, drop, Option, Some, None, option_map, unwrap_or, slice_get, slice_set, Contains, ◌⊎◌, inl, inr, ⊎_elim, refl, sym, ◌∙◌, ap, arith}
 use Rattle.std.specs.Str.{bytes_eq}
 use Rattle.std.proofs.lemmas.Bool.{cases_eq}
+use Rattle.std.proofs.lemmas.List.{length-set}
 use Rattle.shop_model.specs.declared.subject.Subject.{Subject}
 use Rattle.shop_model.specs.declared.subject.Subject.TheVariants.{Arts}
 use Rattle.shop_model.specs.declared.tables.Tables.{Tables}
 use Rattle.shop_model.specs.asked.AdminAsked.{AdminAsked}
-use Rattle.shop_model.specs.lists.Catalogues.{Naming, naming}
+use Rattle.shop_model.specs.lists.Catalogues.{Naming, naming, found}
 use Rattle.shop_model.specs.lists.Rankings.{newest, best, in_order, better, newer, sold_lately, Sale}
 use Rattle.shop_model.specs.rows.Limits.{list_limit}
 use Rattle.shop_model.specs.rows.Lookups.{row_numbered}
@@ -88,4 +89,8 @@ module _ (t : Tables) (stamp : ℕ) (asked : AdminAsked) (item : ItemRow) (there
       inl (1, omega arith, ap key.TheVariants.NewIn (its_subject ∙ names_one item.subject subject same)))
       (λ (other : bytes_eq (subject_name item.subject) (subject_name subject) ≡ false). inr (ap row.TheVariants.Items (newest_stays subject other)))
   mended_frame (key.TheVariants.BestIn subject) = inr (ap row.TheVariants.Items (best_stays subject))
+  mended_frame key.TheVariants.Count = inr (ap row.TheVariants.Number (length-set t.items (asked.item - 1) mended))
+  mended_frame (key.TheVariants.Added search) =
+      inr (ap (λ (names : List Naming). row.TheVariants.Items (found (record { items = drop t.born_items names; authors = t.authors }) search.kind search.text))
+      (seen_set naming t.items asked.item item mended there refl))
   mended_frame _ = inr refl

@@ -1,9 +1,10 @@
 -- What a customer who buys a cart leaves as it was.
-use Rattle.std.proofs.Common.{◌≡◌, ℕ, zero, suc, ◌+◌, ◌-◌, ◌<◌, ◌≤◌, ◌==◌, ◌||◌, Bool, true, false, eqb, List, [], ◌∷◌, ◌++◌, length, map, filter, sum_by, take, get_or, All, ltb, Option, Some, None, option_map, unwrap_or, slice_get, Contains, ◌⊎◌, inl, inr, ⊎_elim, refl, sym, ◌∙◌, ap, subst, arith}
+use Rattle.std.proofs.Common.{◌≡◌, ℕ, zero, suc, ◌+◌, ◌-◌, ◌<◌, ◌≤◌, ◌==◌, ◌||◌, Bool, true, false, eqb, List, [], ◌∷◌, ◌++◌, length, map, filter, sum_by, take, drop, get_or, All, ltb, Option, Some, None, option_map, unwrap_or, slice_get, Contains, ◌⊎◌, inl, inr, ⊎_elim, refl, sym, ◌∙◌, ap, subst, arith}
 use Rattle.std.specs.List.{list_any, flat_map, find}
 use Rattle.std.specs.Str.{bytes_eq}
 use Rattle.std.specs.declared.cmp.Ordering.{Ordering}
 use Rattle.std.proofs.lemmas.Bool.{cases_eq, eqb-true, cond-true, cond-false}
+use Rattle.std.proofs.lemmas.List.{length-map}
 use Rattle.std.proofs.lemmas.List.Elements.{All-nil, All-cons, All-head, All-tail, All-weaker, Contains-append_left, Contains-append_right, Contains-append_cases}
 use Rattle.shop_model.proofs.cited.Lists.{id_of_place}
 use Rattle.std.proofs.lemmas.Option.{slice_get-get_or}
@@ -13,6 +14,7 @@ use Rattle.shop_model.specs.declared.address.AddressText.{AddressText}
 use Rattle.shop_model.specs.declared.subject.Subject.{Subject}
 use Rattle.shop_model.specs.declared.tables.Tables.{Tables}
 use Rattle.shop_model.specs.asked.PurchaseAsked.{PurchaseAsked}
+use Rattle.shop_model.specs.lists.Catalogues.{Naming, naming, found}
 use Rattle.shop_model.specs.lists.Rankings.{put_among, in_order, newer, newest, better, Sale, best, sold_lately, in_subject}
 use Rattle.shop_model.specs.lists.Related.{Sold, sold_of, has_item, is_of, ascending, totals_of, recent, buyers, bought}
 use Rattle.shop_model.specs.pages.Priced.{order_lines}
@@ -441,4 +443,8 @@ module _ (t : Tables) (sound : Sound t) (asked : PurchaseAsked) (stamp draw : �
       (λ (apart : id ≡ asked.c → ⊥).
       inr (ap (λ (o : Option (Option ℕ)). shown row.TheVariants.Id (joined o)) (row_set_apart t.last customer.id id (Some order.id) above (λ same. apart (same ∙ buyer_is)))))
       (cases_eq id asked.c)
+  purchase_frame key.TheVariants.Count = inr (ap row.TheVariants.Number (length-map t.items (sold_item order)))
+  purchase_frame (key.TheVariants.Added search) =
+      inr (ap (λ (names : List Naming). row.TheVariants.Items (found (record { items = drop t.born_items names; authors = t.authors }) search.kind search.text))
+      (map_seen naming (sold_item order) t.items (λ i. refl)))
   purchase_frame _ = inr refl

@@ -68,6 +68,7 @@ sound_with t carts are sound = record {
   countries = sound.countries;
   six = sound.six;
   born = sound.born;
+  born_items = sound.born_items;
 }
 
 -- a new cart, and one in the place of another

@@ -74,6 +74,7 @@ customers_sound t customers lasts are sound = record {
   countries = sound.countries;
   six = sound.six;
   born = sound.born;
+  born_items = sound.born_items;
 }
 
 -- a customer logs in
@@ -184,6 +185,7 @@ addresses_sound t address next fits country sound =
       countries = sound.countries;
       six = sound.six;
       born = sound.born;
+      born_items = sound.born_items;
     }
 
 pub shared_sound : (t : Tables) (text : AddressText) (same : Option Address) → length t.addresses + 1 < 2 ^ 32 → IsAddressAsked text

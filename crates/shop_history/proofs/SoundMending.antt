@@ -101,4 +101,5 @@ module _ (t : Tables) (sound : Sound t) (stamp : ℕ) (bound : stamp ≤ stamp_l
     countries = sound.countries;
     six = omega (arith, sound.six, same_length);
     born = sound.born;
+    born_items = omega (arith, sound.born_items, same_length);
   }

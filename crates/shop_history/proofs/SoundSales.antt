@@ -29,7 +29,7 @@ pub record IsNext (t : Tables) (order : OrderRow) : Type 0 where
   pub card_bounds : IsCardUse order.card
 
 -- a row more, whose id is the next
-rows_push : {A : Type 0} (id_of : A → ℕ) (rows : List A) (row : A) → id_of row ≡ length rows + 1 → length rows + 1 < 2 ^ 32 → Runs (map id_of rows) → Runs (map id_of (rows ++ row ∷ []))
+pub rows_push : {A : Type 0} (id_of : A → ℕ) (rows : List A) (row : A) → id_of row ≡ length rows + 1 → length rows + 1 < 2 ^ 32 → Runs (map id_of rows) → Runs (map id_of (rows ++ row ∷ []))
 rows_push id_of rows row next fits runs =
     subst Runs (sym (map-append id_of rows (row ∷ [])))
     (runs_push (map id_of rows) (id_of row) (omega (arith, next, length-map rows id_of)) (omega (arith, next, fits)) runs)
@@ -160,4 +160,5 @@ module _ (t : Tables) (sound : Sound t) (fits : length t.orders + 1 < 2 ^ 32) (r
     countries = sound.countries;
     six = omega (arith, sound.six, same_items);
     born = omega (arith, sound.born, length-append t.orders (order ∷ []));
+    born_items = omega (arith, sound.born_items, same_items);
   }

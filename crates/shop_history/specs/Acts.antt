@@ -1,14 +1,15 @@
 -- What an act makes of the tables, and of which request it is.
-use Rattle.std.specs.Prelude.{◌≡◌, ℕ, List, [], Option, Some, None, unwrap_or}
+use Rattle.std.specs.Prelude.{◌≡◌, ℕ, ◌+◌, [], length, Option, Some, None, unwrap_or}
 use Rattle.shop_model.specs.declared.page.Page.{Page}
 use Rattle.shop_model.specs.declared.requests.Request.{Request}
 use Rattle.shop_model.specs.declared.buying.BuyRequest as buying
 use Rattle.shop_model.specs.declared.buying.Buyer.{Buyer}
 use Rattle.shop_model.specs.declared.buying.Buyer.TheVariants.{Returning, Newcomer}
 use Rattle.shop_model.specs.declared.refusal.Refusal.TheVariants.{NoUserName, NoCustomer, NoItem}
-use Rattle.shop_model.specs.declared.requests.Request.TheVariants.{CartRequest, BuyRequest, BuyConfirm, AdminConfirm}
+use Rattle.shop_model.specs.declared.requests.Request.TheVariants.{CartRequest, BuyRequest, BuyConfirm, AdminConfirm, AdminAdd}
 use Rattle.shop_model.specs.declared.tables.Tables.{Tables}
 use Rattle.shop_model.specs.declared.tax.TaxRule.{TaxRule}
+use Rattle.shop_model.specs.asked.AddAsked.{AddAsked, IsAddAsked}
 use Rattle.shop_model.specs.asked.AdminAsked.{AdminAsked, IsAdminAsked}
 use Rattle.shop_model.specs.asked.CartAsked.{CartAsked, IsCartAsked}
 use Rattle.shop_model.specs.asked.CustomersAsked.{IsId, IsLoginAsked, IsNewcomerAsked}
@@ -16,16 +17,18 @@ use Rattle.shop_model.specs.asked.PurchaseAsked.{PurchaseAsked, IsPurchaseAsked}
 use Rattle.shop_model.specs.asked.Refusals.{page_of}
 use Rattle.shop_model.specs.rows.Lookups.{row_numbered, rate_of}
 use Rattle.shop_model.specs.rows.Rows.{CustomerRow, ItemRow}
+use Rattle.shop_model.specs.trade.Adding.{tables_added}
 use Rattle.shop_model.specs.trade.Buyers.{buyer_country, buyer_row, tables_entered}
 use Rattle.shop_model.specs.trade.Carts.{lines_named, lines_after, cart_meant, carts_with}
 use Rattle.shop_model.specs.trade.Mending.{mended_item, tables_mended}
 use Rattle.shop_model.specs.trade.Sales.{Terms, new_order, tables_bought}
+use Rattle.shop_model.specs.pages.AdminAdd.{added_page}
 use Rattle.shop_model.specs.pages.AdminConfirm.{mended_page}
 use Rattle.shop_model.specs.pages.BuyConfirm.{confirm_page, purchase_ids}
 use Rattle.shop_model.specs.pages.BuyRequest.{buy_request}
 use Rattle.shop_model.specs.pages.ShoppingCart.{cart_page, ids_with}
 use Rattle.shop_history.specs.declared.acts.Act.{Act}
-use Rattle.shop_history.specs.declared.acts.Act.TheVariants.{Cart, Enter, Confirm, Admin}
+use Rattle.shop_history.specs.declared.acts.Act.TheVariants.{Cart, Enter, Confirm, Admin, Add}
 
 -- what an act gives: the tables, and the page
 pub record Played : Type 0 where
@@ -80,12 +83,20 @@ play_admin t stamp asked = record {
   page = administered_page t stamp asked (row_numbered t.items asked.item);
 }
 
+-- what an item that is added gives
+abbrev pub play_add : Tables → ℕ → AddAsked → Played
+play_add t stamp asked = record {
+  tables = tables_added t stamp asked;
+  page = added_page asked.ids (length t.items + 1) asked.title;
+}
+
 -- what an act gives at a stamp, where the check of its request is none
 abbrev pub play : Tables → ℕ → Act → Played
 play t stamp (Cart asked draw) = play_cart t asked draw
 play t stamp (Enter asked draw) = play_enter t stamp asked draw
 play t stamp (Confirm asked draw auth tax) = play_confirm t stamp asked draw (record { auth = auth; tax = tax })
 play t stamp (Admin asked) = play_admin t stamp asked
+play t stamp (Add asked) = play_add t stamp asked
 
 -- the request that an act does
 abbrev pub request_of : Act → Request
@@ -93,6 +104,7 @@ request_of (Cart asked draw) = CartRequest asked
 request_of (Enter asked draw) = BuyRequest asked
 request_of (Confirm asked draw auth tax) = BuyConfirm asked
 request_of (Admin asked) = AdminConfirm asked
+request_of (Add asked) = AdminAdd asked
 
 -- an act has the word that was drawn for its request, if it needs it
 abbrev pub HasDrawn : ℕ → Act → Type 0
@@ -100,6 +112,7 @@ HasDrawn draw (Cart asked word) = word ≡ draw
 HasDrawn draw (Enter asked word) = word ≡ draw
 HasDrawn draw (Confirm asked word auth tax) = word ≡ draw
 HasDrawn draw (Admin asked) = Unit {0}
+HasDrawn draw (Add asked) = Unit {0}
 
 -- a purchase is taxed by this rule
 abbrev pub HasTax : TaxRule → Act → Type 0
@@ -107,6 +120,7 @@ HasTax tax (Cart asked draw) = Unit {0}
 HasTax tax (Enter asked draw) = Unit {0}
 HasTax tax (Confirm asked draw auth rule) = rule ≡ tax
 HasTax tax (Admin asked) = Unit {0}
+HasTax tax (Add asked) = Unit {0}
 
 -- an act does this request, with this word, and taxes it by this rule
 pub record IsActOf (request : Request) (draw : ℕ) (tax : TaxRule) (act : Act) : Type 0 where
@@ -125,3 +139,4 @@ IsInForm (Cart asked draw) = IsCartAsked asked
 IsInForm (Enter asked draw) = IsId asked.cart × IsBuyer asked.buyer
 IsInForm (Confirm asked draw auth tax) = IsPurchaseAsked asked
 IsInForm (Admin asked) = IsAdminAsked asked
+IsInForm (Add asked) = IsAddAsked asked

@@ -1,7 +1,8 @@
 -- What keys show.
-use Rattle.std.specs.Prelude.{Bool, true, false, Option, Some, None, option_map}
+use Rattle.std.specs.Prelude.{Bool, length, true, false, Option, Some, None, option_map}
 use Rattle.shop_model.specs.declared.tables.Tables.{Tables}
 use Rattle.shop_model.specs.rows.Lookups.{row_numbered, author_of, joined}
+use Rattle.shop_model.specs.lists.Catalogues.{added, found}
 use Rattle.shop_model.specs.lists.Rankings.{newest, best}
 use Rattle.shop_model.specs.lists.Related.{buyers, bought}
 use Rattle.shop_model.specs.rows.Rows.{ItemRow}
@@ -38,6 +39,8 @@ row_of t (key.TheVariants.SameAddress text) = shown row.TheVariants.Id (option_m
 row_of t (key.TheVariants.Country id) = shown row.TheVariants.Country (row_numbered t.countries id)
 row_of t (key.TheVariants.Order id) = shown row.TheVariants.Order (row_numbered t.orders id)
 row_of t (key.TheVariants.LastOrder customer) = shown row.TheVariants.Id (joined (row_numbered t.last customer))
+row_of t key.TheVariants.Count = row.TheVariants.Number (length t.items)
+row_of t (key.TheVariants.Added search) = row.TheVariants.Items (found (added t) search.kind search.text)
 
 -- whether a row is an item
 abbrev pub is_item : Row → Bool

@@ -4,7 +4,7 @@ use Rattle.shop_log.specs.Histories as histories
 use Rattle.shop_log.specs.Histories.{History, state_after}
 use Rattle.shop_model.specs.declared.page.Page.{Page}
 use Rattle.shop_model.specs.declared.tables.Tables.{Tables}
-use Rattle.shop_model.specs.lists.Catalogues.{catalogue}
+use Rattle.shop_model.specs.lists.Catalogues.{opened}
 use Rattle.shop_model.specs.pages.Show.{check}
 use Rattle.shop_model.specs.rows.Limits.{stamp_limit}
 use Rattle.shop_model.specs.rows.Lookups.{row_numbered}
@@ -59,6 +59,6 @@ pub record IsGood (t : Tables) (room : ℕ) : Type 0 where
   pub sound : Sound t
   pub room_for : Room t room
 
--- tables whose items and authors are named as in these
+-- tables that opened with the items and the authors of these
 abbrev pub SameCatalogue : Tables → Tables → Type 0
-SameCatalogue t other = catalogue other ≡ catalogue t
+SameCatalogue t other = opened other ≡ opened t

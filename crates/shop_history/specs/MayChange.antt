@@ -1,11 +1,12 @@
 -- Which keys an act can change; what every other key shows stays.
-use Rattle.std.specs.Prelude.{ℕ, ◌+◌, ◌-◌, nat_lt, List, [], ◌∷◌, ◌++◌, length, map, slice_get, Option, Some, None, option_map, unwrap_or, if◌then◌else◌}
+use Rattle.std.specs.Prelude.{ℕ, ◌+◌, ◌-◌, nat_lt, List, [], ◌∷◌, ◌++◌, length, map, slice_get, Contains, Option, Some, None, option_map, unwrap_or, if◌then◌else◌}
 use Rattle.shop_text.specs.Texts.{digsyl}
 use Rattle.shop_model.specs.declared.address.Address.{Address}
 use Rattle.shop_model.specs.declared.address.AddressText.{AddressText}
 use Rattle.shop_model.specs.declared.buying.Buyer.{Buyer}
 use Rattle.shop_model.specs.declared.buying.Buyer.TheVariants.{Returning, Newcomer}
 use Rattle.shop_model.specs.declared.tables.Tables.{Tables}
+use Rattle.shop_model.specs.asked.AddAsked.{AddAsked}
 use Rattle.shop_model.specs.asked.PurchaseAsked.{PurchaseAsked}
 use Rattle.shop_model.specs.declared.subject.Subject.{Subject}
 use Rattle.shop_model.specs.declared.subject.Subject.TheVariants.{Arts}
@@ -93,10 +94,25 @@ purchase_changes t asked =
     ++ ship_changes t asked.address
     ++ lists_change t asked.c items
 
--- the keys that an act can change
+-- what an item that is added changes, besides the searches that find it
+abbrev pub add_changes : Tables → AddAsked → List Key
+add_changes t asked =
+    key.TheVariants.Item (length t.items + 1)
+    ∷ key.TheVariants.Label (length t.items + 1)
+    ∷ key.TheVariants.Count
+    ∷ key.TheVariants.NewIn asked.subject
+    ∷ []
+
+-- the keys that an act can change, but for searches
 abbrev pub may_change : Tables → Act → List Key
 may_change t (act.TheVariants.Cart asked draw) = key.TheVariants.Cart (cart_meant t.carts asked.ids.cart) ∷ []
 may_change t (act.TheVariants.Enter asked draw) = buyer_changes t asked.buyer
 may_change t (act.TheVariants.Confirm asked draw auth tax) = purchase_changes t asked
 may_change t (act.TheVariants.Admin asked) =
     key.TheVariants.Item asked.item ∷ key.TheVariants.NewIn (subject_at t asked.item) ∷ []
+may_change t (act.TheVariants.Add asked) = add_changes t asked
+
+-- that an act can change a key: one of those, or a search where an item is added, which any may find
+abbrev pub MayChange : Tables → Act → Key → Type 0
+MayChange t (act.TheVariants.Add asked) (key.TheVariants.Added search) = Unit {0}
+MayChange t act key = Contains (may_change t act) key

@@ -1,4 +1,4 @@
-use shop_model::{AdminConfirm, AuthId, BuyConfirm, BuyRequest, CartRequest, TaxRule};
+use shop_model::{AdminAdd, AdminConfirm, AuthId, BuyConfirm, BuyRequest, CartRequest, TaxRule};
 use shop_text::Shared;
 
 /// What an accepted request does.
@@ -13,6 +13,8 @@ pub enum Act {
     Confirm(Shared<BuyConfirm>, u32, AuthId, TaxRule),
     /// What Admin Confirm makes of an item.
     Admin(Shared<AdminConfirm>),
+    /// That an item is added.
+    Add(Shared<AdminAdd>),
 }
 
 /// An accepted change.

@@ -1,7 +1,8 @@
 ghost use Rattle.std.specs.Prelude.{◌≡◌};
 
 use shop_model::{
-    Address, AddressText, Author, Cart, Country, Customer, Item, ItemDetails, Order, Subject,
+    Address, AddressText, Author, Cart, Country, Customer, Item, ItemDetails, Order, Sought,
+    Subject,
 };
 use shop_text::{Boxed, Caption, Listed, Memory, Shared, Text};
 use std::marker::Model;
@@ -37,6 +38,10 @@ pub enum Key {
     Order(u32),
     /// The id of a customer's last order, by the customer's.
     LastOrder(u32),
+    /// How many items there are.
+    Count,
+    /// The items added since the opening that a search finds.
+    Added(Sought),
 }
 
 /// How an item is named in lists: its title, and its author's names.
@@ -106,4 +111,6 @@ pub enum Row {
     Order(Shared<Order>),
     /// The id of a row that is found in another way.
     Id(u32),
+    /// How many rows there are.
+    Number(u32),
 }

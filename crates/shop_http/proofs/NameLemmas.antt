@@ -10,7 +10,7 @@ use Rattle.std.proofs.lemmas.List.{get_or-set_same, get_or-set_other}
 use Rattle.std.proofs.lemmas.Option.{slice_get_within}
 use Rattle.std.proofs.lemmas.Slice.Eq.{bytes_eq-Decides}
 use Rattle.shop_model.specs.declared.parameter.Parameter.{Parameter}
-use Rattle.shop_model.specs.declared.parameter.Parameter.TheVariants.{C, Cart, Item, Qty, Subject, Kind, Text, User, Pass, FirstName, LastName, Street1, Street2, City, State, Zip, Country, Phone, Email, Card, Number, Name, Expiry, Ship, Cost, Image, Thumb}
+use Rattle.shop_model.specs.declared.parameter.Parameter.TheVariants.{C, Cart, Item, Qty, Subject, Kind, Text, User, Pass, FirstName, LastName, Street1, Street2, City, State, Zip, Country, Phone, Email, Card, Number, Name, Expiry, Ship, Cost, Image, Thumb, Title, Author, Publisher, About, Srp, Stock, Pages, Backing}
 use Rattle.shop_model.specs.asked.Parameters.{parameter_name}
 use Rattle.shop_http.specs.Firsts.{kept}
 use Rattle.shop_http.specs.Forms.{decoded_text, is_plain, value_of}
@@ -51,6 +51,14 @@ by_name Ship = refl
 by_name Cost = refl
 by_name Image = refl
 by_name Thumb = refl
+by_name Title = refl
+by_name Author = refl
+by_name Publisher = refl
+by_name About = refl
+by_name Srp = refl
+by_name Stock = refl
+by_name Pages = refl
+by_name Backing = refl
 
 by_place : (parameter : Parameter) → slice_get parameters (place_of parameter) ≡ Some parameter
 unfolding parameters
@@ -81,6 +89,14 @@ by_place Ship = refl
 by_place Cost = refl
 by_place Image = refl
 by_place Thumb = refl
+by_place Title = refl
+by_place Author = refl
+by_place Publisher = refl
+by_place About = refl
+by_place Srp = refl
+by_place Stock = refl
+by_place Pages = refl
+by_place Backing = refl
 
 pub place-within : (parameter : Parameter) → place_of parameter < PARAMETERS
 unfolding parameters
@@ -143,6 +159,14 @@ plain_name Ship = refl
 plain_name Cost = refl
 plain_name Image = refl
 plain_name Thumb = refl
+plain_name Title = refl
+plain_name Author = refl
+plain_name Publisher = refl
+plain_name About = refl
+plain_name Srp = refl
+plain_name Stock = refl
+plain_name Pages = refl
+plain_name Backing = refl
 
 pub named-encoded : (encoded : List ℕ) (parameter : Parameter) → parameter_named encoded ≡ Some parameter → decoded_text encoded ≡ encoded
 named-encoded encoded parameter is =
@@ -180,6 +204,14 @@ own-sets-nothing Ship text = refl
 own-sets-nothing Cost text = refl
 own-sets-nothing Image text = refl
 own-sets-nothing Thumb text = refl
+own-sets-nothing Title text = refl
+own-sets-nothing Author text = refl
+own-sets-nothing Publisher text = refl
+own-sets-nothing About text = refl
+own-sets-nothing Srp text = refl
+own-sets-nothing Stock text = refl
+own-sets-nothing Pages text = refl
+own-sets-nothing Backing text = refl
 
 pub sets-nothing : (name text : List ℕ) (parameter : Parameter) → parameter_named name ≡ Some parameter → set_asked (name, text) ≡ None
 sets-nothing name text parameter is =

@@ -5,7 +5,6 @@ use Rattle.std.specs.Str.{bytes_eq}
 use Rattle.std.proofs.lemmas.Slice.Eq.{bytes_eq-Decides}
 use Rattle.shop_model.specs.declared.requests.Interaction.{Interaction}
 use Rattle.shop_model.specs.asked.Interactions.{interaction_of}
-use Rattle.shop_http.specs.declared.requests.Refusal.{Refusal}
 use Rattle.shop_http.specs.declared.requests.Refusal.TheVariants as refusal
 use Rattle.shop_http.specs.Forms.{pairs}
 use Rattle.shop_http.specs.Requests.{path_of, query_of, request_by, named, form_of, asked_at, pairs_asked, asked_of}

@@ -7,9 +7,10 @@ use Rattle.std.specs.Str.{bytes_eq}
 use Rattle.std.specs.Str.Lossy.{utf8_lossy}
 use Rattle.form_urlencoded.specs.Form.{decode, parse}
 use Rattle.shop_model.specs.declared.parameter.Parameter.{Parameter}
-use Rattle.shop_model.specs.rows.Limits.{price_limit, text_limit}
+use Rattle.shop_model.specs.rows.Limits.{added_stock_limit, pages_limit, price_limit, text_limit}
 use Rattle.shop_model.specs.asked.Cards.{is_card_number, is_month}
 use Rattle.shop_model.specs.asked.Parameters.{parameter_name}
+use Rattle.shop_model.specs.trade.Stocks.{least_stock}
 use Rattle.shop_text.specs.Numbers.{number_of}
 
 -- a name and a value
@@ -76,6 +77,18 @@ country_of digits = option_and_then (λ id. if nat_le 1 id && nat_le id 92 then 
 -- a cost in cents
 unfoldable pub cost_of : Form ℕ
 cost_of digits = option_and_then (λ cost. if nat_le 1 cost && nat_le cost price_limit then Some cost else None) (number_of digits)
+
+-- a number between two others, or one of them
+unfoldable pub number_between : ℕ → ℕ → Form ℕ
+number_between least most digits =
+    option_and_then (λ number. if nat_le least number && nat_le number most then Some number else None) (number_of digits)
+
+-- the units in stock that an item is added with, and its pages
+abbrev pub stock_of : Form ℕ
+stock_of = number_between least_stock added_stock_limit
+
+abbrev pub pages_of : Form ℕ
+pages_of = number_between 1 pages_limit
 
 -- the number of a card
 unfoldable pub card_number_of : Form (List ℕ)

@@ -3,7 +3,7 @@ use Rattle.std.specs.Prelude.{ℕ, List, [], ◌∷◌, Option}
 use Rattle.std.specs.List.{find}
 use Rattle.std.specs.Str.{bytes_eq}
 use Rattle.shop_model.specs.declared.parameter.Parameter.{Parameter}
-use Rattle.shop_model.specs.declared.parameter.Parameter.TheVariants.{C, Cart, Item, Qty, Subject, Kind, Text, User, Pass, FirstName, LastName, Street1, Street2, City, State, Zip, Country, Phone, Email, Card, Number, Name, Expiry, Ship, Cost, Image, Thumb}
+use Rattle.shop_model.specs.declared.parameter.Parameter.TheVariants.{C, Cart, Item, Qty, Subject, Kind, Text, User, Pass, FirstName, LastName, Street1, Street2, City, State, Zip, Country, Phone, Email, Card, Number, Name, Expiry, Ship, Cost, Image, Thumb, Title, Author, Publisher, About, Srp, Stock, Pages, Backing}
 use Rattle.shop_model.specs.asked.Parameters.{parameter_name}
 
 -- all parameters
@@ -11,7 +11,8 @@ unfoldable pub parameters : List Parameter
 parameters =
     C ∷ Cart ∷ Item ∷ Qty ∷ Subject ∷ Kind ∷ Text ∷ User ∷ Pass ∷ FirstName ∷ LastName ∷
     Street1 ∷ Street2 ∷ City ∷ State ∷ Zip ∷ Country ∷ Phone ∷ Email ∷
-    Card ∷ Number ∷ Name ∷ Expiry ∷ Ship ∷ Cost ∷ Image ∷ Thumb ∷ []
+    Card ∷ Number ∷ Name ∷ Expiry ∷ Ship ∷ Cost ∷ Image ∷ Thumb ∷
+    Title ∷ Author ∷ Publisher ∷ About ∷ Srp ∷ Stock ∷ Pages ∷ Backing ∷ []
 
 -- the parameter with a name
 unfoldable pub parameter_named : List ℕ → Option Parameter
@@ -46,3 +47,11 @@ place_of Ship = 23
 place_of Cost = 24
 place_of Image = 25
 place_of Thumb = 26
+place_of Title = 27
+place_of Author = 28
+place_of Publisher = 29
+place_of About = 30
+place_of Srp = 31
+place_of Stock = 32
+place_of Pages = 33
+place_of Backing = 34

@@ -7,11 +7,12 @@ use Rattle.std.specs.Str.{bytes_eq}
 use Rattle.shop_model.specs.declared.requests.Interaction.{Interaction}
 use Rattle.shop_model.specs.declared.requests.Interaction.TheVariants as interaction
 use Rattle.shop_model.specs.declared.parameter.Parameter.{Parameter}
-use Rattle.shop_model.specs.declared.parameter.Parameter.TheVariants.{C, Cart, Item, Qty, Subject, Kind, Text, User, Pass, FirstName, LastName, Street1, Street2, City, State, Zip, Country, Phone, Email, Card, Number, Name, Expiry, Ship, Cost, Image, Thumb}
+use Rattle.shop_model.specs.declared.parameter.Parameter.TheVariants.{C, Cart, Item, Qty, Subject, Kind, Text, User, Pass, FirstName, LastName, Street1, Street2, City, State, Zip, Country, Phone, Email, Card, Number, Name, Expiry, Ship, Cost, Image, Thumb, Title, Author, Publisher, About, Srp, Stock, Pages, Backing}
 use Rattle.shop_model.specs.declared.address.AddressText.{AddressText}
 use Rattle.shop_model.specs.declared.buying.Buyer.{Buyer}
 use Rattle.shop_model.specs.declared.buying.Buyer.TheVariants as buyer
 use Rattle.shop_model.specs.declared.ship_type.ShipType.{ShipType}
+use Rattle.shop_model.specs.asked.AddAsked.{AddAsked}
 use Rattle.shop_model.specs.asked.AdminAsked.{AdminAsked}
 use Rattle.shop_model.specs.declared.ship_type.ShipType.TheVariants.{Mail}
 use Rattle.shop_model.specs.declared.requests.IdsAsked.{IdsAsked}
@@ -21,13 +22,13 @@ use Rattle.shop_model.specs.asked.CustomersAsked.{LoginAsked, NewcomerAsked}
 use Rattle.shop_model.specs.asked.Interactions.{interaction_of}
 use Rattle.shop_model.specs.asked.Kinds.{kind_of}
 use Rattle.shop_model.specs.asked.PurchaseAsked.{CardAsked, PurchaseAsked}
-use Rattle.shop_model.specs.rows.Subjects.{subject_of, card_of, ship_of}
+use Rattle.shop_model.specs.rows.Subjects.{subject_of, backing_of, card_of, ship_of}
 use Rattle.shop_message.specs.declared.messages.Message.{Message}
 use Rattle.shop_model.specs.declared.refusal.Refusal as told
 use Rattle.shop_model.specs.declared.refusal.Refusal.TheVariants as page
 use Rattle.shop_http.specs.declared.requests.Refusal.{Refusal}
 use Rattle.shop_http.specs.declared.requests.Refusal.TheVariants as refusal
-use Rattle.shop_http.specs.Forms.{Pair, pairs, value_of, required, optional, or_empty, text_of, short_text_of, country_of, card_number_of, month_of, cost_of}
+use Rattle.shop_http.specs.Forms.{Pair, pairs, value_of, required, optional, or_empty, text_of, short_text_of, country_of, card_number_of, month_of, cost_of, stock_of, pages_of}
 use Rattle.shop_text.specs.Numbers.{number_of}
 use Rattle.shop_http.specs.Sets.{sets_asked}
 
@@ -187,6 +188,41 @@ administration_asked pairs =
 abbrev pub admin_confirm : List Pair → Result Request Parameter
 admin_confirm pairs = in_turn (administration_asked pairs) (λ asked. Ok (request.AdminConfirm asked))
 
+-- what an item that is added is to be
+abbrev pub addition_asked : List Pair → Result AddAsked Parameter
+addition_asked pairs =
+    in_turn (required text_of pairs Title) (λ title.
+    in_turn (required number_of pairs Author) (λ author.
+    in_turn (required subject_of pairs Subject) (λ subject.
+    in_turn (required text_of pairs Publisher) (λ publisher.
+    in_turn (required text_of pairs About) (λ about.
+    in_turn (required text_of pairs Image) (λ image.
+    in_turn (required text_of pairs Thumb) (λ thumb.
+    in_turn (required cost_of pairs Srp) (λ srp.
+    in_turn (required cost_of pairs Cost) (λ cost.
+    in_turn (required stock_of pairs Stock) (λ stock.
+    in_turn (required pages_of pairs Pages) (λ pages.
+    in_turn (required backing_of pairs Backing) (λ backing.
+    in_turn (ids_asked pairs) (λ ids.
+    Ok (record {
+      title = title;
+      author = author;
+      subject = subject;
+      publisher = publisher;
+      about = about;
+      image = image;
+      thumb = thumb;
+      srp = srp;
+      cost = cost;
+      stock = stock;
+      pages = pages;
+      backing = backing;
+      ids = ids;
+    }))))))))))))))
+
+abbrev pub admin_add : List Pair → Result Request Parameter
+admin_add pairs = in_turn (addition_asked pairs) (λ asked. Ok (request.AdminAdd asked))
+
 -- what the pairs ask for at an interaction, or the first parameter that is missing or not in its form
 abbrev pub request_by : Interaction → List Pair → Result Request Parameter
 request_by interaction.Home = home
@@ -203,6 +239,7 @@ request_by interaction.OrderInquiry = order_inquiry
 request_by interaction.OrderDisplay = order_display
 request_by interaction.AdminRequest = admin_request
 request_by interaction.AdminConfirm = admin_confirm
+request_by interaction.AdminAdd = admin_add
 
 -- what stands before the first `?`, and what follows it
 abbrev pub path_of : List ℕ → List ℕ

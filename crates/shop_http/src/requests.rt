@@ -9,7 +9,7 @@ ghost use Rattle.shop_http.specs.Requests as spec;
 
 use crate::constants::is_same;
 use crate::router::Routes;
-use administration::{admin_confirm, admin_request};
+use administration::{admin_add, admin_confirm, admin_request};
 use browsing::{best_sellers, home, new_products, product_detail, search_request, search_results};
 use buying::{buy_confirm, buy_request, customer_registration, order_display, order_inquiry};
 use cart::shopping_cart;
@@ -150,6 +150,7 @@ fn read(
         Interaction::OrderDisplay => order_display(alloc, &pairs),
         Interaction::AdminRequest => admin_request(alloc, &pairs),
         Interaction::AdminConfirm => admin_confirm(alloc, &pairs),
+        Interaction::AdminAdd => admin_add(alloc, &pairs),
     }
 }
 

@@ -2,8 +2,10 @@ pub mod Cards
 pub mod LastOrders
 pub mod Lists
 pub mod Lookups
+pub mod Opened
 pub mod Populated
 pub mod RelatedFive
 pub mod Restocking
 pub mod Scales
+pub mod Searches
 pub mod SetLines

@@ -12,6 +12,8 @@ pub mod CardView
 pub mod PurchaseView
 pub mod AdminAsked
 pub mod AdminView
+pub mod AddAsked
+pub mod AddView
 pub mod LoginView
 pub mod NewcomerView
 pub mod Interactions

@@ -18,4 +18,5 @@ pub mod OrderInquiry
 pub mod OrderDisplay
 pub mod AdminRequest
 pub mod AdminConfirm
+pub mod AdminAdd
 pub mod Show

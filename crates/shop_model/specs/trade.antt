@@ -5,3 +5,4 @@ pub mod Stocks
 pub mod Taxes
 pub mod Sales
 pub mod Mending
+pub mod Adding

@@ -26,13 +26,14 @@ mod refusal;
 mod requests;
 mod scale;
 mod ship_type;
+mod sought;
 mod subject;
 mod tables;
 mod tax;
 pub mod words;
 
 pub use address::{Address, AddressText};
-pub use administration::{AdminConfirm, AdminRequest};
+pub use administration::{AdminAdd, AdminConfirm, AdminRequest};
 pub use auth_id::AuthId;
 pub use author::Author;
 pub use backing::Backing;
@@ -49,8 +50,9 @@ pub use customer::{Customer, CustomerDetails};
 pub use drawing::{Words, drawn, word};
 pub use item::{Item, ItemDetails};
 pub use limits::{
-    DAY_LENGTH, DAY_LIMIT, DISCOUNT_LIMIT, LINES_LIMIT, PRICE_LIMIT, QUANTITY_LIMIT, SESSION_TIME,
-    SETS_LIMIT, STAMP_LIMIT, STOCK_LIMIT, TEXT_LIMIT,
+    ADDED_STOCK_LIMIT, DAY_LENGTH, DAY_LIMIT, DISCOUNT_LIMIT, ITEMS_LIMIT, LEAST_STOCK,
+    LINES_LIMIT, PAGES_LIMIT, PRICE_LIMIT, QUANTITY_LIMIT, SESSION_TIME, SETS_LIMIT, STAMP_LIMIT,
+    STOCK_LIMIT, TEXT_LIMIT,
 };
 pub use line::Line;
 pub use lookups::row_numbered;
@@ -65,6 +67,7 @@ pub use requests::{
 };
 pub use scale::Scale;
 pub use ship_type::ShipType;
+pub use sought::{Sought, lower_text};
 pub use subject::Subject;
 pub use tables::Tables;
 pub use tax::TaxRule;

@@ -18,8 +18,20 @@ pub const SETS_LIMIT: usize = 100;
 /// The most bytes of a parameter that is a text.
 pub const TEXT_LIMIT: usize = 100;
 
+/// A shop of so many items takes no more.
+pub const ITEMS_LIMIT: u32 = 10_000;
+
 /// The most units of an item in stock.
 pub const STOCK_LIMIT: u32 = 1_000_000;
+
+/// The least units in stock.
+pub const LEAST_STOCK: u32 = 10;
+
+/// The most units that an item may be added with.
+pub const ADDED_STOCK_LIMIT: u32 = 1_000;
+
+/// The most pages that it may have.
+pub const PAGES_LIMIT: u32 = 9_999;
 
 /// The milliseconds of a day.
 pub const DAY_LENGTH: u64 = 86_400_000;

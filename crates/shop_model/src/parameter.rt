@@ -44,6 +44,20 @@ pub enum Parameter {
     Image,
     /// The link to its small picture.
     Thumb,
+    /// The title of an item that is added.
+    Title,
+    /// The id of its author.
+    Author,
+    Publisher,
+    /// What it is about.
+    About,
+    /// Its suggested retail price.
+    Srp,
+    /// The units of it in stock.
+    Stock,
+    Pages,
+    /// How it is bound.
+    Backing,
 }
 
 impl Parameter {
@@ -78,6 +92,14 @@ impl Parameter {
             Parameter::Cost => b"cost",
             Parameter::Image => b"image",
             Parameter::Thumb => b"thumb",
+            Parameter::Title => b"title",
+            Parameter::Author => b"author",
+            Parameter::Publisher => b"publisher",
+            Parameter::About => b"about",
+            Parameter::Srp => b"srp",
+            Parameter::Stock => b"stock",
+            Parameter::Pages => b"pages",
+            Parameter::Backing => b"backing",
         }
     }
 
@@ -113,6 +135,14 @@ impl Parameter {
             Parameter::Cost => b"Bad parameter cost.",
             Parameter::Image => b"Bad parameter image.",
             Parameter::Thumb => b"Bad parameter thumb.",
+            Parameter::Title => b"Bad parameter title.",
+            Parameter::Author => b"Bad parameter author.",
+            Parameter::Publisher => b"Bad parameter publisher.",
+            Parameter::About => b"Bad parameter about.",
+            Parameter::Srp => b"Bad parameter srp.",
+            Parameter::Stock => b"Bad parameter stock.",
+            Parameter::Pages => b"Bad parameter pages.",
+            Parameter::Backing => b"Bad parameter backing.",
         }
     }
 }

@@ -16,6 +16,8 @@ pub enum Refusal {
     FullCart,
     /// One more unit was asked for than a line may have.
     FullLine,
+    /// There are as many items as a shop may add to.
+    FullShop,
     /// The gateway knows the charge's key with another charge.
     CardReused,
     CardStolen,
@@ -24,6 +26,7 @@ pub enum Refusal {
     WrongPassword,
     NoPage,
     NoItem,
+    NoAuthor,
     NoCart,
     NoCustomer,
     NoUserName,
@@ -46,11 +49,13 @@ impl Refusal {
             | Refusal::BadParameter(_)
             | Refusal::EmptyCart
             | Refusal::FullCart
-            | Refusal::FullLine => 400,
+            | Refusal::FullLine
+            | Refusal::FullShop => 400,
             Refusal::CardReused | Refusal::CardStolen | Refusal::CardOverLimit => 402,
             Refusal::WrongPassword => 403,
             Refusal::NoPage
             | Refusal::NoItem
+            | Refusal::NoAuthor
             | Refusal::NoCart
             | Refusal::NoCustomer
             | Refusal::NoUserName => 404,
@@ -73,13 +78,15 @@ impl Refusal {
             | Refusal::BadParameter(_)
             | Refusal::EmptyCart
             | Refusal::FullCart
-            | Refusal::FullLine => b"Bad Request",
+            | Refusal::FullLine
+            | Refusal::FullShop => b"Bad Request",
             Refusal::CardReused | Refusal::CardStolen | Refusal::CardOverLimit => {
                 b"Payment Required"
             }
             Refusal::WrongPassword => b"Forbidden",
             Refusal::NoPage
             | Refusal::NoItem
+            | Refusal::NoAuthor
             | Refusal::NoCart
             | Refusal::NoCustomer
             | Refusal::NoUserName => b"Not Found",
@@ -103,12 +110,14 @@ impl Refusal {
             Refusal::EmptyCart => b"The cart is empty.",
             Refusal::FullCart => b"A cart holds at most 100 lines.",
             Refusal::FullLine => b"A line holds at most 999.",
+            Refusal::FullShop => b"The shop holds at most 10000 items.",
             Refusal::CardReused => b"The card was refused: reused.",
             Refusal::CardStolen => b"The card was refused: stolen.",
             Refusal::CardOverLimit => b"The card was refused: limit.",
             Refusal::WrongPassword => b"Wrong password.",
             Refusal::NoPage => b"No such page.",
             Refusal::NoItem => b"No item has this number.",
+            Refusal::NoAuthor => b"No author has this number.",
             Refusal::NoCart => b"No cart has this number.",
             Refusal::NoCustomer => b"No customer has this number.",
             Refusal::NoUserName => b"No customer has this name.",

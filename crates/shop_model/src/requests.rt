@@ -4,7 +4,7 @@ ghost use Rattle.shop_model.specs.asked.Interactions.{path_of};
 ghost use Rattle.shop_model.specs.asked.Kinds.{kind_of, kind_name};
 
 use crate::Subject;
-use crate::administration::{AdminConfirm, AdminRequest};
+use crate::administration::{AdminAdd, AdminConfirm, AdminRequest};
 use crate::buying::{BuyConfirm, BuyRequest, CustomerRegistration, OrderDisplay, OrderInquiry};
 use shop_text::{Listed, Shared, Text};
 use std::marker::Model;
@@ -26,10 +26,11 @@ pub enum Interaction {
     OrderDisplay,
     AdminRequest,
     AdminConfirm,
+    AdminAdd,
 }
 
 /// All interactions, each once.
-pub const INTERACTIONS: [Interaction; 14] = [
+pub const INTERACTIONS: [Interaction; 15] = [
     Interaction::Home,
     Interaction::NewProducts,
     Interaction::BestSellers,
@@ -44,10 +45,11 @@ pub const INTERACTIONS: [Interaction; 14] = [
     Interaction::OrderDisplay,
     Interaction::AdminRequest,
     Interaction::AdminConfirm,
+    Interaction::AdminAdd,
 ];
 
 impl Interaction {
-    /// The path that pages link to.
+    /// The path that it is asked for by.
     pub fn path(&self) -> &'static str
         ensures { result.now ≡ path_of self.now }
     {
@@ -66,6 +68,7 @@ impl Interaction {
             Interaction::OrderDisplay => "/order_display",
             Interaction::AdminRequest => "/admin_request",
             Interaction::AdminConfirm => "/admin_confirm",
+            Interaction::AdminAdd => "/admin_add",
         }
     }
 }
@@ -206,4 +209,5 @@ pub enum Request {
     OrderDisplay(OrderDisplay),
     AdminRequest(AdminRequest),
     AdminConfirm(Shared<AdminConfirm>),
+    AdminAdd(Shared<AdminAdd>),
 }

@@ -15,4 +15,5 @@ pub mod BuyersLemmas
 pub mod ShoppingCartLemmas
 pub mod RelatedLemmas
 pub mod AdminConfirmLemmas
+pub mod AdminAddLemmas
 pub mod MendingLemmas

@@ -1,7 +1,7 @@
 -- Shopping Cart: what it may read, and the change that it makes by what it has read.
 use Rattle.std.proofs.Common.{◌≡◌, ◌≢◌, ℕ, zero, suc, ◌+◌, ◌≤◌, ◌%◌, List, [], ◌∷◌, ◌++◌, length, take, map, get_or, All, Option, Some, None, option_map, unwrap_or, refl, sym, ◌∙◌, ap, subst, inl, inr, arith}
 use Rattle.std.proofs.lemmas.Bool.{cond-false, ne_eqb}
-use Rattle.std.proofs.lemmas.List.Elements.{All-nil, All-cons, All-map}
+use Rattle.std.proofs.lemmas.List.Elements.{All-map}
 use Rattle.shop_model.specs.declared.refusal.Refusal.{Refusal}
 use Rattle.shop_model.specs.declared.requests.Request.TheVariants.{CartRequest}
 use Rattle.shop_model.specs.declared.tables.Tables.{Tables}
@@ -37,11 +37,13 @@ use Rattle.shop_attempt.specs.Writes.{put_row}
 use Rattle.shop_browse.specs.declared.attempted.Ask.{Ask}
 use Rattle.shop_browse.specs.declared.driver.Next.{Next}
 use Rattle.shop_browse.specs.Attempts.{Becomes}
-use Rattle.shop_browse.specs.Driver.{keys_of, Fits, AreSeen, IsWhole, WereRead, AsksFor, IsNext}
-use Rattle.shop_browse.specs.Footprints.{drawn_item, IsAmong, WasOnCart, LeavesNoLine, IsCartItem, InFootprint}
-use Rattle.shop_browse.proofs.cited.Sizes.{size_of, size_after}
+use Rattle.shop_browse.specs.Counting.{IsNumber, number_in, HasCount}
+use Rattle.shop_browse.specs.Driver.{keys_of, Fits, AreSeen, WereRead, AsksFor, IsNext}
+use Rattle.shop_browse.specs.Footprints.{IsAmong, WasOnCart, LeavesNoLine, IsDrawn, IsCartItem, InFootprint}
+use Rattle.shop_browse.proofs.cited.Counting.{drawn_of, size_read}
+use Rattle.shop_browse.proofs.cited.Reads.{one_read}
 use Rattle.shop_order.specs.Page.{cart_at, page_at}
-use Rattle.shop_order.specs.ShoppingCart.{cart_keys, cart_reads, IsNamed, IsFitRow, IsFitRead, lines_in, begun_with, MakesOfCart, AreItems, behind_cart, HasItems, FollowsCart, put_lines, IsChangeTo}
+use Rattle.shop_order.specs.ShoppingCart.{cart_keys, cart_reads, IsNamed, IsFitRow, IsFitRead, lines_in, begun_with, MakesOfCart, AreItems, behind_cart, HasItems, FollowsLines, FollowsCart, IsNextFor, put_lines, IsChangeTo}
 use Rattle.shop_history.proofs.cited.Shown.{cart_found}
 use Rattle.shop_order.proofs.CartsLemmas.{made_on}
 
@@ -105,32 +107,16 @@ leaves_none opening log asked (Some read) are there empty = record {
   none_left = empty;
 }
 
-lines_on : (opening : Tables) (log : List Entry) (asked : CartAsked) (ask : Ask) (cart : Option ReadOf) (lines : List (ℕ × ℕ)) → IsWhole ask → WereRead ask.index.now opening log (cart_reads cart)
-    → IsNamed asked.ids.cart cart → MakesOfCart ask.scale.now.items asked ask.draw cart lines → All (λ l. IsCartItem opening log asked ask.draw l.0) lines
-lines_on opening log asked ask cart lines whole were is makes =
+lines_on : (opening : Tables) (log : List Entry) (asked : CartAsked) (ask : Ask) (count : ReadOf) (cart : Option ReadOf) (lines : List (ℕ × ℕ)) → count.key ≡ key.Count → IsNumber count.row → WereRead ask.index.now opening log (count ∷ cart_reads cart)
+    → IsNamed asked.ids.cart cart → MakesOfCart (number_in count.row) asked ask.draw cart lines → All (λ l. IsCartItem opening log asked ask.draw l.0) lines
+lines_on opening log asked ask count cart lines count_is number were is makes =
     let Q : ℕ → Type 0 = IsCartItem opening log asked ask.draw in
-    let items : ℕ = ask.scale.now.items in
+    let items : ℕ = number_in count.row in
     let old : List (ℕ × ℕ) = begun_with cart in
-    let drawn : 1 + ask.draw % items ≡ drawn_item (tables opening log) ask.draw = ap (λ n. 1 + ask.draw % n) (whole ∙ sym (size_after ask.index.now opening log were.named)) in
+    let drawn : IsDrawn opening log ask.draw (1 + ask.draw % items) = drawn_of count count_is opening log (cart_reads cart) ask.draw number were.are in
     subst (All (λ l. Q l.0)) (sym makes.made.lines_are)
-    (made_on Q items asked ask.draw old (λ item named. inl (inl named)) (λ item among. inl (inr among)) (λ item among. old_on opening log asked ask.draw cart item is were.are among)
-    (λ empty. inr (inr (leaves_none opening log asked cart were.are makes.there empty, drawn))))
-
--- the cart is asked for, if one is named
-pub asks_cart : (asked : CartAsked) (kept : Option (List (ℕ × ℕ))) (ask : Ask) (round : ℕ) (reads : List ReadOf) (keys : List Key) → round ≡ 0 → FollowsCart asked kept ask round reads
-    → keys ≡ cart_keys asked.ids.cart → AsksFor (FollowsCart asked kept ask) (CartRequest asked) ask round reads keys
-asks_cart asked kept ask zero reads keys is none are = record {
-  few = omega arith;
-  goes_on = λ more of. subst (λ l. keys_of (l ++ more) ≡ cart_keys asked.ids.cart) (sym none) (of ∙ are);
-  may = λ opening log were. subst (All (InFootprint opening log (CartRequest asked) ask.draw)) (sym are) (about opening log asked.ids.cart refl);
-}
-  where
-    about : (opening : Tables) (log : List Entry) (named : Option ℕ) → asked.ids.cart ≡ named → All (InFootprint opening log (CartRequest asked) ask.draw) (cart_keys named)
-    about opening log None is = All-nil (InFootprint opening log (CartRequest asked) ask.draw)
-    about opening log (Some id) is =
-        let P : Key → Type 0 = InFootprint opening log (CartRequest asked) ask.draw in
-        All-cons P (key.Cart id) [] (inl (inl (id, is, refl))) (All-nil P)
-asks_cart asked kept ask (suc round) reads keys is none are = absurd (omega (arith, is))
+    (made_on Q items asked ask.draw old (λ item named. inl (inl named)) (λ item among. inl (inr among)) (λ item among. old_on opening log asked ask.draw cart item is were.are.1 among)
+    (λ empty. inr (inr (leaves_none opening log asked cart were.are.1 makes.there empty, drawn))))
 
 behind_is : (named : Option ℕ) (cart : Option ReadOf) (items : List ReadOf) → IsNamed named cart → behind_cart named (cart_reads cart ++ items) ≡ items
 behind_is None None items is = refl
@@ -139,42 +125,89 @@ behind_is (Some id) None items is = absurd cc
 behind_is (Some id) (Some read) items is = refl
 
 -- the items of the lines that are kept are asked for
-pub asks_items : (asked : CartAsked) (kept : Option (List (ℕ × ℕ))) (ask : Ask) (cart : Option ReadOf) (lines : List (ℕ × ℕ)) (keys : List Key) → IsWhole ask → IsNamed asked.ids.cart cart → kept ≡ Some lines
-    → MakesOfCart ask.scale.now.items asked ask.draw cart lines → keys ≡ map (λ l. key.Item l.0) lines → AsksFor (FollowsCart asked kept ask) (CartRequest asked) ask 1 (cart_reads cart) keys
-asks_items asked kept ask cart lines keys whole named is makes are = record {
+pub asks_items : (asked : CartAsked) (kept : Option (List (ℕ × ℕ))) (ask : Ask) (count : ReadOf) (cart : Option ReadOf) (lines : List (ℕ × ℕ)) (keys : List Key) → count.key ≡ key.Count → IsNumber count.row → IsNamed asked.ids.cart cart
+    → kept ≡ Some lines → MakesOfCart (number_in count.row) asked ask.draw cart lines → keys ≡ map (λ l. key.Item l.0) lines → AsksFor (FollowsCart asked kept ask) (CartRequest asked) ask 2 (count ∷ cart_reads cart) keys
+asks_items asked kept ask count cart lines keys count_is number named is makes are = record {
   few = omega arith;
   goes_on = λ more of.
       let behind : more ≡ behind_cart asked.ids.cart (cart_reads cart ++ more) = sym (behind_is asked.ids.cart cart more named) in
       record {
-        cart = cart;
-        lines = lines;
-        reads_are = ap (λ (l : List ReadOf). cart_reads cart ++ l) behind;
-        named = named;
-        kept_is = is;
-        makes = makes;
-        items_are = subst (AreItems lines) behind (of ∙ are);
+        count = count;
+        rest = cart_reads cart ++ more;
+        reads_are = refl;
+        key_is = count_is;
+        rest_are = record {
+          cart = cart;
+          lines = lines;
+          reads_are = ap (λ (l : List ReadOf). cart_reads cart ++ l) behind;
+          named = named;
+          kept_is = is;
+          makes = makes;
+          items_are = subst (AreItems lines) behind (of ∙ are);
+        };
       };
   may = λ opening log were.
-      let on = lines_on opening log asked ask cart lines whole were named makes in
+      let on = lines_on opening log asked ask count cart lines count_is number were named makes in
       subst (All (InFootprint opening log (CartRequest asked) ask.draw)) (sym are)
       (All-map (InFootprint opening log (CartRequest asked) ask.draw) (λ (l : ℕ × ℕ). key.Item l.0) lines (λ k d within. inl (inr ((get_or lines k d).0, on k d within, refl))));
 }
 
 -- reads by the rounds
 
-pub first_read : (asked : CartAsked) (kept : Option (List (ℕ × ℕ))) (ask : Ask) (round : ℕ) (reads : List ReadOf) → round ≡ 1 → FollowsCart asked kept ask round reads → keys_of reads ≡ cart_keys asked.ids.cart
-first_read asked kept ask zero reads is follows = absurd (omega (arith, is))
-first_read asked kept ask (suc zero) reads is follows = follows
-first_read asked kept ask (suc (suc round)) reads is follows = absurd (omega (arith, is))
+-- in the third round the number of items was read, and the cart, if one is named
+pub record HasCart (asked : CartAsked) (count : ReadOf) (cart : Option ReadOf) (reads : List ReadOf) : Type 0 where
+  pub reads_are : reads ≡ count ∷ cart_reads cart
+  pub count_is : count.key ≡ key.Count
+  pub named : IsNamed asked.ids.cart cart
 
-pub no_read : (reads : List ReadOf) → keys_of reads ≡ [] → reads ≡ []
-no_read [] none = refl
-no_read (read ∷ reads) none = absurd cc
+module _ (asked : CartAsked) (kept : Option (List (ℕ × ℕ))) (ask : Ask) (round : ℕ) (reads : List ReadOf) (count : ReadOf) (is : round ≡ 2) (follows : FollowsCart asked kept ask round reads) (first : count ≡ get_or reads 0 count) where
+  second : HasCount (FollowsLines asked kept ask.draw) 1 reads
+  second = subst (λ r. FollowsCart asked kept ask r reads) is follows
 
-pub has_items : (asked : CartAsked) (kept : Option (List (ℕ × ℕ))) (ask : Ask) (round : ℕ) (reads : List ReadOf) → (round ≡ 0 → ⊥) → (round ≡ 1 → ⊥) → FollowsCart asked kept ask round reads → HasItems asked kept ask reads
-has_items asked kept ask zero reads some more follows = absurd (some refl)
-has_items asked kept ask (suc zero) reads some more follows = absurd (more refl)
-has_items asked kept ask (suc (suc round)) reads some more follows = follows
+  first_is : second.count ≡ count
+  first_is = sym (first ∙ ap (λ (l : List ReadOf). get_or l 0 count) second.reads_are)
+
+  pub has_none : asked.ids.cart ≡ None → HasCart asked count None reads
+  has_none none = record {
+    reads_are = second.reads_are ∙ ap (λ (l : List ReadOf). second.count ∷ l) (no_read second.rest (second.rest_are ∙ ap cart_keys none)) ∙ ap (λ (r : ReadOf). r ∷ []) first_is;
+    count_is = ap (λ (r : ReadOf). r.key) (sym first_is) ∙ second.key_is;
+    named = ap cart_keys (sym none);
+  }
+    where
+      no_read : (reads : List ReadOf) → keys_of reads ≡ [] → reads ≡ []
+      no_read [] none = refl
+      no_read (read ∷ reads) none = absurd cc
+
+  pub has_cart : (id : ℕ) (cart : ReadOf) → asked.ids.cart ≡ Some id → cart ≡ get_or reads 1 cart → HasCart asked count (Some cart) reads
+  has_cart id cart some at =
+      let one = one_read (key.Cart id) second.rest cart (second.rest_are ∙ ap cart_keys some) (at ∙ ap (λ (l : List ReadOf). get_or l 1 cart) second.reads_are) in
+      record {
+        reads_are = second.reads_are ∙ ap (λ (l : List ReadOf). second.count ∷ l) one.0 ∙ ap (λ (r : ReadOf). r ∷ cart ∷ []) first_is;
+        count_is = ap (λ (r : ReadOf). r.key) (sym first_is) ∙ second.key_is;
+        named = ap (λ k. k ∷ []) one.1 ∙ ap cart_keys (sym some);
+      }
+
+-- what is done next by these
+pub next_for : (asked : CartAsked) (kept : Option (List (ℕ × ℕ))) (ask : Ask) (round : ℕ) (reads : List ReadOf) (count : ReadOf) (cart : Option ReadOf) (draft : Draft) (next : Next) → round ≡ 2 → HasCart asked count cart reads
+    → IsNextFor asked kept ask count cart draft next → IsNext (FollowsCart asked kept ask) (CartRequest asked) ask round reads draft next
+next_for asked kept ask round reads count cart draft next is has next_is =
+    subst (λ n. IsNext (FollowsCart asked kept ask) (CartRequest asked) ask n reads draft next) (sym is)
+    (subst (λ (l : List ReadOf). IsNext (FollowsCart asked kept ask) (CartRequest asked) ask 2 l draft next) (sym has.reads_are) next_is)
+
+-- later the number of items, the cart and the items of the lines were read
+pub record HasAll (asked : CartAsked) (kept : Option (List (ℕ × ℕ))) (draw : ℕ) (reads : List ReadOf) : Type 0 where
+  pub count : ReadOf
+  pub rest : List ReadOf
+  pub reads_are : reads ≡ count ∷ rest
+  pub count_is : count.key ≡ key.Count
+  pub items : HasItems (number_in count.row) asked kept draw rest
+
+pub has_all : (asked : CartAsked) (kept : Option (List (ℕ × ℕ))) (ask : Ask) (round : ℕ) (reads : List ReadOf) → (round ≡ 0 → ⊥) → (round ≡ 1 → ⊥) → (round ≡ 2 → ⊥) → FollowsCart asked kept ask round reads → HasAll asked kept ask.draw reads
+has_all asked kept ask zero reads some more most follows = absurd (some refl)
+has_all asked kept ask (suc zero) reads some more most follows = absurd (more refl)
+has_all asked kept ask (suc (suc zero)) reads some more most follows = absurd (most refl)
+has_all asked kept ask (suc (suc (suc round))) reads some more most follows =
+    record { count = follows.count; rest = follows.rest; reads_are = follows.reads_are; count_is = follows.key_is; items = follows.rest_are }
 
 -- where a cart is named, one was read
 pub some_read : (named : Option ℕ) (cart : Option ReadOf) (reads items : List ReadOf) → IsNamed named cart → reads ≡ cart_reads cart ++ items → named ≢ None → 1 ≤ length reads
@@ -191,11 +224,11 @@ pub shows_append : (t : Tables) (one other : List ReadOf) → Shows t (one ++ ot
 shows_append t [] other shows = (tt, shows)
 shows_append t (read ∷ one) other shows = let rest = shows_append t one other shows.1 in ((shows.0, rest.0), rest.1)
 
-pub refusal_shown : (asked : CartAsked) (ask : Ask) (cart : Option ReadOf) (refusal : Refusal) → IsWhole ask
-    → ((t : Tables) → length t.items ≡ ask.scale.now.items → Shows t (cart_reads cart) → check_cart t asked ≡ Some refusal)
-    → (t : Tables) → Fits ask.index.now t (cart_reads cart) → show t (CartRequest asked) ask.draw ≡ Some (page_of refusal)
-refusal_shown asked ask cart refusal whole refuses t fits =
-    let same : check_cart t asked ≡ Some refusal = refuses t (size_of ask.index.now t fits.named ∙ sym whole) fits.shows in
+pub refusal_shown : (asked : CartAsked) (ask : Ask) (count : ReadOf) (cart : Option ReadOf) (refusal : Refusal) → count.key ≡ key.Count
+    → ((t : Tables) → length t.items ≡ number_in count.row → Shows t (cart_reads cart) → check_cart t asked ≡ Some refusal)
+    → (t : Tables) → Fits ask.index.now t (count ∷ cart_reads cart) → show t (CartRequest asked) ask.draw ≡ Some (page_of refusal)
+refusal_shown asked ask count cart refusal count_is refuses t fits =
+    let same : check_cart t asked ≡ Some refusal = refuses t (sym (size_read count count_is t fits.shows.0)) fits.shows.1 in
     ap (λ o. refused_or o None) same
 
 -- the request is not refused there, and leaves these lines
@@ -257,18 +290,22 @@ becomes t stamp asked draw lines draft leaves shows front =
     subst (λ (l : List (ℕ × ℕ)). IsPage draft drawn (cart_page t (ids_with asked.ids cart) cart l)) (sym leaves.after)
     (subst (λ (n : ℕ). IsPage draft drawn (cart_page t (ids_with asked.ids n) n lines)) (cart_drawn t.carts asked.ids.cart (lines_after t asked draw) drawn refl) (shows drawn))
 
-pub changed : (asked : CartAsked) (before kept : Option (List (ℕ × ℕ))) (ask : Ask) (round : ℕ) (reads : List ReadOf) (lines : List (ℕ × ℕ)) (draft : Draft) (next : Next) → IsWhole ask
-    → (has : HasItems asked before ask reads) → lines ≡ has.lines → IsChangeTo asked ask.draw lines (behind_cart asked.ids.cart reads) draft next
+pub changed : (asked : CartAsked) (before kept : Option (List (ℕ × ℕ))) (ask : Ask) (round : ℕ) (reads : List ReadOf) (lines : List (ℕ × ℕ)) (draft : Draft) (next : Next)
+    → (has : HasAll asked before ask.draw reads) → lines ≡ has.items.lines → IsChangeTo asked ask.draw lines (behind_cart asked.ids.cart has.rest) draft next
     → IsNext (FollowsCart asked kept ask) (CartRequest asked) ask round reads draft next
-changed asked before kept ask round reads lines draft next whole has same change =
-    let shown : (t : Tables) → Shows t reads → Shows t (cart_reads has.cart) × Shows t (behind_cart asked.ids.cart reads)
-    = λ t shows. shows_append t (cart_reads has.cart) (behind_cart asked.ids.cart reads) (subst (Shows t) has.reads_are shows) in
+changed asked before kept ask round reads lines draft next has same change =
+    let items : ℕ = number_in has.count.row in
+    let behind : List ReadOf = behind_cart asked.ids.cart has.rest in
+    let shown : (t : Tables) → Shows t reads → Shows t (has.count ∷ (cart_reads has.items.cart ++ behind))
+    = λ t shows. subst (Shows t) (has.reads_are ∙ ap (λ (l : List ReadOf). has.count ∷ l) has.items.reads_are) shows in
+    let apart : (t : Tables) → Shows t reads → Shows t (cart_reads has.items.cart) × Shows t behind
+    = λ t shows. shows_append t (cart_reads has.items.cart) behind (shown t shows).1 in
     let here : (t : Tables) → Fits ask.index.now t reads → Leaves t asked ask.draw lines
-    = λ t fits. leaves t ask.scale.now.items asked ask.draw has.cart lines (size_of ask.index.now t fits.named ∙ sym whole) (shown t fits.shows).0
-    (subst (MakesOfCart ask.scale.now.items asked ask.draw has.cart) (sym same) has.makes) in
+    = λ t fits. leaves t items asked ask.draw has.items.cart lines (sym (size_read has.count has.count_is t (shown t fits.shows).0)) (apart t fits.shows).0
+    (subst (MakesOfCart items asked ask.draw has.items.cart) (sym same) has.items.makes) in
     subst (IsNext (FollowsCart asked kept ask) (CartRequest asked) ask round reads draft) (sym change.is) (record {
       does = record { does = refl; drew = refl; taxed = tt };
       free = tt;
       makes = λ t stamp fits bound. makes_lines t stamp asked ask.draw lines (here t fits);
-      becomes = λ t stamp fits bound. becomes t stamp asked ask.draw lines draft (here t fits) (change.written t (shown t fits.shows).1);
+      becomes = λ t stamp fits bound. becomes t stamp asked ask.draw lines draft (here t fits) (change.written t (apart t fits.shows).1);
     })

@@ -1,9 +1,9 @@
 -- Admin Confirm: what it reads, round by round, and the change that it makes.
-use Rattle.std.specs.Prelude.{◌≡◌, ℕ, zero, suc, ◌^◌, ◌<◌, ◌≤◌, List, [], ◌∷◌, drop, map, sum_by, All}
+use Rattle.std.specs.Prelude.{◌≡◌, ℕ, zero, suc, ◌^◌, ◌<◌, List, [], ◌∷◌, ◌++◌, map, sum_by, All}
 use Rattle.shop_model.specs.declared.requests.IdsAsked.{IdsAsked}
 use Rattle.shop_model.specs.declared.tables.Tables.{Tables}
 use Rattle.shop_model.specs.asked.AdminAsked.{AdminAsked}
-use Rattle.shop_model.specs.lists.Catalogues.{Catalogue, catalogue}
+use Rattle.shop_model.specs.lists.Catalogues.{Catalogue}
 use Rattle.shop_model.specs.lists.Related.{five_of}
 use Rattle.shop_model.specs.pages.AdminConfirm.{mended_page}
 use Rattle.shop_model.specs.rows.Rows.{ItemRow}
@@ -22,7 +22,10 @@ use Rattle.shop_attempt.specs.declared.attempts.Write.TheVariants.{PutItem}
 use Rattle.shop_browse.specs.declared.attempted.Ask.{Ask}
 use Rattle.shop_browse.specs.declared.driver.Next.{Next}
 use Rattle.shop_browse.specs.declared.driver.Next.TheVariants.{Change}
+use Rattle.shop_browse.specs.Counting.{FollowsCount}
 use Rattle.shop_browse.specs.Driver.{keys_of}
+use Rattle.shop_browse.specs.declared.names.Names.{Names}
+use Rattle.shop_browse.specs.Names.{HaveTitles, label_keys}
 
 -- the customers in a row; another row has none
 abbrev pub customers_in : Row → List ℕ
@@ -51,33 +54,47 @@ pub record HasFirst (item : ℕ) (reads : List ReadOf) : Type 0 where
   pub book_is : book.key ≡ key.Item item
   pub buyers_is : buyers.key ≡ key.Buyers item
 
--- behind these come reads of what each buyer bought
+-- behind these come reads of what each buyer bought, and others
 pub record HasSecond (item : ℕ) (reads : List ReadOf) : Type 0 where
   pub first : HasFirst item reads
-  pub more_are : keys_of first.more ≡ map key.Bought (customers_in first.buyers.row)
-
--- the item is there
-pub record HasItem (item : ℕ) (reads : List ReadOf) : Type 0 where
-  pub second : HasSecond item reads
-  pub book : ItemRow
-  pub row_is : second.first.book.row ≡ rows.Item book
-
--- the reads by the rounds
-abbrev pub FollowsAdmin : AdminAsked → ℕ → List ReadOf → Type 0
-FollowsAdmin asked zero reads = reads ≡ []
-FollowsAdmin asked (suc zero) reads = keys_of reads ≡ first_keys asked.item
-FollowsAdmin asked (suc (suc more)) reads = HasSecond asked.item reads
+  pub bought : List ReadOf
+  pub labels : List ReadOf
+  pub more_are : first.more ≡ bought ++ labels
+  pub bought_are : keys_of bought ≡ map key.Bought (customers_in first.buyers.row)
 
 -- the five items, of so many, that are related to one by what was read of its buyers
 abbrev pub five_by : ℕ → ℕ → List ReadOf → List ℕ
-five_by item items reads = five_of (lists_in (drop 2 reads)) item items
+five_by item items bought = five_of (lists_in bought) item items
 
--- of so many items this one is there, and so are those that were bought, whose units can be added
-pub record MayRelate (item items : ℕ) (bought : List ReadOf) : Type 0 where
-  pub six : 6 ≤ items
+-- behind these come the labels of those of the related items that the catalogue doesn't have
+pub record HasThird (c : Catalogue) (item items : ℕ) (reads : List ReadOf) : Type 0 where
+  pub second : HasSecond item reads
+  pub labels_are : keys_of second.labels ≡ label_keys c (five_by item items second.bought)
+
+-- the reads by the rounds, in a shop of so many items
+abbrev pub FollowsMending : Catalogue → ℕ → ℕ → ℕ → List ReadOf → Type 0
+FollowsMending c item items zero reads = reads ≡ []
+FollowsMending c item items (suc zero) reads = keys_of reads ≡ first_keys item
+FollowsMending c item items (suc (suc zero)) reads = (has : HasSecond item reads) × (has.labels ≡ [])
+FollowsMending c item items (suc (suc (suc more))) reads = HasThird c item items reads
+
+-- the number of items was read first
+abbrev pub FollowsAdmin : AdminAsked → Ask → ℕ → List ReadOf → Type 0
+FollowsAdmin asked ask = FollowsCount (FollowsMending ask.index.now asked.item)
+
+-- of so many items this one is there, and so are those that were bought
+pub record AreAmong (items item : ℕ) (bought : List ReadOf) : Type 0 where
   pub there : Has items item
   pub named : All (λ pairs. All (λ p. Has items p.0) pairs) (lists_in bought)
-  pub fits : sum_by (λ pairs. sum_by (λ p. p.1) pairs) (lists_in bought) < 2 ^ 64
+
+-- the units that were bought can be added
+abbrev pub AreFew : List ReadOf → Type 0
+AreFew bought = sum_by (λ pairs. sum_by (λ p. p.1) pairs) (lists_in bought) < 2 ^ 64
+
+-- these five are related to the item by what was read of its buyers, in a shop of so many, where all of these are
+pub record AreRelated (items item : ℕ) (bought : List ReadOf) (five : List ℕ) : Type 0 where
+  pub among : AreAmong items item bought
+  pub are : five ≡ five_by item items bought
 
 -- an item as it is asked for, with those that are related to it; the settle publishes it
 abbrev pub mended_row : AdminAsked → List ℕ → ItemRow → ItemRow
@@ -92,12 +109,12 @@ mended_row asked five item = record item {
 abbrev pub published_at : ℕ → ItemRow → ItemRow
 published_at stamp item = record item { published = day_after stamp 0 }
 
--- the draft is of the page of an item that is published at the settle, in whichever tables have the catalogue
-abbrev pub IsMendedPage : Catalogue → IdsAsked → ItemRow → Draft → Type 0
-IsMendedPage index ids item draft =
-    (t : Tables) → catalogue t ≡ index → (drawn : Drawn) → IsPage draft drawn (mended_page t ids (published_at drawn.stamp item))
+-- the draft is of the page of an item that is published at the settle, in whichever tables have the titles that are known
+abbrev pub IsMendedPage : Names → IdsAsked → ItemRow → Draft → Type 0
+IsMendedPage names ids item draft =
+    (t : Tables) → HaveTitles t names item.related → (drawn : Drawn) → IsPage draft drawn (mended_page t ids (published_at drawn.stamp item))
 
 -- the change that leaves this item, with the draft of its page
-pub record IsChangeTo (ask : Ask) (asked : AdminAsked) (item : ItemRow) (draft : Draft) (next : Next) : Type 0 where
-  pub written : IsMendedPage ask.index.now asked.ids item draft
+pub record IsChangeTo (names : Names) (asked : AdminAsked) (item : ItemRow) (draft : Draft) (next : Next) : Type 0 where
+  pub written : IsMendedPage names asked.ids item draft
   pub is : next ≡ Change (Admin asked) (PutItem item ∷ [])

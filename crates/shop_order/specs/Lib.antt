@@ -5,6 +5,7 @@ pub mod Stops
 pub mod BuyRequest
 pub mod BuyConfirm
 pub mod AdminConfirm
+pub mod AdminAdd
 pub mod BuyerPage
 pub mod Entries
 pub mod Purchases

@@ -20,6 +20,7 @@ use Rattle.shop_pricing.specs.Bounds.{AreLines}
 use Rattle.shop_browse.specs.declared.attempted.Ask.{Ask}
 use Rattle.shop_browse.specs.declared.driver.Next.{Next}
 use Rattle.shop_browse.specs.declared.driver.Next.TheVariants.{Change}
+use Rattle.shop_browse.specs.Counting.{FollowsCount}
 use Rattle.shop_browse.specs.Driver.{keys_of, IsNext}
 use Rattle.shop_order.specs.declared.shopping_cart.Begun.{Begun}
 use Rattle.shop_order.specs.declared.shopping_cart.Begun.TheVariants.{Lines, Refused, Never}
@@ -90,25 +91,30 @@ abbrev pub behind_cart : Option ℕ → List ReadOf → List ReadOf
 behind_cart None reads = reads
 behind_cart (Some id) reads = drop 1 reads
 
--- the cart was read, if one is named, and behind it the items of the lines that the request makes of it, which are kept
-pub record HasItems (asked : CartAsked) (kept : Option (List (ℕ × ℕ))) (ask : Ask) (reads : List ReadOf) : Type 0 where
+-- in a shop of so many items the cart was read, if one is named, and behind it the items of the lines that the request makes of it, which are kept
+pub record HasItems (items : ℕ) (asked : CartAsked) (kept : Option (List (ℕ × ℕ))) (draw : ℕ) (reads : List ReadOf) : Type 0 where
   pub cart : Option ReadOf
   pub lines : List (ℕ × ℕ)
   pub reads_are : reads ≡ cart_reads cart ++ behind_cart asked.ids.cart reads
   pub named : IsNamed asked.ids.cart cart
   pub kept_is : kept ≡ Some lines
-  pub makes : MakesOfCart ask.scale.now.items asked ask.draw cart lines
+  pub makes : MakesOfCart items asked draw cart lines
   pub items_are : AreItems lines (behind_cart asked.ids.cart reads)
 
 -- after one round the cart was read, if one is named; after two the items of the lines that are kept
-abbrev pub FollowsCart : CartAsked → Option (List (ℕ × ℕ)) → Ask → ℕ → List ReadOf → Type 0
-FollowsCart asked kept ask zero reads = reads ≡ []
-FollowsCart asked kept ask (suc zero) reads = keys_of reads ≡ cart_keys asked.ids.cart
-FollowsCart asked kept ask (suc (suc more)) reads = HasItems asked kept ask reads
+abbrev pub FollowsLines : CartAsked → Option (List (ℕ × ℕ)) → ℕ → ℕ → ℕ → List ReadOf → Type 0
+FollowsLines asked kept draw items zero reads = reads ≡ []
+FollowsLines asked kept draw items (suc zero) reads = keys_of reads ≡ cart_keys asked.ids.cart
+FollowsLines asked kept draw items (suc (suc more)) reads = HasItems items asked kept draw reads
 
--- what is done next, where the cart was read, if one is named
-abbrev pub IsNextFor : CartAsked → Option (List (ℕ × ℕ)) → Ask → Option ReadOf → Draft → Next → Type 0
-IsNextFor asked kept ask cart draft next = IsNext (FollowsCart asked kept ask) (CartRequest asked) ask 1 (cart_reads cart) draft next
+-- the number of items was read first
+abbrev pub FollowsCart : CartAsked → Option (List (ℕ × ℕ)) → Ask → ℕ → List ReadOf → Type 0
+FollowsCart asked kept ask = FollowsCount (FollowsLines asked kept ask.draw)
+
+-- what is done next, where the number of items was read, and the cart, if one is named
+abbrev pub IsNextFor : CartAsked → Option (List (ℕ × ℕ)) → Ask → ReadOf → Option ReadOf → Draft → Next → Type 0
+IsNextFor asked kept ask count cart draft next =
+    IsNext (FollowsCart asked kept ask) (CartRequest asked) ask 2 (count ∷ cart_reads cart) draft next
 
 -- the write of a cart with these lines: the one that is named, or a new one
 abbrev pub put_lines : Option ℕ → List (ℕ × ℕ) → List Write

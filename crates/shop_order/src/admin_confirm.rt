@@ -5,7 +5,6 @@ ghost use Rattle.shop_model.specs.pages.Show.{check_there};
 ghost use Rattle.shop_history.specs.declared.keys.Row.TheVariants as row_kinds;
 ghost use Rattle.shop_attempt.specs.Marks.{Looks};
 ghost use Rattle.shop_browse.specs.Attempts.{AttemptedAs, Suits, asking_of};
-ghost use Rattle.shop_browse.specs.Driver.{AreSeen, IsWhole};
 ghost use Rattle.shop_order.specs.AdminConfirm as spec;
 ghost use Rattle.shop_order.specs.Stops.{StopsBy};
 
@@ -14,7 +13,7 @@ use crate::mending::mended;
 use crate::related::{bought_keys, customers_in, related};
 use crate::stops::{Stop, stopped};
 use shop_attempt::{ReadOf, Store, Write};
-use shop_browse::{Ask, Attempted, Interaction, Next, attempt_by};
+use shop_browse::{Ask, Attempted, Interaction, Names, Next, attempt_by, count_in, unread_labels};
 use shop_draft::Draft;
 use shop_history::{Act, Key, Row};
 use shop_model::{AdminConfirm, Item, Refusal, Request};
@@ -42,35 +41,19 @@ fn item_in(row: &Row) -> Result<&Item, Stop>
     }
 }
 
-/// The items that are related to one by what was read of its buyers.
-fn relate(
-    alloc: Global,
-    ask: &Ask,
-    asked: &AdminConfirm,
-    reads: &[ReadOf],
-) -> Result<[u32; 5], Memory>
-    requires whole { IsWhole ask.now }
-    requires item { spec.HasItem asked.now.item reads.now }
-    requires seen { AreSeen ask.now.index.now reads.now }
-    ensures { IfOk result (λ five. five ≡ spec.five_by asked.now.item ask.now.scale.now.items reads.now) }
-{
-    let scale = ask.scale;
-    related(alloc, asked.item, scale.items, &reads[2..])
-}
-
 /// The change of an item, by those that are related to it, whose page it writes.
 fn change(
     alloc: Global,
-    ask: &Ask,
+    names: Names,
     asked: &Shared<AdminConfirm>,
     item: &Item,
     related: [u32; 5],
     draft: &mut Draft,
 ) -> Result<Next, Memory>
-    ensures { IfOk result (spec.IsChangeTo ask.now asked.now (spec.mended_row asked.now related item.now) draft.new) }
+    ensures { IfOk result (spec.IsChangeTo names.entry asked.now (spec.mended_row asked.now related item.now) draft.new) }
 {
     let item = mended(alloc, item, asked.get(), related)?;
-    write_page(draft, ask.index, &item, asked.get().ids)?;
+    write_page(draft, names, &item, asked.get().ids)?;
     let mut writes = Listed::with_capacity(alloc, 1)?;
     writes.push(Write::PutItem(item))?;
     Ok(Next::Change(Act::Admin(asked.share()?), writes))
@@ -87,7 +70,7 @@ impl<'a> Interaction for Mending<'a> {
 
     ghost request = { λ mending. request_kinds.AdminConfirm mending.asked.now };
 
-    ghost follows = { λ mending ask. spec.FollowsAdmin mending.asked.now };
+    ghost follows = { λ mending ask. spec.FollowsAdmin mending.asked.now ask };
 
     fn next(
         &mut self,
@@ -97,19 +80,35 @@ impl<'a> Interaction for Mending<'a> {
         reads: &[ReadOf],
         draft: &mut Draft,
     ) -> Result<Next, Memory> {
-        let asked = self.asked.get();
         if round == 0 {
+            return Ok(Next::ReadOne(Key::Count));
+        }
+        let asked = self.asked.get();
+        if round == 1 {
             return Ok(Next::Read(first_keys(alloc, asked.item)?));
         }
-        let item = match item_in(&reads[0].row) {
+        let item = match item_in(&reads[1].row) {
             Ok(item) => item,
             Err(stop) => return stopped(draft, stop),
         };
-        if round == 1 {
-            return Ok(Next::Read(bought_keys(alloc, customers_in(&reads[1].row))?));
+        let customers = customers_in(&reads[2].row);
+        if round == 2 {
+            return Ok(Next::Read(bought_keys(alloc, customers)?));
         }
-        let related = relate(alloc, ask, asked, reads)?;
-        change(alloc, ask, self.asked, item, related, draft)
+        let (bought, labels) = reads[3..].split_at(customers.len());
+        let Some(related) = related(alloc, count_in(&reads[0]), asked.item, bought)? else {
+            return Ok(Next::Never);
+        };
+        if round == 3 {
+            if let Some(keys) = unread_labels(alloc, ask.index, &related)? {
+                return Ok(Next::Read(keys));
+            }
+        }
+        let names = Names {
+            index: ask.index,
+            labels,
+        };
+        change(alloc, names, self.asked, item, related, draft)
     }
 }
 

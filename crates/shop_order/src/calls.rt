@@ -1,6 +1,7 @@
 ghost use Rattle.shop_attempt.specs.Marks.{Looks};
 ghost use Rattle.shop_browse.specs.Attempts.{AttemptedAs, Suits, asking_of};
 
+use crate::admin_add::admin_add;
 use crate::admin_confirm::admin_confirm;
 use crate::buy_confirm::buy_confirm;
 use crate::buy_request::buy_request;
@@ -46,6 +47,7 @@ pub fn attempt<St: Store>(
         Request::OrderDisplay(asked) => order_display(alloc, store, ask, asked, draft),
         Request::AdminRequest(asked) => admin_request(alloc, store, ask, asked, draft),
         Request::AdminConfirm(asked) => admin_confirm(alloc, store, ask, asked, draft),
+        Request::AdminAdd(asked) => admin_add(alloc, store, ask, asked, draft),
         Request::BuyRequest(asked) => buy_request(alloc, store, ask, asked, draft),
         Request::BuyConfirm(asked) => buy_confirm(alloc, store, ask, asked.get(), draft),
     }

@@ -2,6 +2,8 @@
 //! the rows that it has read, which makes of them the act and its writes, and writes its page.
 #![tactic(auto)]
 
+mod added_page;
+pub mod admin_add;
 pub mod admin_confirm;
 mod basket;
 pub mod buy_confirm;

@@ -7,10 +7,9 @@ ghost use Rattle.shop_draft.specs.Drawing.{day_after};
 ghost use Rattle.shop_draft.specs.Templates.{Adds, Says};
 ghost use Rattle.shop_order.specs.AdminConfirm as spec;
 
-use shop_browse::promotion;
+use shop_browse::{Names, promotion};
 use shop_draft::{Draft, PageIds, Template};
 use shop_model::{IdsAsked, Item};
-use shop_search::Index;
 use shop_text::Memory;
 
 #[tactic(auto, unfolding(shop_model::specs::pages::PageText::block_text))]
@@ -46,14 +45,14 @@ fn thumb(page: &mut Template, item: &Item) -> Result<(), Memory>
     Ok(())
 }
 
-/// Writes the page of an item, with the titles of the related ones that an index knows.
+/// Writes the page of an item, with the titles of the related ones that are known.
 pub(crate) fn write_page(
     draft: &mut Draft,
-    index: &Index,
+    names: Names,
     item: &Item,
     ids: IdsAsked,
 ) -> Result<(), Memory>
-    ensures { OnOk result (spec.IsMendedPage index.now ids item.now draft.new) }
+    ensures { OnOk result (spec.IsMendedPage names.entry ids item.now draft.new) }
 {
     let ids = PageIds::of(ids);
     draft.status = 200;
@@ -63,7 +62,7 @@ pub(crate) fn write_page(
     cost(page, item)?;
     image(page, item)?;
     thumb(page, item)?;
-    promotion(page, ids, index, &item.details.get().related)?;
+    promotion(page, ids, names, &item.details.get().related)?;
     page.nav(ids)?;
     page.end()?;
     Ok(())

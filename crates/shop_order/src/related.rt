@@ -1,6 +1,6 @@
 //! The items that are related to one by what was read of its buyers.
-ghost use Rattle.std.specs.Prelude.{◌≡◌, IfOk, map};
-ghost use Rattle.shop_model.specs.lists.Related.{five_of};
+ghost use Rattle.std.specs.Prelude.{◌≡◌, ◌≤◌, ◌↔◌, All, IfOk, IsTrue, MatchOption, map};
+ghost use Rattle.shop_model.specs.rows.Sound.{Has};
 ghost use Rattle.shop_history.specs.declared.keys.Key.TheVariants as key_kinds;
 ghost use Rattle.shop_order.specs.AdminConfirm as spec;
 
@@ -52,16 +52,52 @@ fn lists_in<'a>(alloc: Global, bought: &'a [ReadOf]) -> Result<Vec<&'a [(u32, u6
     Ok(lists)
 }
 
-/// The five items, of so many, that are related to one by what was read of each of its buyers.
+/// Whether this is the id of one of so many items.
+fn is_among(items: u32, id: u32) -> bool
+    ensures { IsTrue result ↔ Has items id }
+{
+    1 <= id && id <= items
+}
+
+/// Whether all these items are among so many.
+fn are_all_among(items: u32, totals: &[(u32, u64)]) -> bool
+    ensures { IsTrue result ↔ All (λ p. Has items p.0) totals.now }
+{
+    for pair in totals {
+        if !is_among(items, pair.0) {
+            return false;
+        }
+    }
+    true
+}
+
+/// Whether an item and all that its buyers bought are among so many items.
+fn are_among(items: u32, item: u32, bought: &[ReadOf]) -> bool
+    ensures { IsTrue result ↔ spec.AreAmong items item bought.now }
+{
+    for read in bought {
+        if !are_all_among(items, totals_in(&read.row)) {
+            return false;
+        }
+    }
+    is_among(items, item)
+}
+
+/// The five items, of so many, that are related to one by what was read of each of its buyers; none
+/// where one of all these is not among them.
 pub(crate) fn related(
     alloc: Global,
-    item: u32,
     items: u32,
+    item: u32,
     bought: &[ReadOf],
-) -> Result<[u32; 5], Memory>
-    requires { spec.MayRelate item items bought.now }
-    ensures { IfOk result (λ five. five ≡ five_of (spec.lists_in bought.now) item items) }
+) -> Result<Option<[u32; 5]>, Memory>
+    requires six { 6 ≤ items }
+    requires few { spec.AreFew bought.now }
+    ensures { IfOk result (λ five. MatchOption five (spec.AreAmong items item bought.now → ⊥) (spec.AreRelated items item bought.now)) }
 {
+    if !are_among(items, item, bought) {
+        return Ok(None);
+    }
     let lists = lists_in(alloc, bought)?;
-    five_related(alloc, &lists, item, items)
+    Ok(Some(five_related(alloc, &lists, item, items)?))
 }

@@ -3,13 +3,13 @@ ghost use Rattle.std.specs.Prelude.{◌≡◌, ◌++◌, ◌≤◌, ◌≢◌, N
 ghost use Rattle.shop_history.specs.declared.keys.Key.TheVariants as key_kinds;
 ghost use Rattle.shop_attempt.specs.Marks.{Looks};
 ghost use Rattle.shop_browse.specs.Attempts.{AttemptedAs, Suits, asking_of};
-ghost use Rattle.shop_browse.specs.Driver.{IsWhole};
+ghost use Rattle.shop_browse.specs.Counting.{IsNumber};
 ghost use Rattle.shop_pricing.specs.Bounds.{AreLines};
 ghost use Rattle.shop_order.specs.ShoppingCart as spec;
 
 use crate::page::write_page;
 use shop_attempt::{ReadOf, Store, Write};
-use shop_browse::{Ask, Attempted, Interaction, Next, attempt_by};
+use shop_browse::{Ask, Attempted, Interaction, Next, attempt_by, count_in};
 use shop_draft::{Draft, refusal as write_refusal};
 use shop_history::{Act, Key, Row};
 use shop_model::{Cart, CartRequest, Refusal, Request};
@@ -28,36 +28,44 @@ pub(crate) enum Begun {
 }
 
 /// What the request makes of these lines.
-fn made_of(alloc: Global, ask: &Ask, asked: &CartRequest, lines: CartLines) -> Result<Begun, Memory>
-    ensures { IfOk result (spec.IsMadeOf ask.now.scale.now.items asked.now ask.now.draw lines) }
+fn made_of(
+    alloc: Global,
+    items: u32,
+    draw: u32,
+    asked: &CartRequest,
+    lines: CartLines,
+) -> Result<Begun, Memory>
+    requires { 1 ≤ items }
+    ensures { IfOk result (spec.IsMadeOf items asked.now draw lines) }
 {
     let mut lines = lines;
-    let scale = ask.scale;
-    match fill(&mut lines, asked, scale.items, ask.draw) {
+    match fill(&mut lines, asked, items, draw) {
         Filled::Done => Ok(Begun::Lines(lines.to_pairs(alloc)?)),
         Filled::Refused(refusal) => Ok(Begun::Refused(refusal)),
         Filled::Memory => Err(Memory),
     }
 }
 
-/// What the request makes of the lines of its cart.
+/// What the request makes of the lines of its cart, in a shop of so many items.
 fn begin(
     alloc: Global,
-    ask: &Ask,
+    items: u32,
+    draw: u32,
     asked: &CartRequest,
     cart: Option<&ReadOf>,
 ) -> Result<Begun, Memory>
+    requires some { 1 ≤ items }
     requires named { spec.IsNamed asked.now.ids.cart (option_copied cart) }
     requires fit { spec.IsFitRead (option_copied cart) }
-    ensures { IfOk result (spec.IsBegun ask.now.scale.now.items asked.now ask.now.draw (option_copied cart.entry)) }
+    ensures { IfOk result (spec.IsBegun items asked.now draw (option_copied cart.entry)) }
 {
     match cart {
-        None => made_of(alloc, ask, asked, CartLines::new(alloc)),
+        None => made_of(alloc, items, draw, asked, CartLines::new(alloc)),
         Some(read) => match &read.row {
             Row::Absent => Ok(Begun::Refused(Refusal::NoCart)),
             Row::Cart(cart) => {
                 let lines = CartLines::of(alloc, cart)?;
-                made_of(alloc, ask, asked, lines)
+                made_of(alloc, items, draw, asked, lines)
             }
             _ => Ok(Begun::Never),
         },
@@ -131,21 +139,23 @@ fn item_keys(alloc: Global, lines: &[(u32, u32)]) -> Result<Listed<Key>, Memory>
     Ok(keys)
 }
 
-/// What is done next by what was read of the cart; the lines that are left are kept.
+/// What is done next by what was read of the number of items and of the cart; the lines that are left are kept.
 fn by_cart(
     alloc: Global,
     ask: &Ask,
     asked: &CartRequest,
+    count: &ReadOf,
     cart: Option<&ReadOf>,
     kept: &mut Option<Listed<(u32, u32)>>,
     draft: &mut Draft,
 ) -> Result<Next, Memory>
-    requires whole { IsWhole ask.now }
+    requires count { count.now.key ≡ key_kinds.Count }
+    requires number { IsNumber count.now.row }
     requires named { spec.IsNamed asked.now.ids.cart (option_copied cart) }
     requires fit { spec.IsFitRead (option_copied cart) }
-    ensures { IfOk result (spec.IsNextFor asked.now kept.new ask.now (option_copied cart.entry) draft.new) }
+    ensures { IfOk result (spec.IsNextFor asked.now kept.new ask.now count.now (option_copied cart.entry) draft.new) }
 {
-    let begun = begin(alloc, ask, asked, cart)?;
+    let begun = begin(alloc, count_in(count), ask.draw, asked, cart)?;
     match begun {
         Begun::Refused(refusal) => {
             write_refusal(draft, refusal)?;
@@ -194,21 +204,25 @@ impl<'a> Interaction for ShoppingCart<'a> {
         reads: &[ReadOf],
         draft: &mut Draft,
     ) -> Result<Next, Memory> {
-        let asked = self.asked;
         if round == 0 {
+            return Ok(Next::ReadOne(Key::Count));
+        }
+        let asked = self.asked;
+        if round == 1 {
             return Ok(match asked.ids.cart {
                 Some(id) => Next::ReadOne(Key::Cart(id)),
                 None => Next::Read(Listed::new(alloc)),
             });
         }
-        if round == 1 {
+        if round == 2 {
+            let count = &reads[0];
             let kept = &mut self.lines;
             return match asked.ids.cart {
-                None => by_cart(alloc, ask, asked, None, kept, draft),
-                Some(_) => by_cart(alloc, ask, asked, Some(&reads[0]), kept, draft),
+                None => by_cart(alloc, ask, asked, count, None, kept, draft),
+                Some(_) => by_cart(alloc, ask, asked, count, Some(&reads[1]), kept, draft),
             };
         }
-        let items = behind_cart(asked.ids.cart, reads);
+        let items = behind_cart(asked.ids.cart, &reads[1..]);
         match self.lines.take() {
             Some(lines) => change(alloc, ask, asked, lines, items, draft),
             None => unreachable!(),

@@ -158,6 +158,7 @@ module _ (seed : ℕ) (scale : ScaleRow) (it : IsScale scale) where
         countries = length-map-range_with_len country_row 1 92;
         six = rw length-map-range_with_len roomy.items;
         born = omega (arith, length-map-range_with_len order 1 scale.orders);
+        born_items = omega (arith, length-map-range_with_len item 1 scale.items);
       }
 
   pub has_room : Room (populated seed scale) 1_000_001
@@ -180,6 +181,10 @@ module _ (seed : ℕ) (scale : ScaleRow) (it : IsScale scale) where
   pub all_born : (populated seed scale).born_orders ≡ length (populated seed scale).orders
   unfolding populated orders_table
   all_born = sym (length-map-range_with_len (order_row seed scale) 1 scale.orders)
+
+  pub all_born_items : (populated seed scale).born_items ≡ length (populated seed scale).items
+  unfolding populated items_table
+  all_born_items = sym (length-map-range_with_len (item_row seed scale) 1 scale.items)
 
   -- what the table of the last orders asks of the orders
 

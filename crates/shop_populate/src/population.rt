@@ -20,6 +20,7 @@ pub fn populate(alloc: Global, seed: u32, scale: &Scale) -> Result<Tables, Memor
     ensures sound { IfOk result Sound }
     ensures room { IfOk result (λ tables. Room tables 1_000_001) }
     ensures born { IfOk result (λ tables. tables.born_orders ≡ length tables.orders) }
+    ensures born_items { IfOk result (λ tables. tables.born_items ≡ length tables.items) }
 {
     let countries = countries_table(alloc)?;
     let addresses = addresses_table(alloc, seed, scale)?;
@@ -44,6 +45,7 @@ pub fn populate(alloc: Global, seed: u32, scale: &Scale) -> Result<Tables, Memor
         orders,
         carts: Listed::new(alloc),
         born_orders: scale.orders,
+        born_items: scale.items,
         last,
     })
 }

@@ -13,7 +13,7 @@ use Rattle.shop_model.specs.lists.Rankings.{put_among, in_order}
 use Rattle.shop_ranking.specs.Standing.{always, is_under, listed, AreRankings, AreRoomy, AreNew, AreKept}
 use Rattle.shop_ranking.proofs.Kept.{other_subject, under_itself, roomy_changed}
 use Rattle.shop_ranking.proofs.Listed.{length_listed}
-use Rattle.shop_ranking.proofs.Putting.{length_in_order}
+use Rattle.shop_ranking.proofs.cited.Putting.{length_in_order}
 
 -- the items from a place on are listed, and there is room for all
 pub record AreFilled {A Memory : Type 0} (order : A → A → Ordering) (place : ℕ) (owns : List Subject) (elements : List A) (lists : List (Vec A Memory)) : Type 0 where

@@ -16,7 +16,7 @@ use Rattle.shop_ranking.specs.Standing.{is_under, listed, AreRoomy, AreNew, AreK
 use Rattle.shop_ranking.proofs.cited.Order.{is_in_order}
 use Rattle.shop_ranking.proofs.SubjectNumbers.{same_number}
 use Rattle.shop_ranking.proofs.Listed.{besides, listed_at, listed_other, length_besides, none_listed}
-use Rattle.shop_ranking.proofs.Putting.{length_in_order}
+use Rattle.shop_ranking.proofs.cited.Putting.{length_in_order}
 
 sorted_by : {A : Type 0} (order : A → A → Ordering) → IsTotalOrder order → (b : Bool) (x : A) (xs : List A)
     → IsSorted order (cond b (put_among order x (in_order order xs)) (in_order order xs))

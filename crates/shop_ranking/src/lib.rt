@@ -9,3 +9,5 @@ mod subjects;
 
 pub use best::Best;
 pub use newest::Newest;
+pub use ranked::{Ranked, first_ids};
+pub use ranking::put_in;

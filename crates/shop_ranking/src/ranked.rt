@@ -11,7 +11,7 @@ use std::cmp::Ordering;
 const LIST_LIMIT: usize = 50;
 
 /// What has an order and an id.
-pub(crate) trait Ranked {
+pub trait Ranked {
     ghost order: { Self → Self → Ordering };
 
     ghost id_of: { Self → ℕ };
@@ -43,7 +43,7 @@ fn first<T>(elements: &[T]) -> &[T]
 }
 
 /// The ids of the first elements.
-pub(crate) fn first_ids<T: Ranked>(alloc: Global, elements: &[T]) -> Result<Listed<u32>, Memory>
+pub fn first_ids<T: Ranked>(alloc: Global, elements: &[T]) -> Result<Listed<u32>, Memory>
     ensures { IfOk result (λ ids. ids ≡ map T.id_of (take list_limit elements.now)) }
 {
     ids(alloc, first(elements))

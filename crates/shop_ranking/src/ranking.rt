@@ -18,7 +18,7 @@ fn place_in<T: Ranked>(element: &T, others: &[T]) -> usize
 }
 
 /// Puts the element at its place; takes no memory.
-pub(crate) fn put_in<T: Ranked + Drop>(list: &mut Vec<T>, element: T)
+pub fn put_in<T: Ranked + Drop>(list: &mut Vec<T>, element: T)
     requires order { IsTotalOrder T.order }
     requires sorted { IsSorted T.order list.old.items }
     requires room { vec_len list.old < vec_capacity list.old }

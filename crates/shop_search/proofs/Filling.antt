@@ -1,5 +1,5 @@
 -- The lists of ids, as they are filled key by key and item by item.
-use Rattle.std.proofs.Common.{◌≡◌, ℕ, ◌+◌, ◌<◌, Bool, true, false, ◌||◌, nat_lt, List, [], ◌∷◌, ◌++◌, length, map, filter, take, get_or, cond, refl, ap, ◌∙◌, arith, bytes_eq, HashMap, inl, inr, append-nil, lt-ltb, le-ltb, le_refl, length-append, length-take-le}
+use Rattle.std.proofs.Common.{◌≡◌, ℕ, ◌+◌, ◌<◌, Bool, true, false, ◌||◌, nat_lt, List, [], ◌∷◌, ◌++◌, length, map, filter, take, get_or, cond, refl, sym, ap, ◌∙◌, arith, bytes_eq, HashMap, inl, inr, append-nil, lt-ltb, le-ltb, le_refl, length-append, length-take-le}
 use Rattle.std.proofs.lemmas.Bool.{cases_lt}
 use Rattle.std.proofs.lemmas.List.{take_more, take_all, take-append-le, take-map, map-append}
 use Rattle.std.proofs.lemmas.List.Elements.{filter_more}
@@ -7,9 +7,9 @@ use Rattle.std.proofs.lemmas.List.Folds.{list_any-append}
 use Rattle.std.proofs.lemmas.Slice.Eq.{bytes_eq-Decides}
 use Rattle.shop_model.specs.declared.author.Author.{Author}
 use Rattle.shop_model.specs.declared.requests.SearchKind.{SearchKind}
-use Rattle.shop_model.specs.lists.Catalogues.{Catalogue, Naming, matches, by_title, found}
+use Rattle.shop_model.specs.lists.Catalogues.{Catalogue, Naming, matches, by_title, compared, found}
 use Rattle.shop_model.specs.rows.Limits.{list_limit}
-use Rattle.shop_search.specs.Keys.{keys_of, key_of, is_among}
+use Rattle.shop_search.specs.Keys.{keys_of, is_among}
 use Rattle.shop_search.specs.Lists.{ids_at, with_id, Adds, AddsAll, Lists, Answers}
 use Rattle.shop_search.specs.Order.{by_title_total, IsListed}
 use Rattle.shop_search.proofs.Matching.{matches_key}
@@ -21,7 +21,7 @@ among_more q keys i key within here =
     rw (take_more keys i key within, ← here) (list_any-append (λ k. bytes_eq k q) (take i keys) (key ∷ []))
 
 -- what is at a key, where one that was not among the keys before is added
-fresh : (a b : Bool) (f : List ℕ → List ℕ) (now was first : List ℕ) → (b ≡ true → a ≡ false)
+pub fresh : {A : Type 0} (a b : Bool) (f : A → A) (now was first : A) → (b ≡ true → a ≡ false)
     → now ≡ cond b (f was) was → was ≡ cond a (f first) first → now ≡ cond (a || (b || false)) (f first) first
 fresh true true f now was first new is before = let never = new refl in cc
 fresh true false f now was first new is before = is ∙ before
@@ -29,13 +29,13 @@ fresh false true f now was first new is before = is ∙ ap f before
 fresh false false f now was first new is before = is ∙ before
 
 -- what is at a key, where one that was among the keys before is passed over
-stale : (a b : Bool) (more first now : List ℕ) → (b ≡ true → a ≡ true)
+pub stale : {A : Type 0} (a b : Bool) (more first now : A) → (b ≡ true → a ≡ true)
     → now ≡ cond a more first → now ≡ cond (a || (b || false)) more first
 stale true b more first now old before = before
 stale false true more first now old before = let never = old refl in cc
 stale false false more first now old before = before
 
-same_among : (key q : List ℕ) (keys : List (List ℕ)) (b : Bool) → is_among key keys ≡ b → bytes_eq key q ≡ true → is_among q keys ≡ b
+pub same_among : (key q : List ℕ) (keys : List (List ℕ)) (b : Bool) → is_among key keys ≡ b → bytes_eq key q ≡ true → is_among q keys ≡ b
 same_among key q keys b is same = rw (← (bytes_eq-Decides key q).0 same) is
 
 -- one key more, which is new
@@ -87,7 +87,7 @@ item_listed {was = was} {now = now} authors kind listed i item within here befor
       (ids_at was q) (ids_at now q) (before.each q) (adds.each q));
 }
 
-filter_same : (p q : Naming → Bool) → ((i : Naming) → q i ≡ p i) → (items : List Naming) → filter p items ≡ filter q items
+pub filter_same : (p q : Naming → Bool) → ((i : Naming) → q i ≡ p i) → (items : List Naming) → filter p items ≡ filter q items
 filter_same p q same [] = refl
 filter_same p q same (i ∷ items) = rw (same i, filter_same p q same items) refl
 
@@ -97,10 +97,15 @@ pub answers_are : {S : Type 0} {lists : HashMap (List ℕ) (List ℕ) S} (c : Ca
 unfolding found
 answers_are {lists = lists} c kind listed is made = record {
   each = λ text.
-      let key = key_of kind text in
+      let key = compared kind text in
       made.each key
       ∙ take-map (λ (i : Naming). i.id) list_limit (filter (λ i. is_among key (keys_of c.authors kind i)) listed)
       ∙ ap (λ (items : List Naming). map (λ i. i.id) (take list_limit items))
       (filter_same (λ i. is_among key (keys_of c.authors kind i)) (matches c kind text) (matches_key c kind text) listed
       ∙ passed_in_order by_title by_title_total (matches c kind text) c.items listed is.sorted is.stable);
 }
+
+-- an answer to a text in the form in which it is compared
+pub answered : {S : Type 0} {lists : HashMap (List ℕ) (List ℕ) S} (c : Catalogue) (kind : SearchKind) (text ids : List ℕ)
+    → Answers c kind lists → compared kind text ≡ text → ids ≡ ids_at lists text → ids ≡ found c kind text
+answered {lists = lists} c kind text ids answers form is = is ∙ ap (ids_at lists) (sym form) ∙ answers.each text

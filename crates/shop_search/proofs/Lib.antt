@@ -2,3 +2,8 @@ pub mod Words
 pub mod Matching
 pub mod Sorting
 pub mod Filling
+pub mod TitledLemmas
+pub mod Held
+pub mod Filings
+pub mod GrowingLemmas
+pub mod cited

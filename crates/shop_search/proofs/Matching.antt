@@ -6,9 +6,9 @@ use Rattle.std.proofs.Math.Bool.{or-false}
 use Rattle.shop_text.specs.Fold.{lower, fold_eq, fold_begins}
 use Rattle.shop_model.specs.declared.requests.SearchKind.{SearchKind}
 use Rattle.shop_model.specs.declared.requests.SearchKind.TheVariants as kind
-use Rattle.shop_model.specs.lists.Catalogues.{Catalogue, Naming, matches, words, last_name}
+use Rattle.shop_model.specs.lists.Catalogues.{Catalogue, Naming, matches, words, last_name, compared}
 use Rattle.shop_model.specs.rows.Subjects.{subject_name}
-use Rattle.shop_search.specs.Keys.{fronts, keys_of, key_of, is_among}
+use Rattle.shop_search.specs.Keys.{fronts, keys_of, is_among}
 
 any_lower : (text : List ℕ) (ws : List (List ℕ))
     → list_any (λ word. fold_eq word text) ws ≡ is_among (map lower text) (map (map lower) ws)
@@ -46,7 +46,7 @@ begins name text =
 
 -- the searches by keys are those of the definition
 pub matches_key : (c : Catalogue) (kind : SearchKind) (text : List ℕ) (item : Naming)
-    → matches c kind text item ≡ is_among (key_of kind text) (keys_of c.authors kind item)
+    → matches c kind text item ≡ is_among (compared kind text) (keys_of c.authors kind item)
 matches_key c kind.Title text item = any_lower text (words item.title)
 matches_key c kind.Author text item = begins (last_name c item) text
 matches_key c kind.Subject text item = sym (or-false (bytes_eq (subject_name item.subject) text))

@@ -25,12 +25,6 @@ keys_of authors kind.Title item = map (map lower) (words item.title)
 keys_of authors kind.Author item = fronts (map lower (last_of authors item.author))
 keys_of authors kind.Subject item = subject_name item.subject ∷ []
 
--- the key that a text asks for
-abbrev pub key_of : SearchKind → List ℕ → List ℕ
-key_of kind.Title text = map lower text
-key_of kind.Author text = map lower text
-key_of kind.Subject text = text
-
 -- whether a key is among others
 abbrev pub is_among : List ℕ → List (List ℕ) → Bool
 is_among key keys = list_any (λ k. bytes_eq k key) keys

@@ -5,9 +5,9 @@ use Rattle.std.specs.Str.{bytes_eq}
 use Rattle.shop_model.specs.declared.author.Author.{Author}
 use Rattle.shop_model.specs.declared.requests.SearchKind.{SearchKind}
 use Rattle.shop_model.specs.declared.requests.SearchKind.TheVariants as kind
-use Rattle.shop_model.specs.lists.Catalogues.{Catalogue, Naming, found}
+use Rattle.shop_model.specs.lists.Catalogues.{Catalogue, Naming, compared, found}
 use Rattle.shop_model.specs.rows.Limits.{list_limit}
-use Rattle.shop_search.specs.Keys.{keys_of, key_of, is_among}
+use Rattle.shop_search.specs.Keys.{keys_of, is_among}
 
 -- the ids at a key
 abbrev pub ids_at : {S : Type 0} → HashMap (List ℕ) (List ℕ) S → List ℕ → List ℕ
@@ -31,7 +31,7 @@ pub record Lists {S : Type 0} (authors : List Author) (kind : SearchKind) (namin
 
 -- what searches of a kind find stands at their keys
 pub record Answers {S : Type 0} (c : Catalogue) (kind : SearchKind) (lists : HashMap (List ℕ) (List ℕ) S) : Type 0 where
-  pub each : (text : List ℕ) → ids_at lists (key_of kind text) ≡ found c kind text
+  pub each : (text : List ℕ) → ids_at lists (compared kind text) ≡ found c kind text
 
 -- what searches of each kind find
 pub record IsIndex {S : Type 0} (c : Catalogue) (titles authors subjects : HashMap (List ℕ) (List ℕ) S) : Type 0 where

@@ -5,11 +5,10 @@ ghost use Rattle.shop_model.specs.lists.Catalogues.{catalogue, found};
 ghost use Rattle.shop_model.specs.rows.Lookups as lookups;
 ghost use Rattle.shop_search.specs.Namings.{IsNamedBy};
 
-use crate::keys::key_of;
 use crate::lists::{at, lists_of};
 use crate::naming::{Named, namings, share_authors};
 use crate::order::in_list_order;
-use shop_model::{Author, ItemDetails, SearchKind, Tables, row_numbered};
+use shop_model::{Author, ItemDetails, SearchKind, Sought, Tables, row_numbered};
 use shop_text::{Listed, Memory, Shared, Text};
 use std::alloc::Global;
 use std::collections::HashMap;
@@ -67,34 +66,39 @@ impl Index {
     pub fn by_title(&self, text: &[u8]) -> Result<Listed<u32>, Memory>
         ensures { IfOk result (λ ids. ids ≡ found self.now kinds.Title text.now) }
     {
-        let key = key_of(self.alloc, SearchKind::Title, text)?;
-        at(self.alloc, &self.title_lists, &key)
+        self.search(SearchKind::Title, text)
     }
 
     /// The same of items whose author's last name begins with the text.
     pub fn by_author(&self, text: &[u8]) -> Result<Listed<u32>, Memory>
         ensures { IfOk result (λ ids. ids ≡ found self.now kinds.Author text.now) }
     {
-        let key = key_of(self.alloc, SearchKind::Author, text)?;
-        at(self.alloc, &self.author_lists, &key)
+        self.search(SearchKind::Author, text)
     }
 
     /// The same of items whose subject has this name, with its case.
     pub fn by_subject(&self, text: &[u8]) -> Result<Listed<u32>, Memory>
         ensures { IfOk result (λ ids. ids ≡ found self.now kinds.Subject text.now) }
     {
-        let key = key_of(self.alloc, SearchKind::Subject, text)?;
-        at(self.alloc, &self.subject_lists, &key)
+        self.search(SearchKind::Subject, text)
     }
 
     /// What a search of this kind finds.
     pub fn search(&self, kind: SearchKind, text: &[u8]) -> Result<Listed<u32>, Memory>
         ensures { IfOk result (λ ids. ids ≡ found self.now kind text.now) }
     {
-        match kind {
-            SearchKind::Title => self.by_title(text),
-            SearchKind::Author => self.by_author(text),
-            SearchKind::Subject => self.by_subject(text),
+        self.sought(&Sought::of(self.alloc, kind, text)?)
+    }
+
+    /// What is found of what is looked for.
+    pub fn sought(&self, sought: &Sought) -> Result<Listed<u32>, Memory>
+        ensures { IfOk result (λ ids. ids ≡ found self.now sought.now.kind sought.now.text) }
+    {
+        let text = sought.text();
+        match sought.kind() {
+            SearchKind::Title => at(self.alloc, &self.title_lists, text),
+            SearchKind::Author => at(self.alloc, &self.author_lists, text),
+            SearchKind::Subject => at(self.alloc, &self.subject_lists, text),
         }
     }
 

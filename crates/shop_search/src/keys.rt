@@ -4,18 +4,9 @@ ghost use Rattle.shop_model.specs.lists.Catalogues.{naming, words};
 ghost use Rattle.shop_model.specs.rows.Subjects.{subject_name};
 ghost use Rattle.shop_search.specs.Keys as spec;
 
-use shop_model::{Author, Item, SearchKind, Subject, row_numbered};
+use shop_model::{Author, Item, SearchKind, Subject, lower_text, row_numbered};
 use shop_text::{Memory, Shared, Text};
 use std::alloc::Global;
-
-/// The bytes, with ASCII capitals made small.
-pub(crate) fn lower_text(alloc: Global, bytes: &[u8]) -> Result<Text, Memory>
-    ensures { IfOk result (λ text. text ≡ map lower bytes.now) }
-{
-    let mut small = Vec::from_slice(alloc, bytes)?;
-    small.make_ascii_lowercase();
-    Ok(Text::from_vec(small))
-}
 
 /// Adds the run in small letters, unless it is empty.
 fn push_word(alloc: Global, words: &mut Vec<Text>, run: &[u8]) -> Result<(), Memory>
@@ -92,15 +83,5 @@ pub(crate) fn keys_of(
         SearchKind::Title => title_keys(alloc, details.title.bytes()),
         SearchKind::Author => author_keys(alloc, last_of(authors, details.author)),
         SearchKind::Subject => subject_keys(alloc, details.subject),
-    }
-}
-
-/// The key that the text asks for.
-pub(crate) fn key_of(alloc: Global, kind: SearchKind, text: &[u8]) -> Result<Text, Memory>
-    ensures { IfOk result (λ key. key ≡ spec.key_of kind text.now) }
-{
-    match kind {
-        SearchKind::Title | SearchKind::Author => lower_text(alloc, text),
-        SearchKind::Subject => Text::copy(alloc, text),
     }
 }

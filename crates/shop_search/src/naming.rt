@@ -24,7 +24,7 @@ impl Model for Named {
 
 impl Named {
     /// The naming of the item; takes no memory.
-    fn of(item: &Item) -> Result<Named, Memory>
+    pub(crate) fn of(item: &Item) -> Result<Named, Memory>
         ensures { IfOk result (λ named. named ≡ naming item.now) }
     {
         Ok(Named {

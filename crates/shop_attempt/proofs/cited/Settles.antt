@@ -61,7 +61,7 @@ agrees_now t limit log reads good legal short were none =
     record {
       sound = now.sound;
       room_for = room_less (tables t log) (limit + 1 - length log) 1 (omega (arith, short)) now.room_for;
-      catalogue = (kept t log).catalogue;
+      catalogue = (kept t log good.sound.born_items).catalogue;
       shows = shows_fresh t log reads were none;
     }
 

@@ -1,6 +1,6 @@
 -- The reads of a request by their keys, and the page that a draft shows of it.
 use Rattle.std.proofs.Common.{◌≡◌, ℕ, zero, suc, List, [], ◌∷◌, ◌-◌, ◌≤◌, length, take, drop, get_or, Some, refl, sym, ap, arith}
-use Rattle.std.proofs.lemmas.List.{take_all}
+use Rattle.std.proofs.lemmas.List.{length-drop, take_all}
 use Rattle.shop_model.specs.declared.page.Page.{Page}
 use Rattle.shop_model.specs.declared.requests.Request.{Request}
 use Rattle.shop_model.specs.declared.tables.Tables.{Tables}
@@ -22,10 +22,12 @@ pub one_follows : (k : Key) (round : ℕ) (reads : List ReadOf) → (round ≡ 0
 one_follows k zero reads some follows = absurd (some refl)
 one_follows k (suc round) reads some follows = follows
 
--- the reads behind the first
+-- the reads behind the first so many
+pub rest_of : (n : ℕ) (reads : List ReadOf) → take (length reads - n) (drop n reads) ≡ drop n reads
+rest_of n reads = let many : length (drop n reads) ≤ length reads - n = omega (arith, length-drop n reads) in take_all (length reads - n) (drop n reads) many
+
 pub behind : (reads : List ReadOf) → take (length reads - 1) (drop 1 reads) ≡ drop 1 reads
-behind [] = refl
-behind (read ∷ reads) = let many : length reads ≤ length (read ∷ reads) - 1 = omega arith in take_all (length (read ∷ reads) - 1) reads many
+behind reads = rest_of 1 reads
 
 -- the page of a draft is what a request shows
 pub shows_page : (t : Tables) (request : Request) (draw : ℕ) (draft : Draft) (page : Page) → show t request draw ≡ Some page → Shows draft (λ drawn. page) → IsShownBy t request draw draft

@@ -2,20 +2,23 @@
 use Rattle.std.proofs.Common.{◌≡◌, ℕ, suc, sym, subst, ◌+◌, ◌-◌, ◌*◌, ◌%◌, ◌^◌, ◌<◌, ◌≤◌, List, [], ◌∷◌, length, take, All, Option, Some, None, IfSome, option_map, unwrap_or, refl, arith, length-append}
 use Rattle.std.proofs.lemmas.List.{length-set}
 use Rattle.std.proofs.lemmas.Nat.{mod_below}
-use Rattle.std.proofs.lemmas.List.Elements.{All-weaker}
+use Rattle.std.proofs.lemmas.List.Elements.{All-weaker, All-push}
 use Rattle.shop_log.proofs.cited.Extends.{extends_length, take_extends}
 use Rattle.shop_log.proofs.cited.Legality as legality
 use Rattle.shop_log.proofs.cited.Legality.{legal_front}
 use Rattle.shop_model.specs.declared.address.Address.{Address}
 use Rattle.shop_model.specs.declared.address.AddressText.{AddressText}
+use Rattle.shop_model.specs.declared.author.Author.{Author}
 use Rattle.shop_model.specs.declared.buying.Buyer.{Buyer}
 use Rattle.shop_model.specs.declared.buying.Buyer.TheVariants.{Returning, Newcomer}
 use Rattle.shop_model.specs.declared.tables.Tables.{Tables}
 use Rattle.shop_model.specs.declared.refusal.Refusal.TheVariants.{NoItem}
+use Rattle.shop_model.specs.asked.AddAsked.{AddAsked, IsAddAsked}
 use Rattle.shop_model.specs.asked.AdminAsked.{AdminAsked, IsAdminAsked}
 use Rattle.shop_model.specs.asked.CartAsked.{CartAsked}
 use Rattle.shop_model.specs.trade.Buyers.{customer_named, logged_in, says_same, address_saying, addresses_with, new_customer, customers_with, tables_entered}
-use Rattle.shop_model.specs.trade.Carts.{check_cart, check_asked, lines_named, lines_after, cart_lines, carts_with}
+use Rattle.shop_model.specs.trade.Adding.{check_author, check_room, added_item, with_item}
+use Rattle.shop_model.specs.trade.Carts.{first_of, check_cart, check_asked, lines_named, lines_after, cart_lines, carts_with}
 use Rattle.shop_model.specs.asked.PurchaseAsked.{PurchaseAsked, IsPurchaseAsked}
 use Rattle.shop_model.specs.trade.Sales.{Terms, check_purchase, tables_bought}
 use Rattle.shop_model.specs.trade.Mending.{with_mended}
@@ -25,7 +28,7 @@ use Rattle.shop_model.specs.rows.Lookups.{row_numbered}
 use Rattle.shop_model.specs.rows.Rows.{CartRow, CustomerRow, ItemRow}
 use Rattle.shop_model.specs.rows.Sound.{Sound, Room}
 use Rattle.shop_history.specs.declared.acts.Act.{Act}
-use Rattle.shop_history.specs.declared.acts.Act.TheVariants.{Cart, Enter, Confirm, Admin}
+use Rattle.shop_history.specs.declared.acts.Act.TheVariants.{Cart, Enter, Confirm, Admin, Add}
 use Rattle.shop_history.specs.declared.acts.Entry.{Entry}
 use Rattle.shop_history.specs.Acts.{play, request_of, IsBuyer, IsInForm}
 use Rattle.shop_history.specs.Logs.{history, after, tables, Legal, MayFollow, IsGood}
@@ -35,6 +38,7 @@ use Rattle.shop_history.proofs.cited.Places.{all_numbered}
 use Rattle.shop_history.proofs.Changed.{changed_length}
 use Rattle.shop_history.proofs.SoundCustomers.{login_sound, entered_sound, shared_sound, address_there}
 use Rattle.shop_history.proofs.SoundPurchases.{purchase_sound, purchase_room}
+use Rattle.shop_history.proofs.SoundAdding.{added_sound}
 use Rattle.shop_history.proofs.SoundMending.{mended_sound, same_length, holds}
 use Rattle.shop_history.proofs.SoundCarts.{AreSound, carts_sound, sound_with, push_sound, set_sound}
 
@@ -171,6 +175,29 @@ admin_good t stamp asked (Some item) room bound form there passes good =
       };
     }
 
+-- an item that is added, whose author is there
+
+add_good : (t : Tables) (stamp : ℕ) (asked : AddAsked) (author : Option Author) (room : ℕ) → stamp ≤ stamp_limit → IsAddAsked asked → row_numbered t.authors asked.author ≡ author
+    → first_of (check_author author) (check_room (length t.items)) ≡ None → IsGood t (suc room) → IsGood (with_item t (added_item t stamp asked)) room
+add_good t stamp asked None room bound form written passes good = absurd cc
+add_good t stamp asked (Some author) room bound form written passes good =
+    let less : Room t room = room_less t (suc room) room (omega arith) good.room_for in
+    let fits : length t.items + 1 < 2 ^ 32 = omega (arith, good.room_for.items) in
+    let item : ItemRow = added_item t stamp asked in
+    record {
+      sound = added_sound t good.sound fits stamp bound asked form author written;
+      room_for = record {
+        countries = less.countries;
+        addresses = less.addresses;
+        customers = less.customers;
+        authors = less.authors;
+        items = omega (arith, length-append t.items (item ∷ []), good.room_for.items);
+        orders = less.orders;
+        carts = less.carts;
+        restocks = All-push (λ (i : ItemRow). i.restocks + 49 * room ≤ restocks_limit) t.items item less.restocks (omega (arith, good.room_for.items));
+      };
+    }
+
 -- an act that is not refused
 play_good : (t : Tables) (stamp : ℕ) (act : Act) (room : ℕ) → stamp ≤ stamp_limit → IsInForm act → check t (request_of act) ≡ None → IsGood t (suc room)
     → IsGood (play t stamp act).tables room
@@ -178,6 +205,7 @@ play_good t stamp (Enter asked draw) room bound form passes good = enter_good t 
 play_good t stamp (Confirm asked draw auth tax) room bound form passes good = confirm_good t stamp draw (record { auth = auth; tax = tax }) asked room bound form passes good
 play_good t stamp (Admin asked) room bound form passes good =
     admin_good t stamp asked (row_numbered t.items asked.item) room bound form refl passes good
+play_good t stamp (Add asked) room bound form passes good = add_good t stamp asked (row_numbered t.authors asked.author) room bound form refl passes good
 play_good t stamp (Cart asked draw) room bound form passes good =
     let lines : List (ℕ × ℕ) = lines_after t asked draw in
     let carts : List CartRow = carts_with t.carts asked.ids.cart lines in

@@ -16,13 +16,14 @@ use Rattle.shop_model.specs.lists.Rankings.{newest, best, sold_lately}
 use Rattle.shop_model.specs.rows.Rows.{CartRow, CustomerRow, ItemRow}
 use Rattle.shop_model.specs.rows.Sound.{Sound}
 use Rattle.shop_history.specs.declared.acts.Act.{Act}
-use Rattle.shop_history.specs.declared.acts.Act.TheVariants.{Cart, Enter, Confirm, Admin}
+use Rattle.shop_history.specs.declared.acts.Act.TheVariants.{Cart, Enter, Confirm, Admin, Add}
 use Rattle.shop_history.specs.declared.keys.Key as key
 use Rattle.shop_history.specs.declared.keys.Key.{Key}
 use Rattle.shop_history.specs.declared.keys.Row as row
 use Rattle.shop_history.specs.Acts.{play, request_of}
 use Rattle.shop_history.specs.Keys.{row_of, shown}
-use Rattle.shop_history.specs.MayChange.{may_change, purchase_changes, subject_at}
+use Rattle.shop_history.specs.MayChange.{MayChange, purchase_changes, subject_at}
+use Rattle.shop_history.proofs.AddFrame.{add_frame}
 use Rattle.shop_history.proofs.EnterFrame.{enter_frame}
 use Rattle.shop_history.proofs.MendFrame.{mended_frame}
 use Rattle.shop_history.proofs.SaleFrame.{purchase_frame}
@@ -74,7 +75,7 @@ admin_frame t stamp asked None there passes any = absurd cc
 admin_frame t stamp asked (Some item) there passes any = mended_frame t stamp asked item there any
 
 -- what a key shows after an act, unless the act may change it
-pub frame : (t : Tables) (stamp : ℕ) (act : Act) → Sound t → check t (request_of act) ≡ None → (key : Key) → Contains (may_change t act) key ⊎ (row_of (play t stamp act).tables key ≡ row_of t key)
+pub frame : (t : Tables) (stamp : ℕ) (act : Act) → Sound t → check t (request_of act) ≡ None → (key : Key) → MayChange t act key ⊎ (row_of (play t stamp act).tables key ≡ row_of t key)
 unfolding newest best sold_lately
 frame t stamp (Cart asked draw) sound passes (key.TheVariants.Cart id) = ⊎_elim
     (λ same. inl (0, omega arith, ap key.TheVariants.Cart (sym same)))
@@ -84,3 +85,4 @@ frame t stamp (Cart asked draw) sound passes _ = inr refl
 frame t stamp (Enter asked draw) sound passes key = enter_frame t stamp draw asked.buyer key
 frame t stamp (Confirm asked draw auth tax) sound passes key = confirm_frame t stamp draw (record { auth = auth; tax = tax }) asked sound passes key
 frame t stamp (Admin asked) sound passes key = admin_frame t stamp asked (row_numbered t.items asked.item) refl passes key
+frame t stamp (Add asked) sound passes key = add_frame t sound stamp asked key

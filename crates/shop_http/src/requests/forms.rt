@@ -1,5 +1,6 @@
 ghost use Rattle.std.specs.Prelude.{◌≡◌, IfOk, IfSome, IsUtf8};
 ghost use Rattle.std.specs.Option.{option_map, ok_or};
+ghost use Rattle.shop_model.specs.asked.AddAsked.{IsBetween};
 ghost use Rattle.shop_model.specs.asked.AdminAsked.{IsCost};
 ghost use Rattle.shop_model.specs.asked.CustomersAsked.{IsFilled, IsShort};
 ghost use Rattle.shop_model.specs.asked.Kinds.{kind_of};
@@ -145,16 +146,20 @@ fn country_of(digits: &[u8]) -> Option<u32>
 }
 
 /// A cost in cents.
-pub(crate) fn required_cost(alloc: Global, pairs: &Pairs) -> Result<u64, Fault>
-    ensures value { Reads (spec.required spec.cost_of pairs.now Parameter.Cost) result }
+pub(crate) fn required_cost(
+    alloc: Global,
+    pairs: &Pairs,
+    parameter: Parameter,
+) -> Result<u64, Fault>
+    ensures value { Reads (spec.required spec.cost_of pairs.now parameter) result }
     ensures form { IfOk result IsCost }
 {
-    let Some(value) = pairs.value_of(Parameter::Cost) else {
-        return Err(Fault::Parameter(Parameter::Cost));
+    let Some(value) = pairs.value_of(parameter) else {
+        return Err(Fault::Parameter(parameter));
     };
     match cost_of(decoded(alloc, value)?.as_slice()) {
         Some(cost) => Ok(cost),
-        None => Err(Fault::Parameter(Parameter::Cost)),
+        None => Err(Fault::Parameter(parameter)),
     }
 }
 
@@ -168,6 +173,38 @@ fn cost_of(digits: &[u8]) -> Option<u64>
         return None;
     }
     Some(cost)
+}
+
+/// A number between two others.
+pub(crate) fn required_between(
+    alloc: Global,
+    pairs: &Pairs,
+    parameter: Parameter,
+    least: u32,
+    most: u32,
+) -> Result<u32, Fault>
+    ensures value { Reads (spec.required (spec.number_between least most) pairs.now parameter) result }
+    ensures between { IfOk result (IsBetween least most) }
+{
+    let Some(value) = pairs.value_of(parameter) else {
+        return Err(Fault::Parameter(parameter));
+    };
+    match number_between(decoded(alloc, value)?.as_slice(), least, most) {
+        Some(number) => Ok(number),
+        None => Err(Fault::Parameter(parameter)),
+    }
+}
+
+#[tactic(auto, unfolding(crate::specs::Forms::number_between))]
+fn number_between(digits: &[u8], least: u32, most: u32) -> Option<u32>
+    ensures value { result ≡ spec.number_between least most digits.now }
+    ensures between { IfSome result (IsBetween least most) }
+{
+    let number = number_of(digits)?;
+    if number < least || number > most {
+        return None;
+    }
+    Some(number)
 }
 
 /// A copy of a text that has to be there, and may not be empty.

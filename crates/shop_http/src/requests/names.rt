@@ -5,7 +5,7 @@ use crate::constants::is_same;
 use shop_model::Parameter;
 
 /// How many parameters there are.
-pub(crate) const PARAMETERS: usize = 27;
+pub(crate) const PARAMETERS: usize = 35;
 
 /// The place of a parameter among all.
 #[inline(always)]
@@ -75,6 +75,22 @@ pub(crate) fn parameter_named(name: &[u8]) -> Option<Parameter>
         Some(Parameter::Image)
     } else if is_same(name, b"thumb") {
         Some(Parameter::Thumb)
+    } else if is_same(name, b"title") {
+        Some(Parameter::Title)
+    } else if is_same(name, b"author") {
+        Some(Parameter::Author)
+    } else if is_same(name, b"publisher") {
+        Some(Parameter::Publisher)
+    } else if is_same(name, b"about") {
+        Some(Parameter::About)
+    } else if is_same(name, b"srp") {
+        Some(Parameter::Srp)
+    } else if is_same(name, b"stock") {
+        Some(Parameter::Stock)
+    } else if is_same(name, b"pages") {
+        Some(Parameter::Pages)
+    } else if is_same(name, b"backing") {
+        Some(Parameter::Backing)
     } else {
         None
     }

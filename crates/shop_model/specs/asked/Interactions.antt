@@ -1,10 +1,11 @@
--- The web interactions that are served, after the TPC-W specification; the paths are this project's own.
+-- The web interactions that are served: those of the TPC-W specification, and Admin Add, which is this project's own
+-- as the paths are.
 use Rattle.std.specs.Prelude.{ℕ, List, [], ◌∷◌, codes, Option}
 use Rattle.std.specs.List.{find}
 use Rattle.std.specs.Option.{option_map}
 use Rattle.std.specs.Str.{bytes_eq}
 use Rattle.shop_model.specs.declared.requests.Interaction.{Interaction}
-use Rattle.shop_model.specs.declared.requests.Interaction.TheVariants.{Home, NewProducts, BestSellers, ProductDetail, SearchRequest, SearchResults, ShoppingCart, CustomerRegistration, BuyRequest, BuyConfirm, OrderInquiry, OrderDisplay, AdminRequest, AdminConfirm}
+use Rattle.shop_model.specs.declared.requests.Interaction.TheVariants.{Home, NewProducts, BestSellers, ProductDetail, SearchRequest, SearchResults, ShoppingCart, CustomerRegistration, BuyRequest, BuyConfirm, OrderInquiry, OrderDisplay, AdminRequest, AdminConfirm, AdminAdd}
 
 -- the path of each
 abbrev pub path_of : Interaction → List ℕ
@@ -22,11 +23,13 @@ path_of OrderInquiry = codes "/order_inquiry"
 path_of OrderDisplay = codes "/order_display"
 path_of AdminRequest = codes "/admin_request"
 path_of AdminConfirm = codes "/admin_confirm"
+path_of AdminAdd = codes "/admin_add"
 
 -- all paths, each with its interaction: by their bytes, but that `/` stands last
 abbrev pub paths : List (List ℕ × Interaction)
 paths =
-    (path_of AdminConfirm, AdminConfirm)
+    (path_of AdminAdd, AdminAdd)
+    ∷ (path_of AdminConfirm, AdminConfirm)
     ∷ (path_of AdminRequest, AdminRequest)
     ∷ (path_of BestSellers, BestSellers)
     ∷ (path_of BuyConfirm, BuyConfirm)

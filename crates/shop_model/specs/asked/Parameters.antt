@@ -1,7 +1,7 @@
 -- The parameters of requests; the names are this project's own.
 use Rattle.std.specs.Prelude.{ℕ, List, ◌++◌, codes}
 use Rattle.shop_model.specs.declared.parameter.Parameter.{Parameter}
-use Rattle.shop_model.specs.declared.parameter.Parameter.TheVariants.{C, Cart, Item, Qty, Subject, Kind, Text, User, Pass, FirstName, LastName, Street1, Street2, City, State, Zip, Country, Phone, Email, Card, Number, Name, Expiry, Ship, Cost, Image, Thumb}
+use Rattle.shop_model.specs.declared.parameter.Parameter.TheVariants.{C, Cart, Item, Qty, Subject, Kind, Text, User, Pass, FirstName, LastName, Street1, Street2, City, State, Zip, Country, Phone, Email, Card, Number, Name, Expiry, Ship, Cost, Image, Thumb, Title, Author, Publisher, About, Srp, Stock, Pages, Backing}
 
 abbrev pub parameter_name : Parameter → List ℕ
 parameter_name C = codes "c"
@@ -31,6 +31,14 @@ parameter_name Ship = codes "ship"
 parameter_name Cost = codes "cost"
 parameter_name Image = codes "image"
 parameter_name Thumb = codes "thumb"
+parameter_name Title = codes "title"
+parameter_name Author = codes "author"
+parameter_name Publisher = codes "publisher"
+parameter_name About = codes "about"
+parameter_name Srp = codes "srp"
+parameter_name Stock = codes "stock"
+parameter_name Pages = codes "pages"
+parameter_name Backing = codes "backing"
 
 -- what refuses a parameter that is missing or not in its form
 abbrev pub bad_parameter : Parameter → List ℕ

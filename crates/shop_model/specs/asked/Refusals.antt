@@ -5,7 +5,7 @@ use Rattle.std.specs.Prelude.{ℕ, List, [], ◌∷◌, codes}
 use Rattle.shop_model.specs.declared.page.Block.TheVariants.{Para}
 use Rattle.shop_model.specs.declared.page.Page.{Page}
 use Rattle.shop_model.specs.declared.refusal.Refusal.{Refusal}
-use Rattle.shop_model.specs.declared.refusal.Refusal.TheVariants.{BadRequest, BadParameter, EmptyCart, FullCart, FullLine, CardReused, CardStolen, CardOverLimit, WrongPassword, NoPage, NoItem, NoCart, NoCustomer, NoUserName, NotGetOrPost, LargeBody, LargeHead, TransferEncoding, GatewayFailed, RowsKeptChanging, FullLog}
+use Rattle.shop_model.specs.declared.refusal.Refusal.TheVariants.{BadRequest, BadParameter, EmptyCart, FullCart, FullLine, FullShop, CardReused, CardStolen, CardOverLimit, WrongPassword, NoPage, NoItem, NoAuthor, NoCart, NoCustomer, NoUserName, NotGetOrPost, LargeBody, LargeHead, TransferEncoding, GatewayFailed, RowsKeptChanging, FullLog}
 use Rattle.shop_model.specs.asked.Parameters.{bad_parameter}
 
 -- a status, its reason phrase, and why
@@ -33,6 +33,7 @@ answer_of (BadParameter parameter) = bad_request (bad_parameter parameter)
 answer_of EmptyCart = bad_request (codes "The cart is empty.")
 answer_of FullCart = bad_request (codes "A cart holds at most 100 lines.")
 answer_of FullLine = bad_request (codes "A line holds at most 999.")
+answer_of FullShop = bad_request (codes "The shop holds at most 10000 items.")
 answer_of CardReused = payment_required (codes "The card was refused: reused.")
 answer_of CardStolen = payment_required (codes "The card was refused: stolen.")
 answer_of CardOverLimit = payment_required (codes "The card was refused: limit.")
@@ -40,6 +41,7 @@ answer_of WrongPassword =
     record { status = 403; phrase = codes "Forbidden"; text = codes "Wrong password." }
 answer_of NoPage = not_found (codes "No such page.")
 answer_of NoItem = not_found (codes "No item has this number.")
+answer_of NoAuthor = not_found (codes "No author has this number.")
 answer_of NoCart = not_found (codes "No cart has this number.")
 answer_of NoCustomer = not_found (codes "No customer has this number.")
 answer_of NoUserName = not_found (codes "No customer has this name.")

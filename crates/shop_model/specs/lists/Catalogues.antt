@@ -1,12 +1,12 @@
--- What never changes of the items and their authors, and the searches over it. What matches and how
+-- What never changes of an item and of the authors, and the searches over it. What matches and how
 -- ties are broken is this project's own, after the TPC-W specification's Search Results.
-use Rattle.std.specs.Prelude.{ℕ, ◌==◌, not, Bool, List, [], ◌∷◌, ◌++◌, length, map, filter, take, unwrap_or, option_map, if◌then◌else◌}
+use Rattle.std.specs.Prelude.{ℕ, ◌==◌, not, Bool, List, [], ◌∷◌, ◌++◌, length, map, filter, take, drop, unwrap_or, option_map, if◌then◌else◌}
 use Rattle.std.specs.declared.cmp.Ordering.{Ordering}
 use Rattle.std.specs.Ordering.{ordering_then, nat_cmp}
 use Rattle.std.specs.Cmp.Lexicographic.{slice_cmp}
 use Rattle.std.specs.List.{list_any}
 use Rattle.std.specs.Str.{bytes_eq}
-use Rattle.shop_text.specs.Fold.{fold_eq, fold_begins}
+use Rattle.shop_text.specs.Fold.{lower, fold_eq, fold_begins}
 use Rattle.shop_model.specs.declared.author.Author.{Author}
 use Rattle.shop_model.specs.declared.requests.SearchKind.{SearchKind}
 use Rattle.shop_model.specs.declared.requests.SearchKind.TheVariants as kind
@@ -36,6 +36,14 @@ pub record Catalogue : Type 0 where
 abbrev pub catalogue : Tables → Catalogue
 catalogue t = record { items = map naming t.items; authors = t.authors }
 
+-- the part of it that the shop opened with, which stays
+abbrev pub opened : Tables → Catalogue
+opened t = record { items = take t.born_items (map naming t.items); authors = t.authors }
+
+-- the part that was added since
+abbrev pub added : Tables → Catalogue
+added t = record { items = drop t.born_items (map naming t.items); authors = t.authors }
+
 -- the runs of bytes between spaces, where these bytes came before; some may be empty
 abbrev pub runs_from : List ℕ → List ℕ → List (List ℕ)
 runs_from run [] = run ∷ []
@@ -54,6 +62,21 @@ abbrev pub matches : Catalogue → SearchKind → List ℕ → Naming → Bool
 matches c kind.Title text item = list_any (λ word. fold_eq word text) (words item.title)
 matches c kind.Author text item = fold_begins (last_name c item) text
 matches c kind.Subject text item = bytes_eq (subject_name item.subject) text
+
+-- the form in which a text is compared: in small letters, unless it is the name of a subject
+abbrev pub compared : SearchKind → List ℕ → List ℕ
+compared kind.Title text = map lower text
+compared kind.Author text = map lower text
+compared kind.Subject text = text
+
+-- what a search looks for
+pub record Search : Type 0 where
+  pub kind : SearchKind
+  pub text : List ℕ
+
+-- that of a search for a text, in the form in which it is compared
+abbrev pub search_for : SearchKind → List ℕ → Search
+search_for kind text = record { kind = kind; text = compared kind text }
 
 -- titles in the order of their bytes, then smaller ids
 abbrev pub by_title : Naming → Naming → Ordering

@@ -2,7 +2,7 @@
 use Rattle.std.specs.Prelude.{ℕ, Option, Some, None, Bool, true, false}
 use Rattle.shop_model.specs.declared.page.Page.{Page}
 use Rattle.shop_model.specs.declared.requests.Request.{Request}
-use Rattle.shop_model.specs.declared.requests.Request.TheVariants.{Home, NewProducts, BestSellers, ProductDetail, SearchRequest, SearchResults, CartRequest, CustomerRegistration, BuyRequest, BuyConfirm, OrderInquiry, OrderDisplay, AdminRequest, AdminConfirm}
+use Rattle.shop_model.specs.declared.requests.Request.TheVariants.{Home, NewProducts, BestSellers, ProductDetail, SearchRequest, SearchResults, CartRequest, CustomerRegistration, BuyRequest, BuyConfirm, OrderInquiry, OrderDisplay, AdminRequest, AdminConfirm, AdminAdd}
 use Rattle.shop_model.specs.declared.tables.Tables.{Tables}
 use Rattle.shop_model.specs.declared.refusal.Refusal.{Refusal}
 use Rattle.shop_model.specs.pages.NewProducts.{new_products}
@@ -13,6 +13,7 @@ use Rattle.shop_model.specs.asked.Refusals.{page_of}
 use Rattle.shop_model.specs.pages.Home.{home_page, customer_asked}
 use Rattle.shop_model.specs.pages.SearchRequest.{search_request}
 use Rattle.shop_model.specs.declared.refusal.Refusal.TheVariants.{NoItem, NoCustomer}
+use Rattle.shop_model.specs.trade.Adding.{check_add}
 use Rattle.shop_model.specs.trade.Buyers.{check_enter, check_login}
 use Rattle.shop_model.specs.trade.Carts.{check_cart}
 use Rattle.shop_model.specs.trade.Sales.{check_purchase}
@@ -28,6 +29,7 @@ is_changing (CartRequest asked) = true
 is_changing (BuyRequest asked) = true
 is_changing (BuyConfirm asked) = true
 is_changing (AdminConfirm asked) = true
+is_changing (AdminAdd asked) = true
 is_changing _ = false
 
 -- a row that has to be there
@@ -56,6 +58,7 @@ check t (OrderInquiry asked) = check_customer t asked.ids.c
 check t (OrderDisplay asked) = check_login t asked.login
 check t (AdminRequest asked) = check_there NoItem (row_numbered t.items asked.item)
 check t (AdminConfirm asked) = check_there NoItem (row_numbered t.items asked.item)
+check t (AdminAdd asked) = check_add t asked
 
 -- what a request that only reads shows where nothing refuses it
 abbrev pub page_for : Tables → Request → ℕ → Option Page

@@ -284,5 +284,6 @@ populated seed scale = record {
   orders = orders_table seed scale;
   carts = [];
   born_orders = scale.orders;
+  born_items = scale.items;
   last = lasts_table seed scale;
 }

@@ -13,5 +13,6 @@ no_tables = record {
   orders = [];
   carts = [];
   born_orders = 0;
+  born_items = 0;
   last = [];
 }

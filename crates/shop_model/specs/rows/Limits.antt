@@ -45,9 +45,21 @@ sets_limit = 100
 abbrev pub text_limit : ℕ
 text_limit = 100
 
+-- the items of a shop that takes one more
+abbrev pub items_limit : ℕ
+items_limit = 10_000
+
 -- the units in stock
 abbrev pub stock_limit : ℕ
 stock_limit = 1_000_000
+
+-- the units that an item may be added with, from the least that are left after a sale
+abbrev pub added_stock_limit : ℕ
+added_stock_limit = 1_000
+
+-- the pages that it may have
+abbrev pub pages_limit : ℕ
+pages_limit = 9_999
 
 -- how often an item was restocked
 abbrev pub restocks_limit : ℕ

@@ -125,6 +125,7 @@ pub record Sound (t : Tables) : Type 0 where
   pub countries : length t.countries ≡ 92
   pub six : 6 ≤ length t.items
   pub born : t.born_orders ≤ length t.orders
+  pub born_items : t.born_items ≤ length t.items
 
 -- so many entries more may come: each adds one row to a table at most, and restocks 49 times
 pub record Room (t : Tables) (entries : ℕ) : Type 0 where

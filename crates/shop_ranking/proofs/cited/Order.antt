@@ -110,7 +110,7 @@ better_total : IsTotalOrder better
 better_total =
     then_total (back_total (on_total (λ (s : Sale). s.units) nat_cmp_total)) (on_total (λ (s : Sale). s.id) nat_cmp_total)
 
-ordering_parts : (o p : Ordering) → ordering_then o p ≡ Equal → (o ≡ Equal) × (p ≡ Equal)
+pub ordering_parts : (o p : Ordering) → ordering_then o p ≡ Equal → (o ≡ Equal) × (p ≡ Equal)
 ordering_parts Less p tied = cc
 ordering_parts Equal p tied = (refl, tied)
 ordering_parts Greater p tied = cc
@@ -118,11 +118,11 @@ ordering_parts Greater p tied = cc
 abbrev the_sale : ℕ → ℕ → Sale
 the_sale i n = record { id = i; units = n }
 
-same_number : (m n : ℕ) → nat_cmp m n ≡ Equal → m ≡ n
+pub same_number : (m n : ℕ) → nat_cmp m n ≡ Equal → m ≡ n
 same_number m n tied = by_ranked (m < n) (m ≡ n) (n < m) (nat_cmp m n) (ranked m n (nat_cmp m n) refl)
     (λ less _. cc) (λ _ same. same) (λ more _. cc)
 
-same_title : (s t : List ℕ) → slice_cmp nat_cmp s t ≡ Equal → s ≡ t
+pub same_title : (s t : List ℕ) → slice_cmp nat_cmp s t ≡ Equal → s ≡ t
 same_title [] [] tied = refl
 same_title [] (y ∷ ys) tied = cc
 same_title (x ∷ xs) [] tied = cc

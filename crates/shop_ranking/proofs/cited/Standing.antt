@@ -79,7 +79,7 @@ map_put f order x [] = refl
 map_put f order x (y ∷ ys) =
     put_by f (is_gt (order (f x) (f y))) x y (put_among (λ a b. order (f a) (f b)) x ys) ys (put_among order (f x) (map f ys)) (map_put f order x ys)
 
-map_in_order : {A B : Type 0} (f : A → B) (order : B → B → Ordering) (xs : List A)
+pub map_in_order : {A B : Type 0} (f : A → B) (order : B → B → Ordering) (xs : List A)
     → map f (in_order (λ a b. order (f a) (f b)) xs) ≡ in_order order (map f xs)
 unfolding in_order
 map_in_order f order [] = refl

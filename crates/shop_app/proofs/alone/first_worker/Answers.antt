@@ -4,7 +4,7 @@ use Rattle.shop_app.proofs.SessionLemmas.{posted, is_first}
 use Rattle.shop_app.proofs.alone.first_worker.Goals as goal
 
 pub open-requires : goal.open-requires
-open-requires c = opens_at c.in_ok-tables.tables c.args.asked.limit c.requires c.in_ok-tables.ensures.sound c.in_ok-tables.ensures.room c.in_ok-tables.ensures.born
+open-requires c = opens_at c.in_ok-tables.tables c.args.asked.limit c.requires c.in_ok-tables.ensures.sound c.in_ok-tables.ensures.room c.in_ok-tables.ensures.born c.in_ok-tables.ensures.born_items
 
 pub new-requires-2 : goal.new-requires-2
 new-requires-2 c =

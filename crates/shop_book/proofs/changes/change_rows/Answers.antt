@@ -39,6 +39,10 @@ pub returns-clause-lists : goal.returns-clause-lists
 returns-clause-lists c = λ t a change.
     c.carry_out.ensures.lists t a c.args.stamp (done_of t a c.args.rows.now c.args.lists.now c.args.plan c.args.stamp c.args.puts.items c.put_all.new.self change (c.put_all.ensures t))
 
+pub returns-clause-added : goal.returns-clause-added
+returns-clause-added c = λ t a change.
+    c.carry_out.ensures.added t a c.args.stamp (done_of t a c.args.rows.now c.args.lists.now c.args.plan c.args.stamp c.args.puts.items c.put_all.new.self change (c.put_all.ensures t))
+
 pub returns-clause-raised : goal.returns-clause-raised
 returns-clause-raised c = λ t a change.
     c.carry_out.ensures.raised t a c.args.stamp (done_of t a c.args.rows.now c.args.lists.now c.args.plan c.args.stamp c.args.puts.items c.put_all.new.self change (c.put_all.ensures t))

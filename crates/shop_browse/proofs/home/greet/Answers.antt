@@ -1,21 +1,17 @@
-use Rattle.std.proofs.Common.{◌∷◌, [], refl}
-use Rattle.shop_model.specs.declared.refusal.Refusal.TheVariants.{NoCustomer}
-use Rattle.shop_model.specs.declared.requests.Request.TheVariants.{Home}
-use Rattle.shop_model.specs.asked.Refusals.{page_of}
-use Rattle.shop_browse.proofs.cited.Reads.{shows_page}
-use Rattle.shop_browse.proofs.HomeLemmas.{known_next, none_known}
+use Rattle.std.proofs.Common.{Some, refl, sym, subst}
+use Rattle.shop_model.specs.declared.requests.IdsAsked.{IdsAsked}
+use Rattle.shop_history.specs.declared.keys.Row.{Row}
+use Rattle.shop_browse.specs.declared.driver.Next.TheVariants.{Show}
+use Rattle.shop_browse.specs.Home.{IsGreeting, home_in}
+use Rattle.shop_browse.proofs.DriverLemmas.{with_ids}
 use Rattle.shop_browse.proofs.home.greet.Goals as goal
 
-pub returns-in_ok-refusal-in-Absent : goal.returns-in_ok-refusal-in-Absent
-returns-in_ok-refusal-in-Absent c round = (
-  refl,
-  λ t fits.
-      shows_page t (Home c.args.asked.now) c.args.ask.now.draw _ (page_of NoCustomer)
-      (none_known c.args.asked.now c.args.number c.args.ask.now c.requires.number c.args.known.now c.requires.known (c.args.drawn.now ∷ []) c.args.ask.now.index.now t c.in-Absent.is fits)
-      c.in_ok-refusal-in-Absent.ensures,
-)
-
-pub returns-in_ok-welcome-in-Customer : goal.returns-in_ok-welcome-in-Customer
-returns-in_ok-welcome-in-Customer c round =
-    known_next c.args.asked.now c.args.number c.args.ask.now c.requires.number c.args.known.now c.requires.known c.in-Customer.customer round c.args.drawn.now c.welcome.new.draft
-    c.in-Customer.is c.in_ok-welcome-in-Customer.ensures
+pub returns-in_ok-write_page-in-Customer : goal.returns-in_ok-write_page-in-Customer
+returns-in_ok-write_page-in-Customer c =
+    let names = c.args.names in
+    let draw = c.args.draw in
+    let items = c.args.items.now in
+    subst (λ (r : Row). IsGreeting names draw c.args.ids r items c.write_page.new.draft Show) (sym c.in-Customer.is) (
+      refl,
+      with_ids c.write_page.new.draft (λ (ids : IdsAsked). home_in names draw ids (Some c.in-Customer.customer) items) c.of.result c.args.ids c.of.ensures c.in_ok-write_page-in-Customer.ensures,
+    )

@@ -14,13 +14,14 @@ pub returns : goal.returns
 unfolding home_in
 returns c drawn =
     let ids = ids_at drawn c.args.ids in
-    let ask = c.args.ask.now in
+    let names = c.args.names in
+    let draw = c.args.draw in
     let items = c.args.items.now in
     record {
       status = refl;
-      text = written (home_in ask ids (option_copied c.args.customer) items) _ _ _ (c.in_ok-begin.ensures drawn)
+      text = written (home_in names draw ids (option_copied c.args.customer) items) _ _ _ (c.in_ok-begin.ensures drawn)
           (two _ _ _ _ _ (c.in_ok-heading.ensures drawn)
-          (four_parts block_line (greetings (option_copied c.args.customer)) (map (promoted_in ask.index.now ids) items) _ (nav ids) _ _ _ _ _
+          (four_parts block_line (greetings (option_copied c.args.customer)) (map (promoted_in names ids) items) _ (nav ids) _ _ _ _ _
           (c.in_ok-greetings.ensures drawn) (c.in_ok-promotion.ensures drawn)
           (rw c.picked.ensures at (c.in_ok-subject_links.ensures drawn)) (c.in_ok-nav.ensures drawn)))
           (c.in_ok-end.ensures drawn);

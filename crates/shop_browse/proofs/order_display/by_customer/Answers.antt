@@ -13,17 +13,17 @@ use Rattle.shop_browse.proofs.order_display.by_customer.Goals as goal
 use Rattle.shop_browse.proofs.order_display.by_customer.Goals.{in_default-via-in-Id+in_default, in_default-via-in_default}
 
 pub returns-then-is_password : goal.returns-then-is_password
-returns-then-is_password c ask =
+returns-then-is_password c catalogue ask _ =
     let asked = c.args.asked.now in
     let reads = c.args.reads.now in
     let id = c.in-Id-Customer.id in
     let same : id ≡ c.requires.0 = cc (c.in-Id-Customer.is-0, is_user asked.login reads c.requires c.index-reads-0.result) in
     let passes = ap (λ (o : asked_for.OrderDisplay). o.login.pass) (sym c.asked.view_is) ∙ c.is_password.ensures.0 c.if-is_password.true in
-    subst (λ i. AsksFor (FollowsDisplay asked) (OrderDisplay asked) ask 2 reads (LastOrder i ∷ [])) (sym same)
-    (asks_last asked ask reads c.requires.0 (has_login asked.login reads c.requires c.index-reads-1.result c.in-Id-Customer.customer c.in-Id-Customer.is-1 passes))
+    subst (λ i. AsksFor (FollowsDisplay asked catalogue) (OrderDisplay asked) ask 2 reads (LastOrder i ∷ [])) (sym same)
+    (asks_last catalogue asked ask reads c.requires.0 (has_login asked.login reads c.requires c.index-reads-1.result c.in-Id-Customer.customer c.in-Id-Customer.is-1 passes))
 
 pub returns-in_ok-refusal-in-Id-Customer : goal.returns-in_ok-refusal-in-Id-Customer
-returns-in_ok-refusal-in-Id-Customer c ask = (
+returns-in_ok-refusal-in-Id-Customer c catalogue ask _ = (
   refl,
   λ t fits.
       let asked = c.args.asked.now in
@@ -33,7 +33,7 @@ returns-in_ok-refusal-in-Id-Customer c ask = (
 )
 
 pub returns-in_default : goal.returns-in_default
-returns-in_default c ask t fits =
+returns-in_default c catalogue ask _ t fits =
     let asked = c.args.asked.now.login in
     let reads = c.args.reads.now in
     let named = is_named asked reads c.requires c.index-reads-1.result ask.index.now t fits in

@@ -8,10 +8,10 @@ use Rattle.shop_browse.proofs.OrderReads.{asks_order}
 use Rattle.shop_browse.proofs.order_display.by_last.Goals as goal
 
 pub returns-in-Id : goal.returns-in-Id
-returns-in-Id c ask = asks_order c.args.asked.now ask c.args.reads.now c.in-Id.order (has_last c.args.asked.now c.args.reads.now c.requires _ c.in-Id.order c.in-Id.is)
+returns-in-Id c catalogue ask same = asks_order catalogue c.args.asked.now ask c.args.reads.now c.in-Id.order (has_last c.args.asked.now c.args.reads.now c.requires _ c.in-Id.order c.in-Id.is)
 
 pub returns-in_ok-no_order_page-in-Absent : goal.returns-in_ok-no_order_page-in-Absent
-returns-in_ok-no_order_page-in-Absent c ask = (
+returns-in_ok-no_order_page-in-Absent c catalogue ask same = (
   refl,
   λ t fits.
       let asked = c.args.asked.now in

@@ -8,10 +8,10 @@ use Rattle.shop_browse.proofs.OrderReads.{asks_customer}
 use Rattle.shop_browse.proofs.order_display.by_name.Goals as goal
 
 pub returns-in-Id : goal.returns-in-Id
-returns-in-Id c ask = asks_customer c.args.asked.now ask c.args.reads.now c.in-Id.id (has_user c.args.asked.now c.args.reads.now _ c.requires c.in-Id.id c.in-Id.is)
+returns-in-Id c catalogue ask same = asks_customer catalogue c.args.asked.now ask c.args.reads.now c.in-Id.id (has_user c.args.asked.now c.args.reads.now _ c.requires c.in-Id.id c.in-Id.is)
 
 pub returns-in_ok-refusal-in-Absent : goal.returns-in_ok-refusal-in-Absent
-returns-in_ok-refusal-in-Absent c ask = (
+returns-in_ok-refusal-in-Absent c catalogue ask same = (
   refl,
   λ t fits.
       let asked = c.args.asked.now in

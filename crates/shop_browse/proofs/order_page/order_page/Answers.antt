@@ -11,7 +11,7 @@ unfolding order_page
 returns c t ships items drawn =
     let order = c.args.order.now in
     let lines_are : c.as_slice.result.now ≡ order.lines = c.as_slice.ensures ∙ ap (λ (o : OrderRow). o.lines) c.order.view_is in
-    let first = subst (λ (l : List LineRow). HaveItems t c.args.index.now l) (sym lines_are) items in
+    let first = subst (λ (l : List LineRow). HaveItems t c.args.names l) (sym lines_are) items in
     record {
       status = refl;
       text = page_written t (ids_at drawn c.args.ids) order c.args.city.now c.args.country.now c.as_slice.result.now c.order.inside.card ships lines_are (ap (λ (o : OrderRow). o.card) c.order.view_is)

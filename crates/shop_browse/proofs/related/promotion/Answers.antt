@@ -10,5 +10,5 @@ loop-item-preserved c drawn =
     let items = c.args.items.now in
     let at = c.loop-item.item-index in
     let within = c.loop-item-test.true in
-    blocks_more (promoted_in c.args.index.now (ids_at drawn c.args.ids)) items at (get_or items at 0) _ _ _
+    blocks_more (promoted_in c.args.names (ids_at drawn c.args.ids)) items at (get_or items at 0) _ _ _
     within (get_or_default items at 0 (get_or items at 0) within) (c.loop-item.invariant drawn) (c.in_ok-promoted.ensures drawn)

@@ -8,4 +8,4 @@ use Rattle.shop_browse.proofs.related.promotion.Given as goal
 
 -- the links so far were added
 abbrev pub invariant-loop-item : goal.invariant-loop-item
-invariant-loop-item l = Adds l.initial.page l.page (λ drawn. flat_map block_line (map (promoted_in l.index (ids_at drawn l.ids)) (take l.item-index l.items)))
+invariant-loop-item l = Adds l.initial.page l.page (λ drawn. flat_map block_line (map (promoted_in l.names (ids_at drawn l.ids)) (take l.item-index l.items)))

@@ -13,12 +13,12 @@ unfolding search_in
 returns c drawn =
     let ids = ids_at drawn c.args.ids in
     let items = c.args.items.now in
-    let index = c.args.index.now in
+    let names = c.args.names in
     record {
       status = refl;
-      text = written (search_in index ids items) _ _ _ (c.in_ok-begin.ensures drawn)
+      text = written (search_in names ids items) _ _ _ (c.in_ok-begin.ensures drawn)
           (two _ _ _ _ _ (c.in_ok-heading.ensures drawn)
-          (both block_line (map (promoted_in index ids) items) (search_form ids ∷ nav ids) _ _ _ (c.in_ok-promotion.ensures drawn)
+          (both block_line (map (promoted_in names ids) items) (search_form ids ∷ nav ids) _ _ _ (c.in_ok-promotion.ensures drawn)
           (two _ _ _ _ _ (c.in_ok-search_form.ensures drawn) (c.in_ok-nav.ensures drawn))))
           (c.in_ok-end.ensures drawn);
     }

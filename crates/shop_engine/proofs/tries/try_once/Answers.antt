@@ -1,6 +1,6 @@
-use Rattle.std.proofs.Common.{refl, sym, ◌∙◌, ap, length}
+use Rattle.std.proofs.Common.{refl, sym, ◌∙◌, ap}
 use Rattle.shop_model.specs.declared.tables.Tables.{Tables}
-use Rattle.shop_model.specs.lists.Catalogues.{catalogue}
+use Rattle.shop_model.specs.lists.Catalogues.{opened}
 use Rattle.shop_engine.proofs.Payments.{free_paid}
 use Rattle.shop_engine.proofs.TriesLemmas.{unasked}
 use Rattle.shop_engine.proofs.tries.try_once.Goals as goal
@@ -28,8 +28,7 @@ try_other-requires-clause-attempted g c = (_, c.attempt.ensures.attempted)
 
 pub try_other-requires-clause-suits : goal.try_other-requires-clause-suits
 try_other-requires-clause-suits g c =
-    let same = ap (λ (t : Tables). catalogue t) (sym c.attempt.ensures.looks.looked.follows.opening) in
-    record { index = c.requires.suits.index ∙ same; scale = c.requires.suits.scale ∙ ap (λ (t : Tables). length t.items) (sym c.attempt.ensures.looks.looked.follows.opening) }
+    c.requires.suits ∙ ap (λ (t : Tables). opened t) (sym c.attempt.ensures.looks.looked.follows.opening)
 
 pub returns-in_default-clause-tried : goal.returns-in_default-clause-tried
 returns-in_default-clause-tried g c =

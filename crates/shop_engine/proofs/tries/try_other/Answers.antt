@@ -42,7 +42,7 @@ pay-requires g c =
     let payable = subst (AttemptedAs made.0 _ _ _) c.in-Pay.is made.1 in
     let ask = c.args.job.now.ask in
     subst (λ r. HasBasket ask.index.now ask.tax r c.in-Pay.attempt.reads) c.in-BuyConfirm.is
-    (subst (λ i. HasBasket i ask.tax c.args.job.now.request.now c.in-Pay.attempt.reads) (sym c.requires.suits.index) payable.basket)
+    (subst (λ i. HasBasket i ask.tax c.args.job.now.request.now c.in-Pay.attempt.reads) (sym c.requires.suits) payable.basket)
 
 pub settle_page-requires-in-Approved-clause-faithful : goal.settle_page-requires-in-Approved-clause-faithful
 settle_page-requires-in-Approved-clause-faithful g c =

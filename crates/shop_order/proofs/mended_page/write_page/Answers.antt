@@ -5,7 +5,7 @@ use Rattle.shop_model.specs.pages.PageText.{block_line}
 use Rattle.shop_model.specs.pages.Targets.{nav}
 use Rattle.shop_model.specs.rows.Rows.{ItemRow}
 use Rattle.shop_draft.proofs.cited.PageTexts.{both, five, written}
-use Rattle.shop_browse.proofs.cited.Titles.{links_are}
+use Rattle.shop_browse.proofs.cited.Names.{links_are}
 use Rattle.shop_order.specs.AdminConfirm.{published_at}
 use Rattle.shop_order.proofs.mended_page.write_page.Goals as goal
 
@@ -15,7 +15,7 @@ returns c t named drawn =
     let item = c.args.item.now in
     let ids = c.args.ids in
     let related_is = ap (λ d. d.related) c.get.ensures ∙ ap (λ (i : ItemRow). i.related) c.item.view_is in
-    let links = links_are c.args.index.now t named ids item.related in
+    let links = links_are c.args.names t ids item.related named in
     record {
       status = refl;
       text = written (mended_page t ids (published_at drawn.stamp item)) _ _ _ (c.in_ok-begin.ensures drawn)

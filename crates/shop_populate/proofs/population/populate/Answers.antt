@@ -1,7 +1,7 @@
 use Rattle.std.proofs.Common.{◌≡◌, length, subst, sym}
 use Rattle.shop_model.specs.declared.tables.Tables.{Tables}
 use Rattle.shop_model.specs.population.Population as spec
-use Rattle.shop_populate.proofs.Opening.{is_sound, has_room, all_born, orders_run, buyers_exist}
+use Rattle.shop_populate.proofs.Opening.{is_sound, has_room, all_born, all_born_items, orders_run, buyers_exist}
 use Rattle.shop_populate.proofs.population.populate.Goals as goal
 
 pub last_orders_table-requires-clause-run : goal.last_orders_table-requires-clause-run
@@ -42,3 +42,8 @@ pub returns-clause-born : goal.returns-clause-born
 returns-clause-born c =
     subst (λ (t : Tables). t.born_orders ≡ length t.orders) (sym (returns-clause-value c))
     (rw (← c.scale.view_is) (all_born c.args.seed _ c.scale.invariant))
+
+pub returns-clause-born_items : goal.returns-clause-born_items
+returns-clause-born_items c =
+    subst (λ (t : Tables). t.born_items ≡ length t.items) (sym (returns-clause-value c))
+    (rw (← c.scale.view_is) (all_born_items c.args.seed _ c.scale.invariant))

@@ -5,9 +5,10 @@ use Rattle.shop_model.specs.rows.Rows.{OrderRow}
 use Rattle.shop_history.specs.declared.acts.Entry.{Entry}
 use Rattle.shop_history.specs.Drawing.{new_ids}
 use Rattle.shop_history.specs.Logs as logs
-use Rattle.shop_history.specs.MayChange.{may_change}
+use Rattle.shop_history.specs.MayChange.{MayChange}
 use Rattle.shop_history.proofs.cited.Rows.{tables_push}
-use Rattle.shop_history.proofs.cited.Versions.{RaisedFor}
+use Rattle.shop_history.proofs.cited.Versions.{RaisedWhere}
+use Rattle.shop_book.specs.Additions.{AreAdded}
 use Rattle.shop_book.specs.Books.{tables_of}
 use Rattle.shop_book.specs.BookView.{book_of}
 use Rattle.shop_book.specs.Changing.{after, IsChange}
@@ -26,7 +27,7 @@ use Rattle.shop_book.proofs.book.Book.change.Goals.{After-make_room, After-deref
 kept_now : (c : After-make_room) → IsKept (book_of c.self.inside) c.make_room.new.rows c.make_room.new.versions c.make_room.new.counts c.make_room.new.lists c.self.inside.cents
 kept_now c =
     kept_roomy (book_of c.self.inside) c.self.inside.rows c.make_room.new.rows c.self.inside.versions c.make_room.new.versions c.self.inside.counts c.make_room.new.counts c.self.inside.lists c.make_room.new.lists c.self.inside.cents
-    c.self.invariant c.make_room.ensures.rows c.make_room.ensures.versions c.make_room.ensures.places c.make_room.ensures.counts c.make_room.ensures.lists
+    c.self.invariant c.make_room.ensures.rows c.make_room.ensures.versions c.make_room.ensures.places c.make_room.ensures.added c.make_room.ensures.counts c.make_room.ensures.lists
 
 changes : (c : After-make_room) → IsChange (tables_of (book_of c.self.inside)) c.args.entry.act c.make_room.new.rows c.make_room.new.lists c.args.plan c.args.entry.stamp c.args.puts.items
 changes c =
@@ -106,11 +107,11 @@ pub change_rows-ids-requires-clause-ready : goal.change_rows-ids-requires-clause
 change_rows-ids-requires-clause-ready c =
     ready _ _ c.self.invariant.is_book _ _ _ c.self.view_is c.requires c.self.inside.rows c.self.inside.versions c.self.inside.counts c.self.inside.lists c.self.inside.cents c.self.invariant
     c.make_room.new.rows c.make_room.ensures.rows c.make_room.new.lists c.make_room.ensures.lists
-    (subst (λ (puts : List Put). HasRoom c.make_room.new.rows (length puts)) c.as_slice-added.ensures.value c.if-not-make_room.ensures.rows_room)
+    (subst (λ (puts : List Put). HasRoom c.make_room.new.rows (length puts)) c.as_slice.ensures.value c.if-not-make_room.ensures.rows_room)
 
 pub change_rows-ids-requires-clause-room : goal.change_rows-ids-requires-clause-room
 change_rows-ids-requires-clause-room c =
-    subst (versioned.HasRoom c.make_room.new.versions c.make_room.new.rows) c.as_slice-added.ensures.value c.if-not-make_room.ensures.versions_room
+    subst (versioned.HasRoom c.make_room.new.versions c.make_room.new.rows) c.as_slice.ensures.value c.if-not-make_room.ensures.versions_room
 
 pub invariant_of-self-2 : goal.invariant_of-self-2
 invariant_of-self-2 c =
@@ -118,14 +119,15 @@ invariant_of-self-2 c =
     let t : Tables = tables_of (book_of c.self.inside) in
     let log : c.push_reserved.new.self.items ≡ c.self.inside.log.items ++ c.args.entry ∷ [] = c.push_reserved.ensures.items ∙ ap (λ (l : List Entry). l ++ c.args.entry ∷ []) c.make_room.ensures.log in
     let size : c.len.result + 1 ≡ length c.self.inside.log.items + 1 = omega (arith, c.len.ensures, c.make_room.new.log.ok.0, ap length c.make_room.ensures.log) in
-    let rises : RaisedFor t (after t c.args.entry.stamp c.args.entry.act) (length c.self.inside.log.items + 1) (may_change t c.args.entry.act) (stored c.make_room.new.versions) (stored c.change_rows-ids.new.versions)
-    = subst (λ n. RaisedFor t (after t c.args.entry.stamp c.args.entry.act) n (may_change t c.args.entry.act) (stored c.make_room.new.versions) (stored c.change_rows-ids.new.versions)) size
-    (c.change_rows-ids.ensures.raised t c.args.entry.act (changes at)) in
+    let added : AreAdded t c.make_room.new.versions.added = (kept_now at).added_are in
+    let rises : RaisedWhere t (after t c.args.entry.stamp c.args.entry.act) (length c.self.inside.log.items + 1) (MayChange t c.args.entry.act) (stored c.make_room.new.versions) (stored c.change_rows-ids.new.versions)
+    = subst (λ n. RaisedWhere t (after t c.args.entry.stamp c.args.entry.act) n (MayChange t c.args.entry.act) (stored c.make_room.new.versions) (stored c.change_rows-ids.new.versions)) size
+    (c.change_rows-ids.ensures.raised t c.args.entry.act (changes at) added) in
     subst (λ (l : List Entry). IsKept (record { opening = c.self.inside.opening; log = l; latest = c.args.entry.stamp }) c.change_rows-ids.new.rows c.change_rows-ids.new.versions c.set.new.self c.change_rows-ids.new.lists (c.self.inside.cents + c.cents_of.result)) (sym log)
     (kept_after _ _ c.self.invariant.is_book _ _ _ c.self.view_is c.requires c.self.inside.rows c.self.inside.versions c.self.inside.counts c.self.inside.lists c.self.inside.cents c.self.invariant
     c.make_room.new.rows c.make_room.ensures.rows c.make_room.new.lists c.make_room.ensures.lists
     c.change_rows-ids.new.rows c.make_room.new.versions c.change_rows-ids.new.versions c.set.new.self c.change_rows-ids.new.lists (c.self.inside.cents + c.cents_of.result)
-    (c.change_rows-ids.ensures.made t c.args.entry.act (changes at)) c.change_rows-ids.ensures.places c.make_room.ensures.versions rises
+    (c.change_rows-ids.ensures.made t c.args.entry.act (changes at)) c.change_rows-ids.ensures.places c.make_room.ensures.versions (c.change_rows-ids.ensures.added t c.args.entry.act (changes at) added) rises
     (λ caller. c.set.ensures caller ∙ ap (λ (count : ℕ). if c.args.entry.caller == caller then c.args.entry.number else count) (c.make_room.ensures.counts caller))
     (c.change_rows-ids.ensures.lists t c.args.entry.act (changes at))
     (ap (λ n. c.self.inside.cents + n) c.cents_of.ensures ∙ charged (goal.at.invariant_of-self-2 c).After-deref (changes at)))

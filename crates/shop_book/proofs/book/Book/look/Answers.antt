@@ -1,4 +1,5 @@
-use Rattle.std.proofs.Common.{sym, ◌∙◌, subst}
+use Rattle.std.proofs.Common.{sym, ◌∙◌, ap, subst}
+use Rattle.shop_model.specs.lists.Catalogues.{added}
 use Rattle.shop_book.specs.BookView.{book_of}
 use Rattle.shop_book.specs.Laws.{IsGoodThroughout}
 use Rattle.shop_book.specs.KeptLists.{AreLists}
@@ -11,6 +12,9 @@ shown-requires-clause-sound c = sound_now (book_of c.self.inside) c.self.inside.
 
 pub shown-requires-clause-lists : goal.shown-requires-clause-lists
 shown-requires-clause-lists c = subst (λ t. AreLists t c.self.inside.lists) (sym c.self.invariant.rows_are) c.self.invariant.lists_are
+
+pub shown-requires-clause-added : goal.shown-requires-clause-added
+shown-requires-clause-added c = c.self.invariant.added_are.contents_are ∙ ap added (sym c.self.invariant.rows_are)
 
 pub returns-in_err-row-clause-sound : goal.returns-in_err-row-clause-sound
 returns-in_err-row-clause-sound c = subst IsGoodThroughout c.self.view_is (good_throughout (book_of c.self.inside) c.self.invariant.is_book)

@@ -1,6 +1,7 @@
-use Rattle.std.proofs.Common.{◌≡◌, ◌+◌, ◌<◌, ◌≤◌, length, sym, subst, arith}
+use Rattle.std.proofs.Common.{◌≡◌, ◌+◌, ◌<◌, ◌≤◌, length, map, sym, ◌∙◌, ap, subst, arith}
 use Rattle.shop_model.specs.declared.tables.Tables.{Tables}
-use Rattle.shop_model.specs.rows.Limits.{stamp_limit}
+use Rattle.shop_model.specs.lists.Related.{last, sold_of}
+use Rattle.shop_model.specs.rows.Limits.{counted_orders, stamp_limit}
 use Rattle.shop_history.specs.Logs.{entries_of}
 use Rattle.shop_book.specs.Books.{BookValue, tables_of}
 use Rattle.shop_book.specs.BookView.{book_of}
@@ -10,10 +11,14 @@ use Rattle.shop_book.proofs.ChangesLemmas.{may_come}
 use Rattle.shop_book.proofs.Preparing.{puts_make, writes_fit}
 use Rattle.shop_book.proofs.book.Book.ready.Goals as goal
 
-pub of-requires : goal.of-requires
-of-requires c =
+pub of-requires-clause-rows : goal.of-requires-clause-rows
+of-requires-clause-rows c =
     let left : length c.self.inside.log.items < c.self.inside.opening.limit = omega (arith, c.if-size-self.false, c.len-size.ensures, c.self.inside.log.ok.0) in
     may_come (book_of c.self.inside) c.self.invariant.is_book left c.self.inside.rows c.self.invariant.rows_are
+
+pub of-requires-clause-sold : goal.of-requires-clause-sold
+of-requires-clause-sold c =
+    c.self.invariant.lists_are.sold ∙ ap (λ (t : Tables). map sold_of (last counted_orders t.orders)) (sym c.self.invariant.rows_are)
 
 pub puts_of-requires : goal.puts_of-requires
 puts_of-requires c =

@@ -1,4 +1,4 @@
-use Rattle.std.proofs.Common.{◌∙◌}
+use Rattle.std.proofs.Common.{◌∙◌, arith}
 use Rattle.shop_model.specs.declared.tables.Tables.{Tables}
 use Rattle.shop_book.specs.KeptLists.{AreLists}
 use Rattle.shop_book.proofs.lists.Lists.make_room.Goals as goal
@@ -8,8 +8,8 @@ use Rattle.shop_book.proofs.lists.Lists.make_room.Goals.{After-make_room-auths}
 wider : (c : After-make_room-auths) (t : Tables) → AreLists t c.args.self.now
     → AreLists t (record c.args.self.now { sold = c.reserve.new.self; recent = c.reserve-2.new.self; auths = c.make_room-auths.new.self })
 wider c t are = record {
-  sold_items = c.reserve.ensures.items ∙ are.sold_items;
-  recent_items = c.reserve-2.ensures.items ∙ are.recent_items;
+  sold_items = omega (arith, c.reserve.ensures.items, are.sold_items);
+  recent_items = omega (arith, c.reserve-2.ensures.items, are.recent_items);
   sold = c.reserve.ensures.kept ∙ are.sold;
   recent = c.reserve-2.ensures.kept ∙ are.recent;
   units = are.units;

@@ -1,9 +1,9 @@
-use Rattle.std.proofs.Common.{◌≡◌, ℕ, List, length, map, ◌∙◌, ap, subst, arith}
+use Rattle.std.proofs.Common.{◌≡◌, ℕ, ◌≤◌, max, List, length, map, ◌∙◌, ap, subst, arith}
 use Rattle.shop_model.specs.declared.subject.Subject.{Subject}
 use Rattle.shop_model.specs.declared.tables.Tables.{Tables}
 use Rattle.shop_model.specs.lists.Rankings.{sold_lately}
 use Rattle.shop_model.specs.lists.Related.{sold_of, last}
-use Rattle.shop_model.specs.rows.Limits.{counted_orders, recent_orders}
+use Rattle.shop_model.specs.rows.Limits.{counted_orders, recent_orders, items_limit}
 use Rattle.shop_model.specs.rows.Rows.{ItemRow, OrderRow}
 use Rattle.shop_model.specs.rows.Subjects.{subjects}
 use Rattle.shop_ranking.specs.StandingBest.{AreSoldLately}
@@ -18,8 +18,8 @@ returns c =
     let t : Tables = c.args.tables.now in
     let items = c.as_slice-items.ensures in
     let orders = c.as_slice-orders.ensures in
-    let size : c.in_ok-sold.sold.items ≡ length t.items = omega (arith, c.in_ok-sold.ensures.items, ap length items) in
-    let recent_size : c.in_ok-recent.recent.items ≡ length t.items = omega (arith, c.in_ok-recent.ensures.items, ap length items) in
+    let size : max items_limit (length t.items) ≤ c.in_ok-sold.sold.items = omega (arith, c.in_ok-sold.ensures.items, c.max-size.ensures, ap length items) in
+    let recent_size : max items_limit (length t.items) ≤ c.in_ok-recent.recent.items = omega (arith, c.in_ok-recent.ensures.items, c.max-size.ensures, ap length items) in
     let sold : c.in_ok-sold.sold.kept ≡ map sold_of (last counted_orders t.orders) = c.in_ok-sold.ensures.kept ∙ ap (λ (os : List OrderRow). map sold_of (last counted_orders os)) orders in
     let units : AreSoldLately t c.in_ok-best.best = record {
       subjects = c.in_ok-best.ensures.subjects ∙ ap (map (λ (i : ItemRow). i.subject)) items;

@@ -11,7 +11,7 @@ use Rattle.shop_history.specs.MayChange.{leaving, items_of}
 use Rattle.shop_ranking.specs.StandingBest.{Units, standing_best}
 use Rattle.shop_book.specs.Sales.{IsSale, AreRanked, AreThere, Bumps, Renews, subjects_in, gone_items, gone_subjects}
 use Rattle.shop_book.specs.Stored.{stored}
-use Rattle.shop_book.proofs.SaleSteps.{found_is, gone_there, items_size, units_size, some_mapped, nothing_set, nothing_listed, items_kept, ranked_units, ranked_rows, ranked_raised}
+use Rattle.shop_book.proofs.SaleSteps.{admitted, found_is, gone_there, items_size, units_size, some_mapped, nothing_set, nothing_listed, items_kept, ranked_units, ranked_rows, ranked_raised}
 use Rattle.shop_book.proofs.WindowMoves.{window_after}
 use Rattle.shop_book.proofs.lists.Lists.rank.Goals as goal
 use Rattle.shop_book.proofs.lists.Lists.rank.Goals.{After-order_with-gone, After-bump_gone, After-renew_gone}
@@ -61,7 +61,7 @@ bump_gone-requires c =
 
 pub returns-clause-ranked : goal.returns-clause-ranked
 returns-clause-ranked c = λ t sale ranked. record {
-  items = c.admit.ensures.items ∙ ranked.items ∙ sym (items_kept t c.args.coming.now c.args.rows.now sale);
+  items = omega (arith, c.admit.ensures.items, ranked.items, items_kept t c.args.coming.now c.args.rows.now sale);
   sold = window_after counted_orders t.orders c.args.coming.now c.args.self.now.sold.kept c.admit.new.window.kept ranked.sold c.admit.ensures.kept;
   units = ranked_units t c.args.coming.now c.args.rows.now sale c.args.self.now ranked c.admit.new.window.kept c.admit.ensures.kept c.bump_gone.new.best (bumps (goal.at.returns-clause-ranked c).After-bump_gone t sale ranked);
   best_rows = ranked_rows t c.args.coming.now c.args.rows.now sale c.args.self.now ranked c.admit.new.window.kept c.admit.ensures.kept c.bump_gone.new.best (bumps (goal.at.returns-clause-ranked c).After-bump_gone t sale ranked)
@@ -96,3 +96,8 @@ renew_gone-requires-clause-items c =
     some_mapped (λ order. order.now) (AreThere (length c.deref-3.result.now)) c.order_with-gone.result
     (subst (λ (gone : Option OrderRow). IfSome gone (AreThere (length c.deref-3.result.now))) (sym (gone_now (goal.at.renew_gone-requires-clause-items c).After-order_with-gone sale.0 sale.1 sale.2))
     (subst (λ n. IfSome (leaving counted_orders sale.0.orders) (AreThere n)) (sym size) (gone_there sale.0 c.args.coming.now c.args.rows.now sale.1 counted_orders)))
+
+pub admit-requires : goal.admit-requires
+admit-requires c =
+    let sale = c.requires.sale in
+    (omega arith, (omega arith, (omega arith, (admitted sale.0 c.args.coming.now c.args.rows.now sale.1 c.args.self.now.sold.items sale.2.items, c.requires.room))))

@@ -1,4 +1,4 @@
-use Rattle.std.proofs.Common.{◌≡◌, ◌≤◌, length, Option, option_map, sym, ◌∙◌, subst, arith}
+use Rattle.std.proofs.Common.{◌≡◌, ◌≤◌, length, Option, option_map, sym, subst, arith}
 use Rattle.std.specs.Prelude.{IfSome}
 use Rattle.shop_model.specs.declared.tables.Tables.{Tables}
 use Rattle.shop_model.specs.rows.Limits.{recent_orders}
@@ -7,7 +7,7 @@ use Rattle.shop_history.specs.MayChange.{leaving, items_of}
 use Rattle.shop_book.specs.Sales.{IsSale, IsRemembered, AreThere, BuysElse, RaisesBuyers, RaisesBought, RaisesGone, has_bought}
 use Rattle.shop_book.specs.Stored.{stored, numbers}
 use Rattle.shop_book.proofs.RememberedSales.{remembered_raised}
-use Rattle.shop_book.proofs.SaleSteps.{found_is, items_kept, some_mapped, gone_lines, wide, wide_gone}
+use Rattle.shop_book.proofs.SaleSteps.{admitted, found_is, items_kept, some_mapped, gone_lines, wide, wide_gone}
 use Rattle.shop_book.proofs.WindowMoves.{window_after}
 use Rattle.shop_book.proofs.lists.Lists.remember.Goals as goal
 use Rattle.shop_book.proofs.lists.Lists.remember.Goals.{After-order_with-gone}
@@ -32,7 +32,7 @@ raise_gone-requires c =
 
 pub returns-clause-remembered : goal.returns-clause-remembered
 returns-clause-remembered c = λ t sale remembered. record {
-  items = c.admit.ensures.items ∙ remembered.items ∙ sym (items_kept t c.args.coming.now c.args.rows.now sale);
+  items = omega (arith, c.admit.ensures.items, remembered.items, items_kept t c.args.coming.now c.args.rows.now sale);
   kept = window_after recent_orders t.orders c.args.coming.now c.args.self.now.recent.kept c.admit.new.window.kept remembered.kept c.admit.ensures.kept;
 }
 
@@ -46,3 +46,8 @@ returns-clause-raised c = λ t sale remembered.
     (subst (λ kept. RaisesGone kept (leaving recent_orders t.orders) c.args.number (stored c.raise_buyers.new.versions) (stored c.raise_gone.new.versions)) after_kept
     (subst (λ (o : Option OrderRow). RaisesGone c.admit.new.window.kept o c.args.number (stored c.raise_buyers.new.versions) (stored c.raise_gone.new.versions)) gone c.raise_gone.ensures.raised))
     (subst (λ (o : Option OrderRow). RaisesBought (BuysElse c.args.coming.now o) c.args.number (stored c.raise_gone.new.versions) (stored c.raise_bought.new.versions)) gone c.raise_bought.ensures.raised)
+
+pub admit-requires : goal.admit-requires
+admit-requires c =
+    let sale = c.requires.sale in
+    (omega arith, (omega arith, (omega arith, (admitted sale.0 c.args.coming.now c.args.rows.now sale.1 c.args.self.now.recent.items sale.2.items, c.requires.room))))

@@ -4,7 +4,7 @@ use Rattle.shop_history.specs.declared.keys.Key.{Key}
 use Rattle.shop_book.specs.declared.versions.Versions.{Versions}
 use Rattle.shop_book.specs.Stored.{stored, HasRoomFor}
 use Rattle.shop_book.proofs.Fitting.{HasRoomUntil, room_more}
-use Rattle.shop_book.proofs.Grid.{stored_same, text_same}
+use Rattle.shop_book.proofs.Grid.{stored_same, apart_same}
 use Rattle.shop_book.proofs.Placed.{then_more}
 use Rattle.shop_book.proofs.versions.Versions.make_room.Goals as goal
 use Rattle.shop_book.proofs.versions.Versions.make_room.Goals.{After-reserve-2, then-make_room_for, else-make_room_for}
@@ -31,11 +31,11 @@ loop-put-preserved c = record {
 }
 
 -- room for keys that are texts leaves each version
-kept : (c : After-reserve-2) (k : Key) → stored (record { columns = c.loop-put.self.columns; names = c.reserve.new.self; said = c.reserve-2.new.self }) k ≡ stored c.args.self.now k
+kept : (c : After-reserve-2) (k : Key) → stored (record { columns = c.loop-put.self.columns; names = c.reserve.new.self; said = c.reserve-2.new.self; added = c.loop-put.self.added }) k ≡ stored c.args.self.now k
 kept c k =
-    let new : Versions = record { columns = c.loop-put.self.columns; names = c.reserve.new.self; said = c.reserve-2.new.self } in
+    let new : Versions = record { columns = c.loop-put.self.columns; names = c.reserve.new.self; said = c.reserve-2.new.self; added = c.loop-put.self.added } in
     stored_same c.loop-put.self new k (λ place is. refl)
-    (text_same c.loop-put.self new k (λ user is. c.reserve.ensures.entries.2 user) (λ text is. c.reserve-2.ensures.entries.2 text))
+    (apart_same c.loop-put.self new k refl (λ user is. c.reserve.ensures.entries.2 user) (λ text is. c.reserve-2.ensures.entries.2 text))
     ∙ c.loop-put.invariant.same k
 
 pub returns-then-names-clause-same : goal.returns-then-names-clause-same

@@ -1,16 +1,11 @@
-use Rattle.std.proofs.Common.{◌≡◌, ℕ, ◌-◌, slice_set, List, [], length, get_or, set, Option, Some, unwrap_or, refl, sym, ◌∙◌, ap, subst}
-use Rattle.std.specs.HashMap.{get}
+use Rattle.std.proofs.Common.{◌≡◌, ℕ, ◌-◌, slice_set, List, [], length, get_or, set, Some, refl, sym, ◌∙◌, ap, subst}
 use Rattle.std.specs.Vec.{with_item}
 use Rattle.std.proofs.lemmas.List.{get_or_default}
-use Rattle.shop_model.specs.declared.address.AddressText.{AddressText}
 use Rattle.shop_model.specs.rows.Sound.{Has}
-use Rattle.shop_history.specs.declared.keys.Key.TheVariants as key
 use Rattle.shop_book.specs.Places.{place_of}
-use Rattle.shop_book.specs.Said.{alike}
 use Rattle.shop_book.specs.declared.versions.Versions.{Versions}
-use Rattle.shop_book.specs.Stored.{stored, stored_in, HasPlaceIn}
-use Rattle.shop_book.proofs.Grid.{at_place, set_place, place_here, place_other, places_apart, stored_same, text_same, within}
-use Rattle.shop_book.proofs.SaidLemmas.{apart_unlike}
+use Rattle.shop_book.specs.Stored.{stored_in, HasPlaceIn}
+use Rattle.shop_book.proofs.Grid.{at_place, set_place, place_here, place_other, places_apart, stored_same, apart_same, within}
 use Rattle.shop_book.proofs.versions.Versions.raise.Goals as goal
 use Rattle.shop_book.proofs.versions.Versions.raise.Goals.{After-set}
 
@@ -51,18 +46,7 @@ returns-in-Some-clause-others c = λ other apart.
     stored_same c.args.self.now (after a) other
     (λ there there_is. ap (λ (cs : List (List ℕ)). at_place cs there) (columns_are a)
     ∙ place_other c.args.self.now.columns.items (place a) there c.args.version (has a) (places_apart c.args.key other (place a) there (place_is a) there_is apart))
-    (text_same c.args.self.now (after a) other (λ user is. refl) (λ text is. refl))
+    (apart_same c.args.self.now (after a) other refl (λ user is. refl) (λ text is. refl))
 
-pub returns-in-SameAddress-clause-here : goal.returns-in-SameAddress-clause-here
-returns-in-SameAddress-clause-here c =
-    let new : Versions = record c.args.self.now { said = c.set_version-in-SameAddress.new.versions } in
-    ap (stored new) c.in-SameAddress.is
-    ∙ ap (λ (text : AddressText). unwrap_or (get alike new.said text) 0) (sym c.into_inner.ensures)
-    ∙ ap (λ (o : Option ℕ). unwrap_or o 0) c.set_version-in-SameAddress.ensures.updates.1
-
-pub returns-in-SameAddress-clause-others : goal.returns-in-SameAddress-clause-others
-returns-in-SameAddress-clause-others c = λ other apart.
-    let new : Versions = record c.args.self.now { said = c.set_version-in-SameAddress.new.versions } in
-    stored_same c.args.self.now new other (λ place is. refl)
-    (text_same c.args.self.now new other (λ user is. refl)
-    (λ text is. c.set_version-in-SameAddress.ensures.updates.2 text (apart_unlike c.into_inner.result text (λ same. apart (is ∙ sym (ap key.SameAddress (sym c.into_inner.ensures ∙ same)) ∙ sym c.in-SameAddress.is)))))
+pub raise_text-requires-clause-text : goal.raise_text-requires-clause-text
+raise_text-requires-clause-text c = subst (HasPlaceIn c.args.self.now c.args.key) (sym c.place_of.ensures ∙ c.in-None.is) c.requires.place
