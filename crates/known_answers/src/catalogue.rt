@@ -69,6 +69,7 @@ pub fn tables_of(alloc: Global, authors: Listed<Shared<Author>>, items: Listed<I
         orders: Listed::new(alloc),
         carts: Listed::new(alloc),
         born_orders: 0,
+        born_items: 0,
         last: Listed::new(alloc),
     }
 }

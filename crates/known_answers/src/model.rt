@@ -101,7 +101,7 @@ fn print_authorisations(rt: &impl Print) -> Result<(), Stop> {
     Ok(())
 }
 
-const REFUSALS: [Refusal; 27] = [
+const REFUSALS: [Refusal; 29] = [
     Refusal::BadRequest,
     Refusal::BadParameter(Parameter::C),
     Refusal::BadParameter(Parameter::Cart),
@@ -113,12 +113,14 @@ const REFUSALS: [Refusal; 27] = [
     Refusal::EmptyCart,
     Refusal::FullCart,
     Refusal::FullLine,
+    Refusal::FullShop,
     Refusal::CardReused,
     Refusal::CardStolen,
     Refusal::CardOverLimit,
     Refusal::WrongPassword,
     Refusal::NoPage,
     Refusal::NoItem,
+    Refusal::NoAuthor,
     Refusal::NoCart,
     Refusal::NoCustomer,
     Refusal::NoUserName,

@@ -1,8 +1,6 @@
 -- The callers of a new shop of two desks are posted there.
 use Rattle.std.proofs.Common.{◌≡◌, ℕ, List, [], ◌∷◌, ◌++◌, length, get_or, arith, sym, ap, subst, ◌∙◌, length-append}
-use Rattle.shop_model.proofs.cited.Populated.{items_populated}
-use Rattle.shop_model.specs.lists.Catalogues.{Catalogue, catalogue}
-use Rattle.shop_model.specs.population.Population.{populated}
+use Rattle.shop_model.specs.lists.Catalogues.{Catalogue, opened}
 use Rattle.shop_model.specs.population.Scales.{ScaleRow}
 use Rattle.shop_model.specs.declared.tables.Tables.{Tables}
 use Rattle.shop_attempt.specs.Seats.{IsSeat}
@@ -24,7 +22,7 @@ module _ (book : BookValue) (desks left front : List DeskValue) (first second : 
 
   module _ (t : Tables) (scale : ScaleRow) (index : Catalogue) (limit : ℕ)
       (book_is : book ≡ record { opening = record { tables = t; limit = limit }; log = []; latest = 0 })
-      (drawn : t ≡ populated 0 scale) (named : index ≡ catalogue t) where
+      (named : index ≡ opened t) where
     posted : (number : ℕ) (desk : DeskValue) → desk ≡ new_desk opens.table book 2 number → IsSeat (seat_of desk)
         → IsPosted (seat_of desk) index (record { number = number; seed = 0; scale = scale })
     posted number desk is valid =
@@ -32,8 +30,7 @@ module _ (book : BookValue) (desks left front : List DeskValue) (first second : 
         record {
           valid = valid;
           number = ap (λ (d : DeskValue). d.number) is;
-          named = named ∙ ap catalogue (sym tables);
-          scaled = sym (items_populated 0 scale) ∙ ap (λ (u : Tables). length u.items) (sym (tables ∙ drawn));
+          named = named ∙ ap opened (sym tables);
         }
 
     size : length desks ≡ 2

@@ -2,7 +2,7 @@
 //! let go.
 ghost use Rattle.std.specs.Prelude.{◌≡◌, IfOk};
 ghost use Rattle.std.specs.Arc.{arc_value};
-ghost use Rattle.shop_model.specs.lists.Catalogues.{catalogue};
+ghost use Rattle.shop_model.specs.lists.Catalogues.{opened};
 ghost use Rattle.shop_model.specs.population.Population.{populated};
 ghost use Rattle.shop_engine.specs.Posts.{IsPosted};
 ghost use Rattle.shop_turn.specs.Desks.{IsOneShop, seat_of};
@@ -56,9 +56,10 @@ pub(crate) struct Callers<R: Wait + Drop> {
     ghost one_shop: { IsOneShop first second },
 }
 
-/// The index of the shop's items.
+/// The index of what the shop opens with.
+#[tactic(auto, using(shop_model::proofs::cited::Opened::opened_all))]
 fn index_of(alloc: Global, scale: &Scale) -> Result<Index, Memory>
-    ensures { IfOk result (λ index. index ≡ catalogue (populated 0 scale.now)) }
+    ensures { IfOk result (λ index. index ≡ opened (populated 0 scale.now)) }
 {
     let tables = populate(alloc, 0, scale)?;
     Index::build(alloc, &tables)
@@ -69,8 +70,8 @@ fn open_desks<R: Wait + Clone + Drop>(
     alloc: Global,
     scale: &Scale,
 ) -> Result<Desks<R>, Memory>
-    ensures first { IfOk result (λ d. IsPosted (seat_of d.first) (catalogue (populated 0 scale.now)) (record { number = 1; seed = 0; scale = scale.now })) }
-    ensures second { IfOk result (λ d. IsPosted (seat_of d.second) (catalogue (populated 0 scale.now)) (record { number = 2; seed = 0; scale = scale.now })) }
+    ensures first { IfOk result (λ d. IsPosted (seat_of d.first) (opened (populated 0 scale.now)) (record { number = 1; seed = 0; scale = scale.now })) }
+    ensures second { IfOk result (λ d. IsPosted (seat_of d.second) (opened (populated 0 scale.now)) (record { number = 2; seed = 0; scale = scale.now })) }
 {
     let tables = populate(alloc, 0, scale)?;
     let book = Book::open(alloc, tables, 10_000)?;

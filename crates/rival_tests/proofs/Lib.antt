@@ -1,2 +1,1 @@
-mod Desks
 pub mod Rivals

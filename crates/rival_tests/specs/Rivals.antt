@@ -1,7 +1,6 @@
 -- What a seat means over a book that a rival changes too.
-use Rattle.std.specs.Prelude.{◌≡◌, ◌≢◌, ℕ, length, None, IsSome}
-use Rattle.shop_model.specs.lists.Catalogues.{Catalogue, catalogue}
-use Rattle.shop_model.specs.population.Scales.{ScaleRow}
+use Rattle.std.specs.Prelude.{◌≡◌, ◌≢◌, ℕ, None, IsSome}
+use Rattle.shop_model.specs.lists.Catalogues.{Catalogue, opened}
 use Rattle.shop_history.specs.Logs.{entries_of}
 use Rattle.shop_attempt.specs.Seats.{Seat}
 use Rattle.shop_book.specs.Solos.{SoloValue}
@@ -11,11 +10,10 @@ pub record RivalledValue : Type 0 where
   pub solo : SoloValue
   pub changes : ℕ
 
--- caller 1 has the seat, and the index and the scale are those of the opening tables
-pub record IsFitting (solo : SoloValue) (index : Catalogue) (scale : ScaleRow) : Type 0 where
+-- caller 1 has the seat, and the index is of what the tables opened with
+pub record IsFitting (solo : SoloValue) (index : Catalogue) : Type 0 where
   pub caller : solo.visitor.caller ≡ 1
-  pub named : index ≡ catalogue solo.book.opening.tables
-  pub scaled : scale.items ≡ length solo.book.opening.tables.items
+  pub named : index ≡ opened solo.book.opening.tables
 
 -- the same seat, of one caller among others
 abbrev pub among : Seat → Seat

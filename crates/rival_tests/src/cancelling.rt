@@ -1,7 +1,7 @@
 //! Two writes of one cart that cancel, settled in front of those of a request: one that leaves the same
 //! cart as it is, and one that makes another.
 ghost use Rattle.std.specs.Prelude.{◌≡◌, ◌≤◌, ◌∷◌, [], IfOk, IfSome, OnSome};
-ghost use Rattle.shop_model.specs.lists.Catalogues.{catalogue};
+ghost use Rattle.shop_model.specs.lists.Catalogues.{opened};
 ghost use Rattle.shop_model.specs.population.Population.{populated};
 ghost use Rattle.shop_model.specs.rows.Limits.{stamp_limit};
 ghost use Rattle.shop_attempt.specs.Faithful.{Faithful};
@@ -172,10 +172,9 @@ fn told_at_desk(
     index: &Index,
     draft: &mut Draft,
 ) -> Result<Told, Memory>
-    requires { index.now ≡ catalogue (populated 0 scale.now) }
+    requires { index.now ≡ opened (populated 0 scale.now) }
 {
     let ask = Ask {
-        scale,
         index,
         moment: 1_000,
         draw: 0,

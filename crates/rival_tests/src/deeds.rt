@@ -17,9 +17,10 @@ use shop_edges::Call;
 use shop_gateway::Emulator;
 use shop_history::{Act, Drawn, Key};
 use shop_model::{
-    AddressText, AdminConfirm, BuyConfirm, Card, CardNumber, CardType, CartRequest, IdsAsked,
-    Month, ShipType,
+    AddressText, AdminAdd, AdminConfirm, Backing, BuyConfirm, Card, CardNumber, CardType,
+    CartRequest, IdsAsked, Month, ShipType, Subject,
 };
+use shop_order::admin_add::admin_add;
 use shop_order::admin_confirm::admin_confirm;
 use shop_order::buy_confirm::{Paid, Paying, buy_confirm, pay};
 use shop_order::shopping_cart::shopping_cart;
@@ -40,13 +41,15 @@ pub(crate) enum Deed {
     /// From caller 1's settle of this number on, counted from 1, it lets item 1 cost 20.00, and a cent more each time: a
     /// cost that stays is no change of the item.
     Raise(u32),
+    /// It adds an item titled Amber Harbour.
+    AddItem,
 }
 
 impl Deed {
     /// Whether its time is before a settle of this attempt, which is caller 1's of this number.
     pub(crate) fn is_before(self, attempt: &Attempt, settle: u32) -> bool {
         match self {
-            Deed::AddUnit => true,
+            Deed::AddUnit | Deed::AddItem => true,
             Deed::Buy(_) | Deed::Ship => matches!(
                 attempt.act,
                 Some(Act::Confirm(_, _, _, _)) | Some(Act::Admin(_))
@@ -95,6 +98,7 @@ pub(crate) fn does<St: Store>(
         Deed::Ship => buy_item(alloc, store, ask, 7, Some(41), draft),
         Deed::Reprice => reprice(alloc, store, ask, 2_000, draft),
         Deed::Raise(from) => reprice(alloc, store, ask, raised(settle, from), draft),
+        Deed::AddItem => add_item(alloc, store, ask, draft),
     }
 }
 
@@ -208,6 +212,21 @@ fn reprice<St: Store>(
     }
 }
 
+/// A new item; whether that was done.
+#[tactic(auto, using(shop_attempt::proofs::cited::Looks::follows_trans))]
+fn add_item<St: Store>(alloc: Global, store: &mut St, ask: &Ask, draft: &mut Draft) -> bool
+    requires suits { Suits ask.now (St.seat store.old) }
+    requires moment { ask.now.moment ≤ stamp_limit }
+    ensures follows { Follows (St.seat store.old) (St.seat store.new) }
+    ensures others { LeavesOthers (St.seat store.old) (St.seat store.new) }
+    ensures marks { KeepsMarks (St.marked store.old) (St.marked store.new) (St.seat store.old) (St.seat store.new) }
+{
+    match adding_item(alloc, store, ask, draft) {
+        Some(attempt) => settles(store, attempt).is_some(),
+        None => false,
+    }
+}
+
 /// The attempt that a request for a cart makes.
 pub(crate) fn changing<St: Store>(
     alloc: Global,
@@ -295,6 +314,57 @@ fn repricing<St: Store>(
         return None;
     };
     match admin_confirm(alloc, store, ask, &asked, draft) {
+        Attempted::Ready(attempt) => Some(attempt),
+        Attempted::Listed(_, _) => None,
+        Attempted::Pay(_) => None,
+        Attempted::Contradiction(_) => None,
+        Attempted::Memory => None,
+    }
+}
+
+/// An item, whose title has a word that searches look for.
+fn item(alloc: Global) -> Result<AdminAdd, Memory> {
+    Ok(AdminAdd {
+        title: filled(alloc, b"Amber Harbour")?,
+        author: 3,
+        subject: Subject::NonFiction,
+        publisher: filled(alloc, b"Elm Press")?,
+        about: filled(alloc, b"New.")?,
+        image: filled(alloc, b"/i.gif")?,
+        thumb: filled(alloc, b"/t.gif")?,
+        srp: 2_000,
+        cost: 1_500,
+        stock: 20,
+        pages: 100,
+        backing: Backing::Audio,
+        ids: IdsAsked {
+            c: None,
+            cart: None,
+        },
+    })
+}
+
+/// That this item is added.
+fn addition(alloc: Global) -> Result<Shared<AdminAdd>, Memory> {
+    Shared::new(alloc, item(alloc)?)
+}
+
+/// The attempt to add it.
+fn adding_item<St: Store>(
+    alloc: Global,
+    store: &mut St,
+    ask: &Ask,
+    draft: &mut Draft,
+) -> Option<Attempt>
+    requires suits { Suits ask.now (St.seat store.old) }
+    ensures looks { Looks St.seat St.marked store.old store.new }
+    ensures faithful { IfSome result (Faithful (St.seat store.new).opening (St.seat store.new).seen) }
+    ensures moment { IfSome result (λ attempt. attempt.moment ≡ ask.now.moment) }
+{
+    let Ok(asked) = addition(alloc) else {
+        return None;
+    };
+    match admin_add(alloc, store, ask, &asked, draft) {
         Attempted::Ready(attempt) => Some(attempt),
         Attempted::Listed(_, _) => None,
         Attempted::Pay(_) => None,

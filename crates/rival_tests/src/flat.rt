@@ -1,6 +1,6 @@
 //! A purchase that is taxed at one rate for all countries, and the same by the country to which it ships.
 ghost use Rattle.std.specs.Prelude.{◌≡◌, ◌≤◌};
-ghost use Rattle.shop_model.specs.lists.Catalogues.{catalogue};
+ghost use Rattle.shop_model.specs.lists.Catalogues.{opened};
 ghost use Rattle.shop_model.specs.population.Population.{populated};
 ghost use Rattle.shop_model.specs.rows.Limits.{stamp_limit};
 ghost use Rattle.shop_browse.specs.Attempts.{Suits};
@@ -53,10 +53,9 @@ fn charged_at_desk(
     tax: TaxRule,
     draft: &mut Draft,
 ) -> Result<Option<(u32, u64, u64)>, Memory>
-    requires { index.now ≡ catalogue (populated 0 scale.now) }
+    requires { index.now ≡ opened (populated 0 scale.now) }
 {
     let ask = Ask {
-        scale,
         index,
         moment: 1_000,
         draw: 0,

@@ -1,7 +1,7 @@
 //! Two callers who buy as newcomers: the change of caller 2 falls between the reads of caller 1 and its settle.
 ghost use Rattle.std.specs.Prelude.{◌≡◌, ◌≤◌, IfSome};
 ghost use Rattle.shop_log.specs.Histories.{Extends};
-ghost use Rattle.shop_model.specs.lists.Catalogues.{catalogue};
+ghost use Rattle.shop_model.specs.lists.Catalogues.{opened};
 ghost use Rattle.shop_model.specs.population.Population.{populated};
 ghost use Rattle.shop_model.specs.rows.Limits.{stamp_limit};
 ghost use Rattle.shop_model.specs.rows.Sound.{Has};
@@ -207,10 +207,9 @@ fn outcome_at_desk(
     other: &BuyRequest,
     draft: &mut Draft,
 ) -> Result<Outcome, Memory>
-    requires { index.now ≡ catalogue (populated 0 scale.now) }
+    requires { index.now ≡ opened (populated 0 scale.now) }
 {
     let ask = Ask {
-        scale,
         index,
         moment: 1_000,
         draw: 0,

@@ -1,6 +1,6 @@
 //! What the desk with seed 0 opens with.
-ghost use Rattle.std.specs.Prelude.{◌≡◌, IfOk, length};
-ghost use Rattle.shop_model.specs.lists.Catalogues.{catalogue};
+ghost use Rattle.std.specs.Prelude.{◌≡◌, IfOk};
+ghost use Rattle.shop_model.specs.lists.Catalogues.{opened};
 ghost use Rattle.shop_model.specs.population.Population.{populated};
 
 use shop_book::Book;
@@ -11,9 +11,10 @@ use shop_search::Index;
 use shop_text::Memory;
 use std::alloc::Global;
 
-/// The index of the catalogue.
+/// The index of what the shop opens with.
+#[tactic(auto, using(shop_model::proofs::cited::Opened::opened_all))]
 pub(crate) fn index_of(alloc: Global, scale: &Scale) -> Result<Index, Memory>
-    ensures { IfOk result (λ index. index ≡ catalogue (populated 0 scale.now)) }
+    ensures { IfOk result (λ index. index ≡ opened (populated 0 scale.now)) }
 {
     let tables = populate(alloc, 0, scale)?;
     Index::build(alloc, &tables)
@@ -21,8 +22,7 @@ pub(crate) fn index_of(alloc: Global, scale: &Scale) -> Result<Index, Memory>
 
 /// The book before any change, over tables of its own: those of the index would be let go at a refusal.
 pub(crate) fn book_of(alloc: Global, scale: &Scale) -> Result<Book, Memory>
-    ensures drawn { IfOk result (λ book. book.opening.tables ≡ populated 0 scale.now) }
-    ensures scaled { IfOk result (λ book. scale.now.items ≡ length book.opening.tables.items) }
+    ensures { IfOk result (λ book. book.opening.tables ≡ populated 0 scale.now) }
 {
     let tables = populate(alloc, 0, scale)?;
     Book::open(alloc, tables, 100)

@@ -1,6 +1,6 @@
-ghost use Rattle.std.specs.Prelude.{◌≡◌, ◌≤◌, length};
+ghost use Rattle.std.specs.Prelude.{◌≡◌, ◌≤◌};
 ghost use Rattle.std.specs.Arc.{arc_value};
-ghost use Rattle.shop_model.specs.lists.Catalogues.{catalogue};
+ghost use Rattle.shop_model.specs.lists.Catalogues.{opened};
 ghost use Rattle.shop_model.specs.rows.Limits.{stamp_limit};
 ghost use Rattle.shop_attempt.specs.Marks.{AreMarks, KeepsMarks};
 ghost use Rattle.shop_attempt.specs.Seats.{IsSeat, Looked};
@@ -13,7 +13,7 @@ use shop_book::{Book, Solo, Visitor};
 use shop_browse::Ask;
 use shop_draft::Draft;
 use shop_history::{Key, Row};
-use shop_model::{Scale, TaxRule};
+use shop_model::TaxRule;
 use shop_search::Index;
 use shop_text::Memory;
 use std::alloc::Global;
@@ -27,7 +27,6 @@ pub(crate) struct Rivalled {
     alloc: Global,
     solo: Solo,
     index: Arc<Index, Global>,
-    scale: Scale,
     deed: Deed,
     changes: u32,
     /// How often caller 1 has settled.
@@ -44,7 +43,7 @@ impl Model for Rivalled {
 
     ghost view = { λ i. record { solo = i.solo; changes = i.changes } };
 
-    ghost invariant = { λ i. IsFitting i.solo (arc_value i.index) i.scale };
+    ghost invariant = { λ i. IsFitting i.solo (arc_value i.index) };
 }
 
 impl Rivalled {
@@ -53,13 +52,11 @@ impl Rivalled {
         alloc: Global,
         book: Book,
         index: Arc<Index, Global>,
-        scale: Scale,
         deed: Deed,
         changes: u32,
         draft: Draft,
     ) -> Rivalled
-        requires named { arc_value index ≡ catalogue book.opening.tables }
-        requires scaled { scale.items ≡ length book.opening.tables.items }
+        requires named { arc_value index ≡ opened book.opening.tables }
         ensures value { result ≡ record { solo = seated book 1; changes = changes } }
         ensures valid { IsSeat (among (seat_of result.solo)) }
         ensures marked { AreMarks (marks_of result.solo) (seat_of result.solo).seen }
@@ -68,7 +65,6 @@ impl Rivalled {
             alloc,
             solo: Solo::new(book),
             index,
-            scale,
             deed,
             changes,
             settles: 0,
@@ -84,7 +80,6 @@ impl Rivalled {
             alloc: _,
             solo,
             index: _,
-            scale: _,
             deed: _,
             changes: _,
             settles: _,
@@ -102,7 +97,6 @@ impl Rivalled {
         self.settles = self.settles.saturating_add(1);
         if self.changes > 0 && self.deed.is_before(attempt, self.settles) {
             let ask = Ask {
-                scale: &self.scale,
                 index: &self.index,
                 moment: attempt.moment,
                 draw: 0,
@@ -135,8 +129,7 @@ impl Store for Rivalled {
 /// Caller 2's try at its deed before a settle of this number, at the seat of caller 1; how often it was done.
 fn rival(alloc: Global, solo: &mut Solo, ask: &Ask, deed: (Deed, u32), draft: &mut Draft) -> u32
     requires caller { solo.old.visitor.caller ≡ 1 }
-    requires index { ask.now.index.now ≡ catalogue solo.old.book.opening.tables }
-    requires scale { ask.now.scale.now.items ≡ length solo.old.book.opening.tables.items }
+    requires index { ask.now.index.now ≡ opened solo.old.book.opening.tables }
     requires moment { ask.now.moment ≤ stamp_limit }
     ensures one { result ≤ 1 }
     ensures visitor { solo.new.visitor ≡ solo.old.visitor }

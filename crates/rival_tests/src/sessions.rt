@@ -20,7 +20,7 @@ fn worker_among(alloc: Global, deed: Deed, changes: u32) -> Result<Worker<Rivall
     let shared = Arc::try_clone(&index)?;
     let draft = empty_draft(alloc)?;
     let book = book_of(alloc, &scale)?;
-    let store = Rivalled::new(alloc, book, shared, scale, deed, changes, draft);
+    let store = Rivalled::new(alloc, book, shared, deed, changes, draft);
     Worker::new(alloc, store, 1, 0, scale, index)
 }
 

@@ -59,13 +59,15 @@ pub(crate) struct Sold {
 }
 
 /// What a session shows: its end, the first answers, how many pages there are and how many that tell of rows that kept
-/// changing, and how many show the costs of item 1: at first, and as caller 2 lets it cost at first and at last.
+/// changing, how many show the costs of item 1: at first, and as caller 2 lets it cost at first and at last; and how
+/// many links there are to items 101 and 102.
 #[derive(Clone, Copy)]
 pub(crate) struct Shown {
     pub(crate) end: Ended,
     pub(crate) answers: [Option<Decided>; 4],
     pub(crate) pages: (usize, usize),
     pub(crate) costs: (usize, usize, usize),
+    pub(crate) added: (usize, usize),
 }
 
 /// What is told of a session: what it shows, and what was sold.
@@ -100,6 +102,10 @@ impl Shown {
                 count_of(reply, b"our price 41.42"),
                 count_of(reply, b"our price 20.00"),
                 count_of(reply, b"our price 20.06"),
+            ),
+            added: (
+                count_of(reply, b"/product_detail?item=101\""),
+                count_of(reply, b"/product_detail?item=102\""),
             ),
         }
     }

@@ -87,6 +87,7 @@ twins_sound t sound =
       countries = sound.countries;
       six = sound.six;
       born = sound.born;
+      born_items = sound.born_items;
     }
 
 pub twins_desk : (t : Tables) → IsDesk t → IsDesk (record t { addresses = twinned t.addresses })
@@ -107,5 +108,6 @@ twins_desk t desk =
         };
       };
       born = desk.born;
+      born_items = desk.born_items;
       items = desk.items;
     }

@@ -6,10 +6,11 @@ use Rattle.shop_model.specs.population.Scales.{desk}
 use Rattle.shop_history.specs.Logs.{IsGood}
 use Rattle.shop_book.specs.Openings.{most_entries}
 
--- sound tables with as many items as the desk has and room for every log, whose orders were all there before
+-- sound tables with as many items as the desk has and room for every log, whose orders and items were all there before
 pub record IsDesk (t : Tables) : Type 0 where
   pub good : IsGood t (most_entries + 1)
   pub born : t.born_orders ≡ length t.orders
+  pub born_items : t.born_items ≡ length t.items
   pub items : length t.items ≡ desk.items
 
 -- the second address says what the first one does

@@ -79,7 +79,7 @@ GET /shopping_cart?cart=9 HTTP/1.1\r\n\r\n",
 ];
 
 /// Prints the kind of a point: its front, moment, call, word and tries.
-fn print_point(rt: &impl Print, point: &Point) -> Result<()> {
+pub fn print_point(rt: &impl Print, point: &Point) -> Result<()> {
     let numbers = (
         point.front,
         point.moment,

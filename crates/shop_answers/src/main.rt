@@ -2,6 +2,7 @@
 //! `stdout` has what is wanted.
 #![tactic(auto)]
 
+mod additions;
 mod answers;
 mod books;
 mod connections;
@@ -34,6 +35,7 @@ fn main(rt: HostRuntime) -> Result<()> {
     customers::print(&rt)?;
     sales::print(&rt)?;
     windows::print(&rt)?;
+    additions::print(&rt)?;
     drives::print(&rt)?;
     kept_lists::print(&rt)?;
     sessions::print(&rt)?;

@@ -4,7 +4,9 @@ use crate::done;
 use anyhow::{Result, anyhow};
 use shop_book::Book;
 use shop_history::{Key, Label, Row};
-use shop_model::{Address, AddressText, Customer, CustomerDetails, Order, Subject};
+use shop_model::{
+    Address, AddressText, Customer, CustomerDetails, Order, SearchKind, Sought, Subject,
+};
 use shop_text::{Boxed, Text, digsyl, digsyl_lower};
 use std::alloc::Global;
 
@@ -27,6 +29,10 @@ pub enum Lookup {
     Name(&'static str),
     /// The id of the address that says what the one with this id says.
     SameAs(u32),
+    /// How many items there are.
+    Count,
+    /// The items added since the opening that a search of this kind for a text finds.
+    Added(SearchKind, &'static str),
 }
 
 /// What a key shows, and its version. Its callers need none of what is promised of it.
@@ -53,6 +59,12 @@ fn same_as(alloc: Global, book: &mut Book, id: u32) -> Result<Key> {
     Ok(Key::SameAddress(done(Boxed::new(alloc, text))?))
 }
 
+/// The key of the added items that a search finds.
+fn added(alloc: Global, kind: SearchKind, text: &str) -> Result<Key> {
+    let sought = done(Sought::of(alloc, kind, text.as_bytes()))?;
+    Ok(Key::Added(sought))
+}
+
 fn key_of(alloc: Global, book: &mut Book, lookup: Lookup) -> Result<Key> {
     match lookup {
         Lookup::Item(id) => Ok(Key::Item(id)),
@@ -69,6 +81,8 @@ fn key_of(alloc: Global, book: &mut Book, lookup: Lookup) -> Result<Key> {
         Lookup::Bought(customer) => Ok(Key::Bought(customer)),
         Lookup::Name(user) => Ok(Key::Name(done(Text::copy(alloc, user.as_bytes()))?)),
         Lookup::SameAs(id) => same_as(alloc, book, id),
+        Lookup::Count => Ok(Key::Count),
+        Lookup::Added(kind, text) => added(alloc, kind, text),
     }
 }
 
@@ -88,7 +102,7 @@ fn print_label(rt: &impl Print, lookup: Lookup, label: &Label, version: u64) -> 
     answer(rt, &lookup, &(title, author, version))
 }
 
-/// Prints ids or names, or the stock and the restocks of an item, and the version.
+/// Prints ids, names or how many, or the stock and the restocks of an item, and the version.
 fn print_plain(rt: &impl Print, lookup: Lookup, row: &Row, version: u64) -> Result<()> {
     match row {
         Row::Absent => answer(rt, &lookup, &("absent", version)),
@@ -97,11 +111,12 @@ fn print_plain(rt: &impl Print, lookup: Lookup, row: &Row, version: u64) -> Resu
         Row::Totals(totals) => answer(rt, &lookup, &(totals.as_slice(), version)),
         Row::Item(item) => answer(rt, &lookup, &((item.stock, item.restocks), version)),
         Row::Label(label) => print_label(rt, lookup, label, version),
+        Row::Number(number) => answer(rt, &lookup, &(*number, version)),
         _ => answer(rt, &lookup, &("there", version)),
     }
 }
 
-/// Prints what a row shows, ids or names, or the stock and the restocks of an item, and its version.
+/// Prints what a row shows, ids, names or how many, or the stock and the restocks of an item, and its version.
 pub fn print_row(rt: &(impl Print + AllocGlobal), book: &mut Book, lookup: Lookup) -> Result<()> {
     let (row, version) = row_of(rt.alloc(), book, lookup)?;
     print_plain(rt, lookup, &row, version)

@@ -19,10 +19,12 @@ pub enum Ask {
     Of(&'static str),
     /// A purchase by a customer of the cart with an id, and what else it says.
     Buy(u32, u32, &'static str),
+    /// That an item with a title is added.
+    Add(&'static str),
 }
 
 /// A card, and one that was stolen.
-const GOOD: &str = "&card=VISA&number=4111222233334444&name=F&expiry=2027-05";
+pub const GOOD: &str = "&card=VISA&number=4111222233334444&name=F&expiry=2027-05";
 
 const STOLEN: &str = "&card=VISA&number=4111222233330000&name=F&expiry=2027-05";
 
@@ -33,6 +35,11 @@ const RIVER_STREET: &str = "&card=VISA&number=4111222233334444&name=F&expiry=202
 const NEW_ROAD: &str = "&card=VISA&number=4111222233334444&name=F&expiry=2027-05\
 &street1=5+New+Road&street2=b&city=Ulm&zip=1&country=92";
 
+/// What is said of an item that is added, beside its title.
+const ADDED: &str =
+    "&author=3&subject=NON-FICTION&publisher=Elm+Press&about=New.&image=/i.gif&thumb=/t.gif\
+&srp=2000&cost=1500&stock=20&pages=100&backing=AUDIO";
+
 /// Adds a purchase to a target.
 fn push_purchase(text: &mut Text, customer: u32, cart: u32, rest: &str) -> Result<(), Memory> {
     text.push(b"/buy_confirm?c=")?;
@@ -42,12 +49,20 @@ fn push_purchase(text: &mut Text, customer: u32, cart: u32, rest: &str) -> Resul
     text.push(rest.as_bytes())
 }
 
+/// Adds an item with a title to a target.
+fn push_item(text: &mut Text, title: &str) -> Result<(), Memory> {
+    text.push(b"/admin_add?title=")?;
+    text.push(title.as_bytes())?;
+    text.push(ADDED.as_bytes())
+}
+
 /// Adds a message.
 pub fn push_ask(text: &mut Text, ask: Ask) -> Result<(), Memory> {
     text.push(b"GET ")?;
     match ask {
         Ask::Of(target) => text.push(target.as_bytes())?,
         Ask::Buy(customer, cart, rest) => push_purchase(text, customer, cart, rest)?,
+        Ask::Add(title) => push_item(text, title)?,
     }
     text.push(b" HTTP/1.1\r\n\r\n")
 }

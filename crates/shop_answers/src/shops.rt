@@ -1,8 +1,8 @@
 //! Shops of caller 1 at the desk with seed 0, and what is served there. What owns a shop is made last or stands
 //! behind a pointer, so that few exits have one to let go.
 ghost use Rattle.std.specs.Arc.{arc_value};
-ghost use Rattle.std.specs.Prelude.{◌≡◌, ◌≤◌, IfOk};
-ghost use Rattle.shop_model.specs.lists.Catalogues.{catalogue};
+ghost use Rattle.std.specs.Prelude.{◌≡◌, ◌≤◌, IfOk, length};
+ghost use Rattle.shop_model.specs.lists.Catalogues.{opened};
 ghost use Rattle.shop_book.specs.Openings.{most_entries};
 ghost use Rattle.shop_answers.specs.Desks.{IsDesk};
 
@@ -52,8 +52,10 @@ fn tables_for(alloc: Global, twins: bool) -> Result<Tables, Memory>
     Ok(tables)
 }
 
+#[tactic(auto, using(shop_model::proofs::cited::Opened::opened_all))]
 fn index_of(alloc: Global, tables: &Tables) -> Result<Arc<Index, Global>, Memory>
-    ensures { IfOk result (λ index. arc_value index ≡ catalogue tables.now) }
+    requires { tables.now.born_items ≡ length tables.now.items }
+    ensures { IfOk result (λ index. arc_value index ≡ opened tables.now) }
 {
     let index = Index::build(alloc, tables)?;
     Ok(Arc::new(alloc, index)?)

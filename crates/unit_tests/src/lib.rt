@@ -14,6 +14,8 @@ mod messages;
 #[cfg(test)]
 mod rankings;
 #[cfg(test)]
+mod searches;
+#[cfg(test)]
 mod served_links;
 #[cfg(test)]
 mod stocks;
