@@ -10,7 +10,6 @@ ghost use Rattle.shop_tasks.specs.Tills.{answers_of};
 ghost use Rattle.shop_turn.specs.Desks.{IsOneShop, seat_of};
 ghost use Rattle.shop_app.specs.NewShops.{AreNewDesks, caller_of};
 ghost use Rattle.shop_app.specs.Serving as spec;
-ghost use Rattle.shop_app.specs.Shared.{Tells};
 
 use crate::Status;
 use crate::shops::open_shop;

@@ -1,4 +1,4 @@
-ghost use Rattle.std.specs.Prelude.{◌≡◌, OnOk, codes};
+ghost use Rattle.std.specs.Prelude.{OnOk, codes};
 ghost use Rattle.shop_model.specs.pages.PageText.{block_line};
 ghost use Rattle.shop_model.specs.declared.page.Block.TheVariants as block;
 ghost use Rattle.shop_draft.specs.Drawing.{ids_at};

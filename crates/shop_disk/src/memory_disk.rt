@@ -1,5 +1,5 @@
 //! A file in memory.
-ghost use Rattle.std.specs.Prelude.{◌≡◌, ◌==◌, ◌++◌, ◌∷◌, [], ℕ, List, length, IfOk, OnOk, OnErr};
+ghost use Rattle.std.specs.Prelude.{◌≡◌, ◌==◌, List, length, IfOk, OnOk, OnErr};
 ghost use Rattle.std.specs.List.{list_any};
 ghost use Rattle.shop_edges.specs.Causes.{count_up, Rose};
 ghost use Rattle.shop_disk.specs.MemoryFiles.{FileState, Replays, after, overwritten};
@@ -223,7 +223,6 @@ impl MemoryDisk {
 impl Disk for MemoryDisk {
     ghost use Rattle.std.specs.Prelude.{Some, length, ◌<◌, ◌≡◌};
     ghost use Rattle.shop_disk.specs.declared.memory_disk.Call.TheVariants as call;
-    ghost use Rattle.shop_disk.specs.Images.{Torn};
     ghost use Rattle.shop_disk.specs.MemoryStates.{disk_of, file_of};
     ghost use Rattle.shop_disk.specs.MemoryLaws.{memory_is_disk};
 

@@ -1,5 +1,5 @@
 //! Lines of bytes that come from a source in pieces.
-ghost use Rattle.std.specs.Prelude.{◌≡◌, ◌+◌, ◌-◌, ◌≤◌, ◌<◌, ◌↔◌, [], length, take, drop, IsTrue};
+ghost use Rattle.std.specs.Prelude.{◌≡◌, ◌+◌, ◌-◌, ◌≤◌, ◌<◌, [], length, take, drop};
 ghost use Rattle.shop_edges.specs.Causes.{Rose};
 ghost use Rattle.shop_edges.specs.Streams.{GotFits, Reads, Lowers, ReadCause};
 ghost use Rattle.shop_gateway.specs.Lines.{Gathers};

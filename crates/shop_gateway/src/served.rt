@@ -1,7 +1,6 @@
 //! A gateway that decides by its ledger, over lines.
 ghost use Rattle.std.specs.Prelude.{◌≡◌, ◌≤◌};
 ghost use Rattle.shop_edges.specs.Causes.{Rose};
-ghost use Rattle.shop_gateway.specs.Protocol as spec;
 ghost use Rattle.shop_gateway.specs.Services.{IsTold, IsWritten, Serves, streams};
 
 use crate::charge_line::charge_asked;

@@ -1,5 +1,5 @@
 -- What keys show.
-use Rattle.std.specs.Prelude.{Bool, length, true, false, Option, Some, None, option_map}
+use Rattle.std.specs.Prelude.{length, Option, Some, None, option_map}
 use Rattle.shop_model.specs.declared.tables.Tables.{Tables}
 use Rattle.shop_model.specs.rows.Lookups.{row_numbered, author_of, joined}
 use Rattle.shop_model.specs.lists.Catalogues.{added, found}
@@ -41,8 +41,3 @@ row_of t (key.TheVariants.Order id) = shown row.TheVariants.Order (row_numbered 
 row_of t (key.TheVariants.LastOrder customer) = shown row.TheVariants.Id (joined (row_numbered t.last customer))
 row_of t key.TheVariants.Count = row.TheVariants.Number (length t.items)
 row_of t (key.TheVariants.Added search) = row.TheVariants.Items (found (added t) search.kind search.text)
-
--- whether a row is an item
-abbrev pub is_item : Row → Bool
-is_item (row.TheVariants.Item x) = true
-is_item _ = false

@@ -5,6 +5,6 @@ mod constants;
 mod requests;
 mod router;
 
-pub use requests::{Asked, Refusal, request};
+pub use requests::{Asked, Refusal, asked_of, request};
 pub use router::Routes;
 pub use shop_message::{Gather, Gathered, Message, Next, next_message};

@@ -82,9 +82,9 @@ pub fn request(alloc: Global, routes: &Routes, message: &Message) -> Asked
     )
 }
 
-/// What the message with these parts asks for.
+/// What a message with this method, target and body asks for.
 #[tactic(auto, unfolding(crate::specs::Requests::asked_of))]
-fn asked_of(alloc: Global, routes: &Routes, method: &[u8], target: &[u8], body: &[u8]) -> Asked
+pub fn asked_of(alloc: Global, routes: &Routes, method: &[u8], target: &[u8], body: &[u8]) -> Asked
     ensures { Answers (spec.asked_of method.now target.now body.now) result }
 {
     let (path, query) = path_and_query(target);

@@ -1,4 +1,4 @@
-ghost use Rattle.std.specs.Prelude.{◌≡◌, ◌≤◌, ◌<◌, ◌++◌, [], codes, IfOk};
+ghost use Rattle.std.specs.Prelude.{◌≡◌, ◌≤◌, ◌<◌, [], codes, IfOk};
 ghost use Rattle.shop_model.specs.population.Population as spec;
 ghost use Rattle.shop_model.specs.population.Words.{entry, publishers};
 

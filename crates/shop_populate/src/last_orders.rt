@@ -1,4 +1,4 @@
-ghost use Rattle.std.specs.Prelude.{◌≡◌, ◌≤◌, IfOk, map, All};
+ghost use Rattle.std.specs.Prelude.{◌≡◌, IfOk, map, All};
 ghost use Rattle.shop_model.specs.population.Population.{rows};
 ghost use Rattle.shop_model.specs.rows.Sound.{Has, Runs, last_of};
 

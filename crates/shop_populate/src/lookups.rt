@@ -1,4 +1,4 @@
-ghost use Rattle.std.specs.Prelude.{◌≡◌, ◌≤◌};
+ghost use Rattle.std.specs.Prelude.{◌≡◌};
 ghost use Rattle.shop_model.specs.rows.Sound.{Has};
 ghost use Rattle.shop_model.specs.population.Population as spec;
 

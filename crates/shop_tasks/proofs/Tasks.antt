@@ -12,7 +12,6 @@ use Rattle.shop_drive.specs.Turns.{Stage}
 use Rattle.shop_edges.specs.declared.gateway.Answer.{Answer}
 use Rattle.shop_engine.specs.Workers.{WorkerState, standing}
 use Rattle.shop_attempt.specs.Seats.{Seat}
-use Rattle.shop_edges.specs.Causes.{count_up}
 use Rattle.shop_edges.specs.Starts.{Spawning}
 use Rattle.shop_turn.specs.Desks.{DeskValue, IsOneShop, seat_of}
 use Rattle.shop_text.specs.declared.memory.Memory.{Memory}

@@ -1,5 +1,5 @@
 //! The words and the slots of a new shop's table.
-ghost use Rattle.std.specs.Prelude.{◌≡◌, ℕ, ◌+◌, ◌*◌, ◌^◌, ◌<◌, ◌≤◌, Some, IfOk, length};
+ghost use Rattle.std.specs.Prelude.{◌≡◌, ℕ, ◌+◌, ◌*◌, ◌^◌, ◌<◌, Some, IfOk, length};
 ghost use Rattle.shop_book.specs.Books.{IsBook};
 ghost use Rattle.shop_turn.specs.Laid.{AreWords, AreShares};
 

@@ -1,4 +1,4 @@
-ghost use Rattle.std.specs.Prelude.{◌≡◌, IfOk, IfErr, Err, map, drop, List, ℕ};
+ghost use Rattle.std.specs.Prelude.{◌≡◌, IfOk, IfErr, Err, map, drop, List};
 ghost use Rattle.std.specs.List.{All};
 ghost use Rattle.clap.specs.Words.{FailsBy, fault_of, first_value, found_of, matches_of, rows_of};
 ghost use Rattle.shop_words.specs.Options.{Given, AreOptions, IsOptionName, IsPlain, IsReading, IsWord, value_of};

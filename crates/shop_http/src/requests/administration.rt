@@ -1,7 +1,4 @@
 //! What is asked for by those who keep the shop.
-ghost use Rattle.std.specs.Prelude.{IfOk};
-ghost use Rattle.shop_model.specs.asked.AddAsked.{IsAddAsked};
-ghost use Rattle.shop_model.specs.asked.AdminAsked.{IsAdminAsked};
 ghost use Rattle.shop_model.specs.rows.Subjects.{backing_of};
 ghost use Rattle.shop_http.specs.Answers.{Reads};
 ghost use Rattle.shop_http.specs.Forms as forms;

@@ -13,7 +13,7 @@ use Rattle.shop_book.specs.KeptLists.{AreLists}
 use Rattle.shop_book.specs.Planning.{IsPlanOf}
 use Rattle.shop_book.specs.Stored.{stored}
 use Rattle.shop_book.proofs.Doing.{named_done, compared_lists, compared_added, compared_raised, sale_done, places_done, lists_done, added_done, raised_done, mend_done, mended_lists, mended_added, mended_raised}
-use Rattle.shop_book.proofs.Doing.{add_done, added_lists, added_taken, added_raised}
+use Rattle.shop_book.proofs.Doing.{add_done, added_taken, added_raised}
 use Rattle.shop_book.proofs.WatchingLemmas.{raised_one}
 use Rattle.shop_book.proofs.changes.carry_out.Goals as goal
 
