@@ -8,6 +8,7 @@ use shop_history::Key;
 use shop_text::Memory;
 
 /// Reads a row.
+#[inline(always)]
 pub fn read<St: Store>(store: &mut St, key: Key) -> Result<ReadOf, Memory>
     ensures looks { Looks St.seat St.marked store.old store.new }
     ensures valid { IsSeat (St.seat store.new) }

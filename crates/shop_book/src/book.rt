@@ -1,6 +1,7 @@
-ghost use Rattle.std.specs.Prelude.{◌≡◌, ℕ, ◌+◌, ◌≤◌, max, [], length, map, IfOk, IfErr, IfSome, IsSome, None};
+ghost use Rattle.std.specs.Prelude.{◌≡◌, ℕ, ◌+◌, ◌≤◌, max, [], length, map, IfOk, IfErr, IfSome, IsSome, None, option_copied};
 ghost use Rattle.shop_model.specs.lists.Related.{sold_of, last, recent};
 ghost use Rattle.shop_model.specs.rows.Limits.{stamp_limit, counted_orders};
+ghost use Rattle.shop_model.specs.rows.Lookups.{row_numbered};
 ghost use Rattle.shop_ranking.specs.StandingBest.{AreSoldLately};
 ghost use Rattle.shop_ranking.specs.StandingNewest.{AreAsPublished};
 ghost use Rattle.shop_history.specs.Keys as keys;
@@ -103,6 +104,7 @@ impl Book {
     }
 
     /// What a key shows, and its version.
+    #[inline(always)]
     pub fn read(&mut self, key: &Key) -> Result<(Row, u64), Memory>
         ensures row { IfOk result (λ read. read.0 ≡ keys.row_of (tables_of self.old) key.now) }
         ensures version { IfOk result (λ read. read.1 ≡ version_of self.old.opening.tables self.old.log key.now) }
@@ -152,6 +154,17 @@ impl Book {
         ensures kept { IsBook self.now }
     {
         self.log.len() as u64
+    }
+
+    /// The entry with this number of the log, from 1 on.
+    pub fn entry(&self, n: u64) -> Option<&Entry>
+        ensures value { option_copied result ≡ row_numbered self.now.log n }
+        ensures kept { IsBook self.now }
+    {
+        match n.checked_sub(1) {
+            Some(before) => self.log.get(before as usize),
+            None => None,
+        }
     }
 
     /// The latest stamp, 0 where there is none, in milliseconds since 1970-01-01.

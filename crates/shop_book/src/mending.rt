@@ -24,6 +24,7 @@ use shop_ranking::Newest;
 
 /// Lists the newest items of a subject anew. Where they are others, the key that shows them gets this
 /// number as its version.
+#[inline(always)]
 pub(crate) fn renew_newest(
     lists: &mut Vec<Listing>,
     newest: &Newest,

@@ -1,11 +1,12 @@
-ghost use Rattle.std.specs.Prelude.{◌≡◌};
+ghost use Rattle.std.specs.Prelude.{◌≡◌, option_copied};
+ghost use Rattle.shop_model.specs.rows.Lookups.{row_numbered};
 ghost use Rattle.shop_attempt.specs.Marks.{AreMarks};
 ghost use Rattle.shop_attempt.specs.Seats.{IsSeat};
 ghost use Rattle.shop_book.specs.Solos.{seated, seat_of, marks_of};
 
 use crate::{Book, Visitor};
 use shop_attempt::{Attempt, Settle, Store};
-use shop_history::{Key, Row};
+use shop_history::{Entry, Key, Row};
 use shop_text::Memory;
 use std::marker::Model;
 
@@ -63,7 +64,21 @@ impl Solo {
         was
     }
 
+    /// The entry with this number of the book's log, from 1 on.
+    pub fn entry(&self, n: u64) -> Option<&Entry>
+        ensures { option_copied result ≡ row_numbered self.now.book.log n }
+    {
+        self.book.entry(n)
+    }
+
     /// The book.
+    pub fn book(&self) -> &Book
+        ensures { result.now ≡ self.now.book }
+    {
+        &self.book
+    }
+
+    /// The book, without its caller.
     pub fn into_book(self) -> Book
         ensures { result ≡ self.book }
     {
@@ -79,6 +94,7 @@ impl Store for Solo {
 
     ghost marked = { marks_of };
 
+    #[inline(always)]
     fn read(&mut self, key: &Key) -> Result<(Row, u64), Memory> {
         self.visitor.calls = self.visitor.calls.saturating_add(1);
         self.book.read(key)

@@ -24,7 +24,7 @@ use Rattle.shop_attempt.specs.Marks.{Looks}
 use Rattle.shop_attempt.specs.Reads.{Agrees, AreTrue, IsReadOf, IsReadSince, AreReadSince}
 use Rattle.shop_attempt.specs.Seats.{Seat, IsSeat, Looked, IsReadAt}
 use Rattle.shop_attempt.proofs.cited.Marks.{looks_then}
-use Rattle.shop_attempt.proofs.cited.Looks.{since_now, all_since_later, all_since_earlier, are_true}
+use Rattle.shop_attempt.proofs.cited.Looks.{looked_self, since_now, all_since_later, all_since_earlier, are_true}
 use Rattle.shop_browse.specs.declared.attempted.Ask.{Ask}
 use Rattle.shop_browse.specs.declared.driver.Next.{Next}
 use Rattle.shop_browse.specs.declared.driver.Next.TheVariants.{Show, ShowList, Change, Pay, Never}
@@ -32,7 +32,7 @@ use Rattle.shop_browse.specs.declared.attempted.Attempted.TheVariants as attempt
 use Rattle.shop_history.specs.declared.acts.Act.{Act}
 use Rattle.shop_attempt.specs.declared.attempts.Write.{Write}
 use Rattle.shop_browse.specs.Attempts.{AreReadFor, IsAttempt, AttemptedAs, Suits, asking_of}
-use Rattle.shop_browse.specs.Driver.{keys_of, Fits, AreSeen, WereRead, MayRead, AsksFor, IsNext, AddsReads, attempt_with}
+use Rattle.shop_browse.specs.Driver.{keys_of, Fits, AreSeen, WereRead, MayRead, AsksFor, Begins, IsNext, AddsReads, attempt_with}
 use Rattle.shop_browse.specs.Footprints.{InFootprint}
 use Rattle.shop_browse.proofs.Items.{seat_sound}
 
@@ -162,6 +162,21 @@ has_more start middle now follows request ask round reads new keys first second 
     either : (more : List ReadOf) → (reads ≢ [] → IsSeat now) → (more ≢ [] → IsSeat now) → reads ++ more ≢ [] → IsSeat now
     either [] before behind some = before (λ none. some (append-nil reads ∙ none))
     either (read ∷ more) before behind some = behind (λ none. absurd cc)
+
+-- before the first round
+pub has_first : (start now : Seat) (first : List Key) (follows : ℕ → List ReadOf → Type 0) (request : Request) (ask : Ask) (new : List ReadOf) → Suits ask start → Looked start now
+    → Begins first follows request ask → AddsReads start now first [] new → HasRead start now request ask new × follows 0 new
+has_first start now first follows request ask new suits looked begins adds =
+    has_more start start now (λ round. follows 0) request ask 0 [] new first (looked_self start) looked (has_none start request ask [] suits refl)
+    (record { few = omega arith; goes_on = begins.goes_on; may = λ opening log were. begins.may opening log }) adds
+
+-- none is read there
+pub begins_with_none : (follows : ℕ → List ReadOf → Type 0) (request : Request) (ask : Ask) → follows 0 [] → Begins [] follows request ask
+begins_with_none follows request ask begins = record { may = λ opening log. All-nil (InFootprint opening log request ask.draw); goes_on = none }
+  where
+    none : (reads : List ReadOf) → keys_of reads ≡ [] → follows 0 reads
+    none [] of = begins
+    none (read ∷ reads) of = absurd cc
 
 -- what has been read in so many rounds
 pub record HasGone {Store : Type 0} (seat : Store → Seat) (marked : Store → ℕ → ℕ → Type 0) (first now : Store) (follows : ℕ → List ReadOf → Type 0) (request : Request) (ask : Ask) (round : ℕ) (reads : List ReadOf) : Type 0 where

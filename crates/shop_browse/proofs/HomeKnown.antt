@@ -24,16 +24,16 @@ use Rattle.shop_attempt.specs.Reads as Reads
 use Rattle.shop_browse.specs.declared.attempted.Ask.{Ask}
 use Rattle.shop_browse.specs.declared.driver.Next.{Next}
 use Rattle.shop_browse.specs.declared.names.Names.{Names}
-use Rattle.shop_browse.specs.Counting.{HasCount, FollowsCount, drawn_key, number_in}
+use Rattle.shop_browse.specs.Counting.{HasCount, drawn_key, number_in}
 use Rattle.shop_browse.specs.Driver.{keys_of, AreSeen, AsksFor, Fits, IsNext, WereRead}
 use Rattle.shop_browse.specs.Footprints.{InFootprint}
 use Rattle.shop_browse.specs.Home.{FollowsWelcome, IsGreeting, home_in}
-use Rattle.shop_browse.specs.Names.{HaveTitles, label_keys}
+use Rattle.shop_browse.specs.Names.{HaveTitles, NoneUnread, label_keys}
 use Rattle.shop_browse.specs.Related.{related_in}
 use Rattle.shop_browse.proofs.cited.Counting.{asks_behind, were_behind}
 use Rattle.shop_browse.proofs.cited.Names.{titles_are}
 use Rattle.shop_browse.proofs.cited.Reads.{shows_page}
-use Rattle.shop_browse.proofs.HomeLemmas.{home_shown}
+use Rattle.shop_browse.proofs.HomeLemmas.{home_shown, related_read}
 use Rattle.shop_browse.proofs.HomeReads.{drawn_may, related_may}
 use Rattle.shop_browse.proofs.Items.{row_missing}
 
@@ -85,11 +85,10 @@ module _ (asked : home_asked.Home) (number : ℕ) (is_c : asked.ids.c ≡ Some n
   abbrev drawn : Key
   drawn = drawn_key ask.draw (number_in has.count.row)
 
-  pub asks_both : (later : ℕ) → later ≡ suc round → later ≡ 1 → AreSeen ask.index.now reads → (keys : List Key) → keys ≡ key.Customer number ∷ drawn_key ask.draw (number_in has.count.row) ∷ []
-      → AsksFor (FollowsCount (FollowsGreeting number ask.index.now ask.draw)) (Home asked) ask later reads keys
-  asks_both later round_is is seen keys are =
-      let first : round ≡ 0 = omega (arith, round_is, is) in
-      asks_behind follows round reads has (Home asked) ask later keys round_is (omega (arith, is))
+  pub asks_both : round ≡ 0 → AreSeen ask.index.now reads → (keys : List Key) → keys ≡ key.Customer number ∷ drawn_key ask.draw (number_in has.count.row) ∷ []
+      → AsksFor (HasCount (FollowsGreeting number ask.index.now ask.draw)) (Home asked) ask round reads keys
+  asks_both first seen keys are =
+      asks_behind follows round reads has (Home asked) ask keys (omega (arith, first))
       (λ more of.
       let none : has.rest ≡ [] = subst (λ r. follows (number_in has.count.row) r has.rest) first has.rest_are in
       subst (λ r. follows (number_in has.count.row) (suc r) (has.rest ++ more)) (sym first)
@@ -103,11 +102,10 @@ module _ (asked : home_asked.Home) (number : ℕ) (is_c : asked.ids.c ≡ Some n
     pub greeting_reads : reads ≡ has.count ∷ known.known ∷ known.read ∷ known.labels
     greeting_reads = has.reads_are ∙ ap (λ (l : List ReadOf). has.count ∷ l) known.reads_are
 
-    pub asks_related : (later : ℕ) → later ≡ suc round → later ≡ 2 → (keys : List Key) → keys ≡ label_keys ask.index.now (related_in known.read.row)
-        → AsksFor (FollowsCount (FollowsGreeting number ask.index.now ask.draw)) (Home asked) ask later reads keys
-    asks_related later round_is is keys are =
-        let second : round ≡ 1 = omega (arith, round_is, is) in
-        asks_behind follows round reads has (Home asked) ask later keys round_is (omega (arith, is))
+    pub asks_related : round ≡ 1 → (keys : List Key) → keys ≡ label_keys ask.index.now (related_in known.read.row)
+        → AsksFor (HasCount (FollowsGreeting number ask.index.now ask.draw)) (Home asked) ask round reads keys
+    asks_related second keys are =
+        asks_behind follows round reads has (Home asked) ask keys (omega (arith, second))
         (λ more of. subst (λ r. follows (number_in has.count.row) (suc r) (has.rest ++ more)) (sym second) (record {
           known = known.known;
           rest = known.read ∷ more;
@@ -126,15 +124,17 @@ module _ (asked : home_asked.Home) (number : ℕ) (is_c : asked.ids.c ≡ Some n
     shown_here t fits = subst (Reads.Shows t) greeting_reads fits.shows
 
     -- the titles of items related to it are known
-    titles_here : (round ≡ 1 → label_keys ask.index.now (related_in known.read.row) ≡ []) → (names : Names) → names.index.now ≡ ask.index.now → names.labels.now ≡ known.labels
+    titles_here : (round ≡ 1 → NoneUnread ask.index.now (number_in has.count.row) (related_in known.read.row)) → (names : Names) → names.index.now ≡ ask.index.now → names.labels.now ≡ known.labels
         → (t : Tables) → Fits ask.index.now t reads → HaveTitles t names (related_in known.read.row)
     titles_here none names index_is labels_are t fits =
+        let here = shown_here t fits in
+        let there = related_read ask.draw has.count known.read has.key_is known.read_is t fits.sound here.0 here.1.1.0 in
         let all : keys_of known.labels ≡ label_keys ask.index.now (related_in known.read.row)
         = ⊎_elim
-        (λ (is : round ≡ 1). ap keys_of (known.first is) ∙ sym (none is))
+        (λ (is : round ≡ 1). ap keys_of (known.first is) ∙ sym (none is there))
         (λ (later : round ≡ 1 → ⊥). known.labels_are later)
         (cases_eq round 1) in
-        titles_are names t (fits.named ∙ sym index_is) (subst (Reads.Shows t) (sym labels_are) (shown_here t fits).1.1.1) (related_in known.read.row)
+        titles_are names t (fits.named ∙ sym index_is) (subst (Reads.Shows t) (sym labels_are) here.1.1.1) (related_in known.read.row)
         (ap keys_of labels_are ∙ all ∙ ap (λ (c : Catalogue). label_keys c (related_in known.read.row)) (sym index_is))
 
     -- the row of the customer
@@ -148,7 +148,7 @@ module _ (asked : home_asked.Home) (number : ℕ) (is_c : asked.ids.c ≡ Some n
         ∙ ap (λ o. refused_or (check_there NoCustomer o) (Some (home_page t asked.ids ask.draw o))) found
 
     -- what is done by the row of the customer
-    pub greeting_next : AreSeen ask.index.now reads → (round ≡ 1 → label_keys ask.index.now (related_in known.read.row) ≡ []) → (names : Names) → names.index.now ≡ ask.index.now → names.labels.now ≡ known.labels
+    pub greeting_next : AreSeen ask.index.now reads → (round ≡ 1 → NoneUnread ask.index.now (number_in has.count.row) (related_in known.read.row)) → (names : Names) → names.index.now ≡ ask.index.now → names.labels.now ≡ known.labels
         → (items : List ℕ) → items ≡ related_in known.read.row → (customer : Row) → customer ≡ known.known.row → (draft : Draft) (next : Next) → IsGreeting names ask.draw asked.ids customer items draft next
         → (asks : ℕ → List ReadOf → Type 0) (later : ℕ) → IsNext asks (Home asked) ask later reads draft next
     greeting_next seen none names index_is labels_are items are customer customer_is draft next is asks later =

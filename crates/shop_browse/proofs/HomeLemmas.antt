@@ -1,5 +1,5 @@
 -- Home: the drawn item, the reads of its promotion, and the page for a customer or for anyone.
-use Rattle.std.proofs.Common.{◌≡◌, ℕ, ◌+◌, ◌%◌, List, [], ◌++◌, length, map, All, Option, Some, None, option_map, unwrap_or, refl, sym, ◌∙◌, ap}
+use Rattle.std.proofs.Common.{◌≡◌, ℕ, ◌+◌, ◌%◌, List, [], ◌++◌, length, map, All, Option, Some, None, option_map, unwrap_or, refl, sym, ◌∙◌, ap, subst}
 use Rattle.std.specs.List.{flat_map}
 use Rattle.std.proofs.lemmas.List.Elements.{All-nil}
 use Rattle.shop_model.specs.declared.requests.IdsAsked.{IdsAsked}
@@ -45,15 +45,23 @@ related_there item t sound = by (row_numbered t.items item) refl
 
 -- by the number of items that was read, and the row of the item that is drawn of so many
 module _ (draw : ℕ) (count drawn : ReadOf) (count_is : count.key ≡ key.Count) (drawn_is : drawn.key ≡ drawn_key draw (number_in count.row)) where
+  row_is : (t : Tables) → row_of t count.key ≡ count.row → row_of t drawn.key ≡ drawn.row → row_of t (key.Item (1 + draw % length t.items)) ≡ drawn.row
+  row_is t counted shows =
+      ap (λ n. row_of t (key.Item (1 + draw % n))) (sym (size_read count count_is t counted)) ∙ ap (row_of t) (sym drawn_is) ∙ shows
+
+  -- the items that are related to it are among so many
+  pub related_read : (t : Tables) → Sound t → row_of t count.key ≡ count.row → row_of t drawn.key ≡ drawn.row → All (Has (number_in count.row)) (related_in drawn.row)
+  related_read t sound counted shows =
+      subst (λ n. All (Has n) (related_in drawn.row)) (sym (size_read count count_is t counted))
+      (subst (λ r. All (Has (length t.items)) (related_in r)) (row_is t counted shows) (related_there (1 + draw % length t.items) t sound))
+
   -- the promotion
   pub promo_shown : (names : Names) (t : Tables) (ids : IdsAsked) → row_of t count.key ≡ count.row → row_of t drawn.key ≡ drawn.row → HaveTitles t names (related_in drawn.row)
       → promo t ids draw ≡ map (promoted_in names ids) (related_in drawn.row)
   unfolding promo
   promo_shown names t ids counted shows titles =
       let item : ℕ = 1 + draw % length t.items in
-      let row_is : row_of t (key.Item item) ≡ drawn.row
-      = ap (λ n. row_of t (key.Item (1 + draw % n))) (sym (size_read count count_is t counted)) ∙ ap (row_of t) (sym drawn_is) ∙ shows in
-      ap (map (promoted t ids)) (sym (related_shown (row_numbered t.items item)) ∙ ap related_in row_is)
+      ap (map (promoted t ids)) (sym (related_shown (row_numbered t.items item)) ∙ ap related_in (row_is t counted shows))
       ∙ sym (links_are names t ids (related_in drawn.row) titles)
 
   pub home_shown : (names : Names) (t : Tables) (ids : IdsAsked) (customer : Option CustomerRow) → row_of t count.key ≡ count.row → row_of t drawn.key ≡ drawn.row → HaveTitles t names (related_in drawn.row)

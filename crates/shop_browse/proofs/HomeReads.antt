@@ -21,18 +21,18 @@ use Rattle.shop_draft.specs.Drawing.{ids_at}
 use Rattle.shop_draft.specs.Pages.{Shows}
 use Rattle.shop_browse.specs.declared.attempted.Ask.{Ask}
 use Rattle.shop_browse.specs.declared.names.Names.{Names}
-use Rattle.shop_browse.specs.Counting.{HasCount, FollowsCount, drawn_key, number_in}
+use Rattle.shop_browse.specs.Counting.{HasCount, drawn_key, number_in}
 use Rattle.shop_browse.specs.Driver.{keys_of, AreSeen, AsksFor, Fits, IsPageFor, WereRead}
 use Rattle.shop_browse.specs.Footprints.{InFootprint, IsDrawnKey}
 use Rattle.shop_browse.specs.Home.{home_in}
-use Rattle.shop_browse.specs.Names.{FollowsNamed, HaveTitles, label_keys}
+use Rattle.shop_browse.specs.Names.{FollowsNamed, HaveTitles, NoneUnread, label_keys}
 use Rattle.shop_browse.specs.Related.{related_in}
 use Rattle.shop_browse.specs.SearchRequest.{search_in}
 use Rattle.shop_browse.proofs.cited.Counting.{asks_behind, drawn_of, number_first, was_shown, were_behind}
 use Rattle.shop_browse.proofs.cited.Names.{HasNamed, all_labels, named_may, named_on, titles_are}
 use Rattle.shop_browse.proofs.cited.Reads.{shows_page}
 use Rattle.shop_browse.proofs.DriverLemmas.{with_ids}
-use Rattle.shop_browse.proofs.HomeLemmas.{home_shown, related_there, search_shown}
+use Rattle.shop_browse.proofs.HomeLemmas.{home_shown, related_read, related_there, search_shown}
 
 -- behind the number of items, the drawn item and labels of items related to it
 abbrev pub FollowsDrawn : Catalogue → ℕ → ℕ → ℕ → List ReadOf → Type 0
@@ -58,12 +58,11 @@ module _ (request : Request) (ask : Ask) (round : ℕ) (reads : List ReadOf) (ha
   abbrev drawn : Key
   drawn = drawn_key ask.draw (number_in has.count.row)
 
-  pub asks_drawn : (later : ℕ) → later ≡ suc round → later ≡ 1 → AreSeen ask.index.now reads
+  pub asks_drawn : round ≡ 0 → AreSeen ask.index.now reads
       → ((opening : Tables) (log : List Entry) (k : Key) → IsDrawnKey opening log ask.draw k → InFootprint opening log request ask.draw k)
-      → AsksFor (FollowsCount (FollowsDrawn ask.index.now ask.draw)) request ask later reads (drawn_key ask.draw (number_in has.count.row) ∷ [])
-  asks_drawn later round_is is seen about =
-      let first : round ≡ 0 = omega (arith, round_is, is) in
-      asks_behind (FollowsDrawn ask.index.now ask.draw) round reads has request ask later (drawn ∷ []) round_is (omega (arith, is))
+      → AsksFor (HasCount (FollowsDrawn ask.index.now ask.draw)) request ask round reads (drawn_key ask.draw (number_in has.count.row) ∷ [])
+  asks_drawn first seen about =
+      asks_behind (FollowsDrawn ask.index.now ask.draw) round reads has request ask (drawn ∷ []) (omega (arith, first))
       (λ more of.
       let none : has.rest ≡ [] = subst (λ r. FollowsDrawn ask.index.now ask.draw (number_in has.count.row) r has.rest) first has.rest_are in
       subst (λ r. FollowsDrawn ask.index.now ask.draw (number_in has.count.row) (suc r) (has.rest ++ more)) (sym first) (subst (λ (l : List ReadOf). keys_of (l ++ more) ≡ drawn ∷ []) (sym none) of))
@@ -76,27 +75,28 @@ module _ (request : Request) (ask : Ask) (round : ℕ) (reads : List ReadOf) (ha
     pub drawn_reads : reads ≡ has.count ∷ named.read ∷ named.labels
     drawn_reads = has.reads_are ∙ ap (λ (l : List ReadOf). has.count ∷ l) named.reads_are
 
-    pub asks_labels : (later : ℕ) → later ≡ suc round → later ≡ 2 → (keys : List Key) → keys ≡ label_keys ask.index.now (related_in named.read.row)
-        → AsksFor (FollowsCount (FollowsDrawn ask.index.now ask.draw)) request ask later reads keys
-    asks_labels later round_is is keys are =
-        asks_behind (FollowsDrawn ask.index.now ask.draw) round reads has request ask later keys round_is (omega (arith, is))
-        (λ more of. named_on ask.index.now related_in drawn round has.rest more named (omega (arith, round_is, is)) (of ∙ are))
+    pub asks_labels : round ≡ 1 → (keys : List Key) → keys ≡ label_keys ask.index.now (related_in named.read.row)
+        → AsksFor (HasCount (FollowsDrawn ask.index.now ask.draw)) request ask round reads keys
+    asks_labels second keys are =
+        asks_behind (FollowsDrawn ask.index.now ask.draw) round reads has request ask keys (omega (arith, second))
+        (λ more of. named_on ask.index.now related_in drawn round has.rest more named second (of ∙ are))
         (λ opening log were.
         subst (All (InFootprint opening log request ask.draw)) (sym are)
         (related_may ask.index.now opening log request ask.draw (number_in has.count.row) named.read named.labels named.key_is
         (were_behind ask.index.now opening log has.count (named.read ∷ named.labels) (subst (λ (l : List ReadOf). WereRead ask.index.now opening log (has.count ∷ l)) named.reads_are were))))
 
     -- the titles of items related to it are known
-    pub titles_here : (round ≡ 1 → label_keys ask.index.now (related_in named.read.row) ≡ []) → (names : Names) → names.index.now ≡ ask.index.now → names.labels.now ≡ named.labels
+    pub titles_here : (round ≡ 1 → NoneUnread ask.index.now (number_in has.count.row) (related_in named.read.row)) → (names : Names) → names.index.now ≡ ask.index.now → names.labels.now ≡ named.labels
         → (t : Tables) → Fits ask.index.now t reads → HaveTitles t names (related_in named.read.row)
     titles_here none names index_is labels_are t fits =
         let shows : Reads.Shows t (has.count ∷ named.read ∷ named.labels) = subst (Reads.Shows t) drawn_reads fits.shows in
-        let all = all_labels ask.index.now related_in drawn round has.rest named none in
+        let there = related_read ask.draw has.count named.read has.key_is named.key_is t fits.sound shows.0 shows.1.0 in
+        let all = all_labels ask.index.now related_in drawn round has.rest named (λ second. none second there) in
         titles_are names t (fits.named ∙ sym index_is) (subst (Reads.Shows t) (sym labels_are) shows.1.1) (related_in named.read.row)
         (ap keys_of labels_are ∙ all ∙ ap (λ (c : Catalogue). label_keys c (related_in named.read.row)) (sym index_is))
 
     -- the page of Search Request, with the titles that are known
-    pub search_next : (asked : search_asked.SearchRequest) → (round ≡ 1 → label_keys ask.index.now (related_in named.read.row) ≡ []) → (names : Names) → names.index.now ≡ ask.index.now → names.labels.now ≡ named.labels
+    pub search_next : (asked : search_asked.SearchRequest) → (round ≡ 1 → NoneUnread ask.index.now (number_in has.count.row) (related_in named.read.row)) → (names : Names) → names.index.now ≡ ask.index.now → names.labels.now ≡ named.labels
         → (items : List ℕ) → items ≡ related_in named.read.row → (draft : Draft) (given : PageIds) → ((drawn : Drawn) → ids_at drawn given ≡ asked.ids) → Shows draft (λ drawn. search_in names (ids_at drawn given) items)
         → IsPageFor (SearchRequest asked) ask reads draft
     search_next asked none names index_is labels_are items are draft given same shows t fits =
@@ -107,7 +107,7 @@ module _ (request : Request) (ask : Ask) (round : ℕ) (reads : List ReadOf) (ha
         (with_ids draft (λ ids. search_in names ids items) given asked.ids same shows)
 
     -- that of Home for anyone
-    pub anyone_next : (asked : home_asked.Home) → asked.ids.c ≡ None → (round ≡ 1 → label_keys ask.index.now (related_in named.read.row) ≡ []) → (names : Names) → names.index.now ≡ ask.index.now → names.labels.now ≡ named.labels
+    pub anyone_next : (asked : home_asked.Home) → asked.ids.c ≡ None → (round ≡ 1 → NoneUnread ask.index.now (number_in has.count.row) (related_in named.read.row)) → (names : Names) → names.index.now ≡ ask.index.now → names.labels.now ≡ named.labels
         → (items : List ℕ) → items ≡ related_in named.read.row → (draft : Draft) (given : PageIds) → ((drawn : Drawn) → ids_at drawn given ≡ asked.ids) → Shows draft (λ drawn. home_in names ask.draw (ids_at drawn given) None items)
         → IsPageFor (Home asked) ask reads draft
     anyone_next asked anyone none names index_is labels_are items are draft given same shows t fits =

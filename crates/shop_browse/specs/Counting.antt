@@ -1,5 +1,5 @@
--- How many items there are, which a request reads first, and the item that a word draws of so many.
-use Rattle.std.specs.Prelude.{◌≡◌, ℕ, zero, suc, ◌+◌, ◌%◌, ◌≤◌, List, [], ◌∷◌}
+-- How many items there are, which a request reads before its rounds, and the item that a word draws of so many.
+use Rattle.std.specs.Prelude.{◌≡◌, ℕ, ◌+◌, ◌%◌, ◌≤◌, List, ◌∷◌}
 use Rattle.shop_history.specs.declared.keys.Key.{Key}
 use Rattle.shop_history.specs.declared.keys.Key.TheVariants.{Count, Item}
 use Rattle.shop_history.specs.declared.keys.Row.{Row}
@@ -27,8 +27,3 @@ pub record HasCount (follows : ℕ → ℕ → List ReadOf → Type 0) (round : 
   pub reads_are : reads ≡ count ∷ rest
   pub key_is : count.key ≡ Count
   pub rest_are : follows (number_in count.row) round rest
-
--- the first round reads the number of items, before the rounds that go by it
-abbrev pub FollowsCount : (ℕ → ℕ → List ReadOf → Type 0) → ℕ → List ReadOf → Type 0
-FollowsCount follows zero reads = reads ≡ []
-FollowsCount follows (suc round) reads = HasCount follows round reads

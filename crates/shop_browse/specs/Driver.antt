@@ -1,5 +1,5 @@
 -- The driver of interactions: what one may do next by what it has read, and the attempt of what it decides.
-use Rattle.std.specs.Prelude.{◌≡◌, ◌≢◌, ℕ, zero, suc, ◌≤◌, List, [], ◌∷◌, ◌++◌, take, All, Option, Some, None}
+use Rattle.std.specs.Prelude.{◌≡◌, ◌≢◌, ℕ, zero, suc, ◌≤◌, Bool, if◌then◌else◌, List, [], ◌∷◌, ◌++◌, take, All, Option, Some, None}
 use Rattle.shop_model.specs.declared.requests.Request.{Request}
 use Rattle.shop_model.specs.declared.tables.Tables.{Tables}
 use Rattle.shop_model.specs.lists.Catalogues.{Catalogue, opened}
@@ -8,6 +8,7 @@ use Rattle.shop_model.specs.rows.Sound.{Sound}
 use Rattle.shop_history.specs.declared.acts.Act.{Act}
 use Rattle.shop_history.specs.declared.acts.Entry.{Entry}
 use Rattle.shop_history.specs.declared.keys.Key.{Key}
+use Rattle.shop_history.specs.declared.keys.Key.TheVariants.{Count}
 use Rattle.shop_history.specs.Acts.{IsActOf}
 use Rattle.shop_history.specs.Logs.{tables}
 use Rattle.shop_cache.specs.Keys.{key_asked}
@@ -46,6 +47,15 @@ pub record AsksFor (follows : ℕ → List ReadOf → Type 0) (request : Request
   pub few : round ≤ 5
   pub goes_on : (more : List ReadOf) → keys_of more ≡ keys → follows (suc round) (reads ++ more)
   pub may : MayRead request ask reads keys
+
+-- what is read before the first round
+abbrev pub first_keys : Bool → List Key
+first_keys counted = if counted then Count ∷ [] else []
+
+-- these rows are read before the first round: the request may read them, and its rounds go on from reads of them
+pub record Begins (first : List Key) (follows : ℕ → List ReadOf → Type 0) (request : Request) (ask : Ask) : Type 0 where
+  pub may : (opening : Tables) (log : List Entry) → All (InFootprint opening log request ask.draw) first
+  pub goes_on : (reads : List ReadOf) → keys_of reads ≡ first → follows 0 reads
 
 -- after the first round this row was read
 abbrev pub FollowsOne : Key → ℕ → List ReadOf → Type 0

@@ -22,7 +22,7 @@ use Rattle.shop_attempt.specs.declared.attempts.ReadOf.{ReadOf}
 use Rattle.shop_browse.specs.declared.attempted.Ask.{Ask}
 use Rattle.shop_browse.specs.declared.driver.Next.{Next}
 use Rattle.shop_browse.specs.declared.driver.Next.TheVariants.{Show, Never}
-use Rattle.shop_browse.specs.Counting.{FollowsCount, drawn_key}
+use Rattle.shop_browse.specs.Counting.{HasCount, drawn_key}
 use Rattle.shop_browse.specs.Fitting.{keys_of}
 use Rattle.shop_browse.specs.declared.names.Names.{Names}
 use Rattle.shop_browse.specs.Names.{ReadsNamed, FollowsNamed}
@@ -42,9 +42,9 @@ FollowsWelcome (Some number) c drawn zero reads = reads ≡ []
 FollowsWelcome (Some number) c drawn (suc zero) reads = keys_of reads ≡ Customer number ∷ drawn ∷ []
 FollowsWelcome (Some number) c drawn (suc (suc more)) reads = ReadsKnown number c drawn reads
 
--- the number of items was read first
+-- the number of items was read before
 abbrev pub FollowsHome : Option ℕ → Ask → ℕ → List ReadOf → Type 0
-FollowsHome number ask = FollowsCount (λ items. FollowsWelcome number ask.index.now (drawn_key ask.draw items))
+FollowsHome number ask = HasCount (λ items. FollowsWelcome number ask.index.now (drawn_key ask.draw items))
 
 -- the page for a customer or for anyone, with a promotion of these items
 unfoldable pub home_in : Names → ℕ → IdsAsked → Option CustomerRow → List ℕ → Page

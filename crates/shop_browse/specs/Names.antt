@@ -5,6 +5,7 @@ use Rattle.shop_model.specs.declared.author.Author.{Author}
 use Rattle.shop_model.specs.declared.tables.Tables.{Tables}
 use Rattle.shop_model.specs.lists.Catalogues.{Catalogue, Naming}
 use Rattle.shop_model.specs.rows.Lookups.{row_numbered, title_of}
+use Rattle.shop_model.specs.rows.Sound.{Has}
 use Rattle.shop_history.specs.declared.keys.Key.{Key}
 use Rattle.shop_history.specs.declared.keys.Key.TheVariants as key
 use Rattle.shop_history.specs.declared.keys.Row.{Row}
@@ -55,6 +56,10 @@ HaveTitles t names ids = All (λ id. title_in names id ≡ title_of t id) ids
 -- the keys of the labels of those of these items that a catalogue doesn't have
 abbrev pub label_keys : Catalogue → List ℕ → List Key
 label_keys c ids = map key.Label (filter (λ id. not (is_some (row_numbered c.items id))) ids)
+
+-- in a shop with so many items none of these has a label to be read
+abbrev pub NoneUnread : Catalogue → ℕ → List ℕ → Type 0
+NoneUnread c count ids = All (Has count) ids → label_keys c ids ≡ []
 
 -- the row of a key was read, and behind it the labels of the items that it names and the catalogue doesn't have
 pub record ReadsNamed (c : Catalogue) (named : Row → List ℕ) (k : Key) (reads : List ReadOf) : Type 0 where

@@ -2,6 +2,7 @@
 //! makes the attempt of what the interaction decides by them, whose page is in the draft that it lends.
 ghost use Rattle.std.specs.Prelude.{◌≡◌, ◌∷◌, [], List, ℕ, None, IfOk};
 ghost use Rattle.shop_model.specs.declared.requests.Request.{Request};
+ghost use Rattle.shop_history.specs.declared.keys.Key.TheVariants as key_kinds;
 ghost use Rattle.shop_attempt.specs.declared.attempts.ReadOf.{ReadOf};
 ghost use Rattle.shop_attempt.specs.Marks.{Looks};
 ghost use Rattle.shop_browse.specs.declared.attempted.Ask.{Ask};
@@ -64,14 +65,24 @@ pub trait Interaction {
         ensures next { IfOk result (spec.IsNext (follows self.new ask.now) (request self.new) ask.now round reads.now draft.new) };
 }
 
-/// Reads one row more.
-fn read_one<St: Store>(store: &mut St, reads: &mut Vec<ReadOf>, key: Key) -> Result<(), Memory>
+/// Reads one row more; what is known of the key is known where it is called.
+#[inline(always)]
+fn add_read<St: Store>(store: &mut St, reads: &mut Vec<ReadOf>, key: Key) -> Result<(), Memory>
     ensures looks { Looks St.seat St.marked store.old store.new }
     ensures reads { IfOk result (λ _. spec.AddsReads (St.seat store.old) (St.seat store.new) (key ∷ []) reads.old.items reads.new.items) }
 {
     let read = read(store, key)?;
     reads.push(read)?;
     Ok(())
+}
+
+/// Reads one row more.
+#[inline(never)]
+fn read_one<St: Store>(store: &mut St, reads: &mut Vec<ReadOf>, key: Key) -> Result<(), Memory>
+    ensures looks { Looks St.seat St.marked store.old store.new }
+    ensures reads { IfOk result (λ _. spec.AddsReads (St.seat store.old) (St.seat store.new) (key ∷ []) reads.old.items reads.new.items) }
+{
+    add_read(store, reads, key)
 }
 
 /// Reads rows, one after another.
@@ -104,21 +115,41 @@ fn looked(ask: &Ask, reads: Vec<ReadOf>) -> Attempt
     }
 }
 
-/// An attempt at an interaction, which writes its page into the draft.
-pub fn attempt_by<St: Store, I: Interaction + Drop>(
+/// The reads before the first round: that of the number of items, or none.
+#[inline(always)]
+fn first_reads<St: Store>(
+    alloc: Global,
+    store: &mut St,
+    counted: bool,
+) -> Result<Vec<ReadOf>, Memory>
+    ensures looks { Looks St.seat St.marked store.old store.new }
+    ensures reads { IfOk result (λ reads. spec.AddsReads (St.seat store.old) (St.seat store.new) (spec.first_keys counted) [] reads.items) }
+{
+    let mut reads = Vec::with_capacity(alloc, READS)?;
+    if counted {
+        add_read(store, &mut reads, Key::Count)?;
+    }
+    Ok(reads)
+}
+
+/// An attempt at an interaction, which writes its page into the draft; the number of items is read first
+/// where it goes by that.
+#[inline(always)]
+fn attempt_from<St: Store, I: Interaction + Drop>(
     alloc: Global,
     store: &mut St,
     ask: &Ask,
+    counted: bool,
     interaction: I,
     draft: &mut Draft,
 ) -> Attempted
-    requires begins { I.follows interaction ask.now 0 [] }
+    requires begins { spec.Begins (spec.first_keys counted) (I.follows interaction ask.now) (I.request interaction) ask.now }
     requires suits { Suits ask.now (St.seat store.old) }
     ensures looks { Looks St.seat St.marked store.old store.new }
     ensures attempted { AttemptedAs (St.seat store.old) (St.seat store.new) (asking_of ask.now (I.request interaction)) draft.new result }
 {
     let mut interaction = interaction;
-    let Ok(mut reads) = Vec::with_capacity(alloc, READS) else {
+    let Ok(mut reads) = first_reads(alloc, store, counted) else {
         return Attempted::Memory;
     };
     for round in 0..ROUNDS {
@@ -150,4 +181,36 @@ pub fn attempt_by<St: Store, I: Interaction + Drop>(
         }
     }
     unreachable!()
+}
+
+/// An attempt at an interaction, which writes its page into the draft.
+pub fn attempt_by<St: Store, I: Interaction + Drop>(
+    alloc: Global,
+    store: &mut St,
+    ask: &Ask,
+    interaction: I,
+    draft: &mut Draft,
+) -> Attempted
+    requires begins { I.follows interaction ask.now 0 [] }
+    requires suits { Suits ask.now (St.seat store.old) }
+    ensures looks { Looks St.seat St.marked store.old store.new }
+    ensures attempted { AttemptedAs (St.seat store.old) (St.seat store.new) (asking_of ask.now (I.request interaction)) draft.new result }
+{
+    attempt_from(alloc, store, ask, false, interaction, draft)
+}
+
+/// An attempt at an interaction that goes by the number of items, which is read before its first round.
+pub fn attempt_counted<St: Store, I: Interaction + Drop>(
+    alloc: Global,
+    store: &mut St,
+    ask: &Ask,
+    interaction: I,
+    draft: &mut Draft,
+) -> Attempted
+    requires begins { spec.Begins (key_kinds.Count ∷ []) (I.follows interaction ask.now) (I.request interaction) ask.now }
+    requires suits { Suits ask.now (St.seat store.old) }
+    ensures looks { Looks St.seat St.marked store.old store.new }
+    ensures attempted { AttemptedAs (St.seat store.old) (St.seat store.new) (asking_of ask.now (I.request interaction)) draft.new result }
+{
+    attempt_from(alloc, store, ask, true, interaction, draft)
 }

@@ -12,7 +12,7 @@ ghost use Rattle.shop_browse.specs.Attempts.{AttemptedAs, Suits, asking_of};
 ghost use Rattle.shop_browse.specs.Home.{FollowsHome, IsGreeting, home_in};
 
 use crate::counting::{count_in, drawn_key};
-use crate::driver::{Interaction, Next, attempt_by};
+use crate::driver::{Interaction, Next, attempt_counted};
 use crate::names::{Names, unread_labels};
 use crate::related::{promotion, related_in};
 use crate::{Ask, Attempted};
@@ -115,10 +115,10 @@ fn greet(
 fn first_keys(alloc: Global, number: u32, drawn: Key) -> Result<Listed<Key>, Memory>
     ensures { IfOk result (λ keys. keys ≡ key_kinds.Customer number ∷ drawn ∷ []) }
 {
-    let mut keys = Listed::with_capacity(alloc, 2)?;
+    let mut keys = Vec::with_capacity(alloc, 2)?;
     keys.push(Key::Customer(number))?;
     keys.push(drawn)?;
-    Ok(keys)
+    Ok(Listed::from_vec(keys))
 }
 
 impl<'a> Interaction for &'a Home {
@@ -136,18 +136,15 @@ impl<'a> Interaction for &'a Home {
         reads: &[ReadOf],
         draft: &mut Draft,
     ) -> Result<Next, Memory> {
-        if round == 0 {
-            return Ok(Next::ReadOne(Key::Count));
-        }
         let items = count_in(&reads[0]);
         match self.ids.c {
             None => {
-                if round == 1 {
+                if round == 0 {
                     return Ok(Next::ReadOne(drawn_key(ask.draw, items)));
                 }
                 let related = related_in(&reads[1].row);
-                if round == 2 {
-                    if let Some(keys) = unread_labels(alloc, ask.index, related)? {
+                if round == 1 {
+                    if let Some(keys) = unread_labels(alloc, ask.index, items, related)? {
                         return Ok(Next::Read(keys));
                     }
                 }
@@ -159,13 +156,13 @@ impl<'a> Interaction for &'a Home {
                 Ok(Next::Show)
             }
             Some(number) => {
-                if round == 1 {
+                if round == 0 {
                     let drawn = drawn_key(ask.draw, items);
                     return Ok(Next::Read(first_keys(alloc, number, drawn)?));
                 }
                 let related = related_in(&reads[2].row);
-                if round == 2 {
-                    if let Some(keys) = unread_labels(alloc, ask.index, related)? {
+                if round == 1 {
+                    if let Some(keys) = unread_labels(alloc, ask.index, items, related)? {
                         return Ok(Next::Read(keys));
                     }
                 }
@@ -192,5 +189,5 @@ pub fn home<St: Store>(
     ensures looks { Looks St.seat St.marked store.old store.new }
     ensures attempted { AttemptedAs (St.seat store.old) (St.seat store.new) (asking_of ask.now (Request.Home asked.now)) draft.new result }
 {
-    attempt_by(alloc, store, ask, asked, draft)
+    attempt_counted(alloc, store, ask, asked, draft)
 }

@@ -23,7 +23,7 @@ pub mod subject_lists;
 
 pub use attempted::{Ask, Attempted};
 pub use counting::count_in;
-pub use driver::{Interaction, Next, attempt_by};
+pub use driver::{Interaction, Next, attempt_by, attempt_counted};
 pub use lists::write_list;
 pub use names::{Names, unread_labels};
 pub use related::promotion;

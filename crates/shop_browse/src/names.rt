@@ -96,7 +96,7 @@ pub(crate) fn label_keys(alloc: Global, index: &Index, items: &[u32]) -> Result<
 }
 
 /// The same, if there is any.
-pub fn unread_labels(
+pub(crate) fn some_labels(
     alloc: Global,
     index: &Index,
     items: &[u32],
@@ -109,4 +109,20 @@ pub fn unread_labels(
     } else {
         Ok(Some(keys))
     }
+}
+
+/// The same, of items of a shop with so many: where an index has the last of these, it has them all.
+#[inline(always)]
+pub fn unread_labels(
+    alloc: Global,
+    index: &Index,
+    count: u32,
+    items: &[u32],
+) -> Result<Option<Listed<Key>>, Memory>
+    ensures { IfOk result (λ unread. MatchOption unread (spec.NoneUnread index.now count items.now) (λ keys. keys ≡ spec.label_keys index.now items.now)) }
+{
+    if index.details(count).is_some() {
+        return Ok(None);
+    }
+    some_labels(alloc, index, items)
 }

@@ -1,4 +1,4 @@
-ghost use Rattle.std.specs.Prelude.{◌≡◌, ◌∷◌, ◌↔◌, ℕ, IfOk, IsTrue};
+ghost use Rattle.std.specs.Prelude.{◌≡◌, ◌∷◌, [], ◌↔◌, ℕ, IfOk, IsTrue};
 ghost use Rattle.shop_history.specs.declared.keys.Key.TheVariants as key_kinds;
 ghost use Rattle.shop_attempt.specs.Marks.{Looks};
 ghost use Rattle.shop_draft.specs.declared.draft.Draft.{Draft};
@@ -109,6 +109,18 @@ fn last_keys(
     Ok(keys)
 }
 
+/// Whether an index has the items of all these lines.
+fn has_items(index: &Index, lines: &[Line]) -> bool
+    ensures { IsTrue result → label_keys index.now (items_of lines.now) ≡ [] }
+{
+    for line in lines {
+        if index.details(line.item).is_none() {
+            return false;
+        }
+    }
+    true
+}
+
 /// What is done next by what was read of the order and of its address.
 fn by_address(
     alloc: Global,
@@ -123,6 +135,9 @@ fn by_address(
         (Row::Order(order), Row::Address(address)) => {
             let country = address.get().text.country;
             let lines = order.get().lines.as_slice();
+            if has_items(index, lines) {
+                return Ok(Next::ReadOne(Key::Country(country)));
+            }
             Ok(Next::Read(last_keys(alloc, index, country, lines)?))
         }
         _ => Ok(Next::Never),

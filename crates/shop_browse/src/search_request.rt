@@ -9,13 +9,12 @@ ghost use Rattle.shop_browse.specs.Attempts.{AttemptedAs, Suits, asking_of};
 ghost use Rattle.shop_browse.specs.SearchRequest.{FollowsSearch, search_in};
 
 use crate::counting::{count_in, drawn_key};
-use crate::driver::{Interaction, Next, attempt_by};
+use crate::driver::{Interaction, Next, attempt_counted};
 use crate::names::{Names, unread_labels};
 use crate::related::{promotion, related_in};
 use crate::{Ask, Attempted};
 use shop_attempt::{ReadOf, Store};
 use shop_draft::{Draft, PageIds, Template};
-use shop_history::Key;
 use shop_model::{Request, SearchRequest};
 use shop_text::Memory;
 use std::alloc::Global;
@@ -59,16 +58,13 @@ impl<'a> Interaction for &'a SearchRequest {
         reads: &[ReadOf],
         draft: &mut Draft,
     ) -> Result<Next, Memory> {
+        let items = count_in(&reads[0]);
         if round == 0 {
-            return Ok(Next::ReadOne(Key::Count));
-        }
-        if round == 1 {
-            let items = count_in(&reads[0]);
             return Ok(Next::ReadOne(drawn_key(ask.draw, items)));
         }
         let related = related_in(&reads[1].row);
-        if round == 2 {
-            if let Some(keys) = unread_labels(alloc, ask.index, related)? {
+        if round == 1 {
+            if let Some(keys) = unread_labels(alloc, ask.index, items, related)? {
                 return Ok(Next::Read(keys));
             }
         }
@@ -94,5 +90,5 @@ pub fn search_request<St: Store>(
     ensures looks { Looks St.seat St.marked store.old store.new }
     ensures attempted { AttemptedAs (St.seat store.old) (St.seat store.new) (asking_of ask.now (Request.SearchRequest asked.now)) draft.new result }
 {
-    attempt_by(alloc, store, ask, asked, draft)
+    attempt_counted(alloc, store, ask, asked, draft)
 }

@@ -12,7 +12,7 @@ ghost use Rattle.shop_browse.specs.SearchResults.{FollowsFound};
 use crate::driver::{Interaction, Next, attempt_by};
 use crate::lines::{items_in, lines_of};
 use crate::lists::finish;
-use crate::names::{Names, unread_labels};
+use crate::names::{Names, some_labels};
 use crate::{Ask, Attempted};
 use shop_attempt::{ReadOf, Store};
 use shop_cache::ListLines;
@@ -112,7 +112,7 @@ impl<'a> Interaction for &'a SearchResults {
         }
         let added = items_in(&reads[0].row);
         if round == 1 {
-            if let Some(keys) = unread_labels(alloc, ask.index, added)? {
+            if let Some(keys) = some_labels(alloc, ask.index, added)? {
                 return Ok(Next::Read(keys));
             }
         }

@@ -1,5 +1,5 @@
 -- What a number of items that was read says of the tables, and of the item that a word draws of so many.
-use Rattle.std.proofs.Common.{◌≡◌, ℕ, zero, suc, ◌+◌, ◌%◌, ◌≤◌, List, [], ◌∷◌, ◌++◌, length, take, get_or, All, refl, sym, ◌∙◌, ap, subst, arith}
+use Rattle.std.proofs.Common.{◌≡◌, ℕ, suc, ◌+◌, ◌%◌, ◌≤◌, List, [], ◌∷◌, ◌++◌, length, take, get_or, All, refl, sym, ◌∙◌, ap, subst}
 use Rattle.std.proofs.lemmas.List.Elements.{All-nil, All-cons}
 use Rattle.shop_model.specs.declared.requests.Request.{Request}
 use Rattle.shop_model.specs.declared.tables.Tables.{Tables}
@@ -13,8 +13,8 @@ use Rattle.shop_history.specs.Logs.{history, tables}
 use Rattle.shop_attempt.specs.declared.attempts.ReadOf.{ReadOf}
 use Rattle.shop_attempt.specs.Reads.{AreTrue}
 use Rattle.shop_browse.specs.declared.attempted.Ask.{Ask}
-use Rattle.shop_browse.specs.Counting.{IsNumber, number_in, HasCount, FollowsCount}
-use Rattle.shop_browse.specs.Driver.{keys_of, Fits, AreSeen, WereRead, AsksFor}
+use Rattle.shop_browse.specs.Counting.{IsNumber, number_in, HasCount}
+use Rattle.shop_browse.specs.Driver.{keys_of, Fits, AreSeen, WereRead, AsksFor, Begins}
 use Rattle.shop_browse.specs.Footprints.{InFootprint, WasShown, IsDrawn}
 
 -- what a key showed that was read
@@ -55,49 +55,36 @@ were_behind c opening log read rest were = record { named = were.named; sound = 
 
 -- the rounds
 
--- the first round reads the number of items
-pub asks_count : (follows : ℕ → ℕ → List ReadOf → Type 0) (request : Request) (ask : Ask) (round : ℕ) (reads : List ReadOf) → ((items : ℕ) → follows items 0 []) → round ≡ 0 → FollowsCount follows round reads
-    → ((opening : Tables) (log : List Entry) → InFootprint opening log request ask.draw key.Count) → AsksFor (FollowsCount follows) request ask round reads (key.Count ∷ [])
-asks_count follows request ask round reads begins is asked about = record {
-  few = omega (arith, is);
-  goes_on = λ more of.
-      let none : reads ≡ [] = subst (λ r. FollowsCount follows r reads) is asked in
-      subst (λ r. FollowsCount follows (suc r) (reads ++ more)) (sym is) (subst (λ (l : List ReadOf). FollowsCount follows 1 (l ++ more)) (sym none) (only more of));
-  may = λ opening log were.
+-- the number of items is read before them
+pub begins_counted : (follows : ℕ → ℕ → List ReadOf → Type 0) (request : Request) (ask : Ask) → ((items : ℕ) → follows items 0 []) → ((opening : Tables) (log : List Entry) → InFootprint opening log request ask.draw key.Count)
+    → Begins (key.Count ∷ []) (HasCount follows) request ask
+begins_counted follows request ask begins about = record {
+  may = λ opening log.
       let P : Key → Type 0 = InFootprint opening log request ask.draw in
       All-cons P key.Count [] (about opening log) (All-nil P);
+  goes_on = only;
 }
   where
-    only : (more : List ReadOf) → keys_of more ≡ key.Count ∷ [] → HasCount follows 0 more
+    only : (reads : List ReadOf) → keys_of reads ≡ key.Count ∷ [] → HasCount follows 0 reads
     only [] of = absurd cc
     only (count ∷ []) of = record { count = count; rest = []; reads_are = refl; key_is = cc; rest_are = begins (number_in count.row) }
-    only (count ∷ other ∷ more) of = absurd cc
-
--- after it the number was read
-pub record Counted (follows : ℕ → ℕ → List ReadOf → Type 0) (round : ℕ) (reads : List ReadOf) : Type 0 where
-  pub before : ℕ
-  pub round_is : round ≡ suc before
-  pub has : HasCount follows before reads
-
-pub counted : (follows : ℕ → ℕ → List ReadOf → Type 0) (round : ℕ) (reads : List ReadOf) → (round ≡ 0 → ⊥) → FollowsCount follows round reads → Counted follows round reads
-counted follows zero reads some asked = absurd (some refl)
-counted follows (suc round) reads some asked = record { before = round; round_is = refl; has = asked }
+    only (count ∷ other ∷ reads) of = absurd cc
 
 module _ (follows : ℕ → ℕ → List ReadOf → Type 0) (round : ℕ) (reads : List ReadOf) (has : HasCount follows round reads) where
-  -- a later round goes on behind it
-  pub asks_behind : (request : Request) (ask : Ask) (later : ℕ) (keys : List Key) → later ≡ suc round → later ≤ 5
+  -- the next round goes on behind it
+  pub asks_behind : (request : Request) (ask : Ask) (keys : List Key) → round ≤ 5
       → ((more : List ReadOf) → keys_of more ≡ keys → follows (number_in has.count.row) (suc round) (has.rest ++ more))
       → ((opening : Tables) (log : List Entry) → WereRead ask.index.now opening log (has.count ∷ has.rest) → All (InFootprint opening log request ask.draw) keys)
-      → AsksFor (FollowsCount follows) request ask later reads keys
-  asks_behind request ask later keys is few goes may = record {
+      → AsksFor (HasCount follows) request ask round reads keys
+  asks_behind request ask keys few goes may = record {
     few = few;
-    goes_on = λ more of. subst (λ r. FollowsCount follows (suc r) (reads ++ more)) (sym is) (record {
+    goes_on = λ more of. record {
       count = has.count;
       rest = has.rest ++ more;
       reads_are = ap (λ (l : List ReadOf). l ++ more) has.reads_are;
       key_is = has.key_is;
       rest_are = goes more of;
-    });
+    };
     may = λ opening log were. may opening log (subst (WereRead ask.index.now opening log) has.reads_are were);
   }
 

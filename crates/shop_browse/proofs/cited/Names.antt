@@ -112,7 +112,7 @@ each_label c Q (id ∷ ids) all = by (row_numbered c.items id) refl (λ others. 
     by (Some item) at more all = All-cons P id ids (λ none. absurd cc) (more all)
 
 -- where none of these labels is to be read
-pub none_unread : (unread : Option (List Key)) (keys : List Key) → MatchOption unread (keys ≡ []) (λ some. some ≡ keys) → ((some : List Key) → unread ≡ Some some → ⊥) → keys ≡ []
+pub none_unread : {None : Type 0} (unread : Option (List Key)) (keys : List Key) → MatchOption unread None (λ some. some ≡ keys) → ((some : List Key) → unread ≡ Some some → ⊥) → None
 none_unread None keys is none = is
 none_unread (Some some) keys is none = absurd (none some refl)
 

@@ -1,5 +1,5 @@
 use Rattle.shop_browse.proofs.DriverLemmas.{read_adds}
-use Rattle.shop_browse.proofs.driver.read_one.Goals as goal
+use Rattle.shop_browse.proofs.driver.add_read.Goals as goal
 
 pub returns : goal.returns
 returns g c = record {

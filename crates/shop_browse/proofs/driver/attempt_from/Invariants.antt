@@ -1,6 +1,6 @@
 use Rattle.std.proofs.Common.{◌≡◌}
 use Rattle.shop_browse.proofs.DriverLemmas.{HasGone}
-use Rattle.shop_browse.proofs.driver.attempt_by.Given as goal
+use Rattle.shop_browse.proofs.driver.attempt_from.Given as goal
 
 -- the reads so far are those that the interaction asked for in so many rounds, and it is about the same request
 abbrev pub invariant-loop-round : goal.invariant-loop-round
