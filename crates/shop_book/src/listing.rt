@@ -78,6 +78,7 @@ impl Listing {
     }
 
     /// Lists the items of a subject anew; answers whether these are others than before. Takes no memory.
+    #[inline(always)]
     pub(crate) fn renew<L: Lister>(&mut self, lister: &L, subject: Subject) -> bool
         ensures list { self.new ≡ L.listed lister.now subject }
         ensures same { result ≡ false → self.new ≡ self.old }

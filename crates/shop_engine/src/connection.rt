@@ -4,18 +4,19 @@ ghost use Rattle.std.specs.Vec.{vec_len, vec_capacity};
 ghost use Rattle.shop_edges.specs.Causes.{Rose};
 ghost use Rattle.shop_http.specs.Requests.{asked};
 ghost use Rattle.shop_engine.specs.Answering.{GivesUpBy, Makes, MessageBy};
-ghost use Rattle.shop_engine.specs.Connections.{MakesRefusal, RefusalAs};
+ghost use Rattle.shop_engine.specs.Connections.{MakesRefusal, RefusalAs, RefusesReading};
 ghost use Rattle.shop_engine.specs.Failures.{RoseBy, failures};
 ghost use Rattle.shop_engine.specs.Serving.{ServedBy};
 ghost use Rattle.shop_engine.specs.Stores.{AreFreshBy, Keeps};
 
-use crate::report::{Ended, Point, Report, plain_point};
+use crate::replies::refusal_reply;
+use crate::report::{Answered, Ended, Point, Report, plain_point};
 use crate::worker::Worker;
 use shop_attempt::Store;
 use shop_edges::{Clock, Gateway, Sink, Source, write_all};
 use shop_http::{Gather, Message, Next, next_message};
 use shop_model::Refusal;
-use shop_pages::Form;
+use shop_pages::{Form, Reply};
 use shop_text::Memory;
 use std::alloc::Global;
 
@@ -187,4 +188,17 @@ pub fn refuse_next<St: Store>(
     worker.refuse(refusal, CLOSING)?;
     points.push(plain_point())?;
     Ok(())
+}
+
+/// Refuses what is read as no message: the page that tells why, which is the last reply of its connection.
+pub fn refuse_reading(alloc: Global, refusal: Refusal) -> Answered
+    ensures { RefusesReading refusal result }
+{
+    let Ok(mut reply) = Reply::new(alloc) else {
+        return Answered::Memory;
+    };
+    let Ok(()) = refusal_reply(&mut reply, refusal, CLOSING) else {
+        return Answered::Memory;
+    };
+    Answered::Reply(reply.into_text(), plain_point())
 }

@@ -116,11 +116,10 @@ module _ (asked : AdminAsked) (ask : Ask) (round : ℕ) (reads : List ReadOf) (h
     item_stops Never stops = λ t fits. stops (row_numbered t.items asked.item) (book_shown t fits)
 
     -- what each buyer bought is asked for
-    pub asks_bought : (later : ℕ) → later ≡ suc round → later ≡ 2 → (keys : List Key) → keys ≡ map key.Bought (customers_in first.buyers.row)
-        → AsksFor (FollowsAdmin asked ask) (AdminConfirm asked) ask later reads keys
-    asks_bought later round_is is keys are =
-        let one : round ≡ 1 = omega (arith, round_is, is) in
-        asks_behind follows round reads has (AdminConfirm asked) ask later keys round_is (omega (arith, is))
+    pub asks_bought : round ≡ 1 → (keys : List Key) → keys ≡ map key.Bought (customers_in first.buyers.row)
+        → AsksFor (FollowsAdmin asked ask) (AdminConfirm asked) ask round reads keys
+    asks_bought one keys are =
+        asks_behind follows round reads has (AdminConfirm asked) ask keys (omega (arith, one))
         (λ more of.
         let none : first.more ≡ []
         = none_more asked.item first.book first.buyers first.more (ap keys_of (sym first.reads_are) ∙ subst (λ r. follows items r has.rest) one has.rest_are) in
@@ -191,13 +190,12 @@ module _ (asked : AdminAsked) (ask : Ask) (round : ℕ) (reads : List ReadOf) (h
         )
 
     -- the labels of the related items are asked for
-    pub asks_labels : AreSeen ask.index.now reads → AreAmong (number_in has.count.row) asked.item bought.second.bought → (later : ℕ) → later ≡ suc round → later ≡ 3
-        → (keys : List Key) → keys ≡ label_keys ask.index.now (five_by asked.item (number_in has.count.row) bought.second.bought) → AsksFor (FollowsAdmin asked ask) (AdminConfirm asked) ask later reads keys
-    asks_labels seen among later round_is is keys are =
+    pub asks_labels : AreSeen ask.index.now reads → AreAmong (number_in has.count.row) asked.item bought.second.bought → round ≡ 2
+        → (keys : List Key) → keys ≡ label_keys ask.index.now (five_by asked.item (number_in has.count.row) bought.second.bought) → AsksFor (FollowsAdmin asked ask) (AdminConfirm asked) ask round reads keys
+    asks_labels seen among two keys are =
         let first : HasFirst asked.item has.rest = bought.second.first in
-        let two : round ≡ 2 = omega (arith, round_is, is) in
         let five : List ℕ = five_by asked.item items bought.second.bought in
-        asks_behind follows round reads has (AdminConfirm asked) ask later keys round_is (omega (arith, is))
+        asks_behind follows round reads has (AdminConfirm asked) ask keys (omega (arith, two))
         (λ more of.
         let before : first.more ≡ bought.second.bought = bought.second.more_are ∙ ap (λ (l : List ReadOf). bought.second.bought ++ l) (bought.none two) ∙ append-nil bought.second.bought in
         subst (λ r. follows items (suc r) (has.rest ++ more)) (sym two) (record {

@@ -15,6 +15,7 @@ use Rattle.shop_model.specs.rows.Lookups.{row_numbered}
 use Rattle.shop_model.specs.rows.Rows.{ItemRow}
 use Rattle.shop_model.specs.rows.Sound.{Has}
 use Rattle.shop_model.specs.trade.Mending.{mended_item, with_mended}
+use Rattle.shop_model.proofs.cited.RelatedFive.{related_there}
 use Rattle.shop_history.specs.declared.acts.Act.TheVariants.{Admin}
 use Rattle.shop_history.specs.declared.acts.Drawn.{Drawn}
 use Rattle.shop_history.specs.declared.keys.Key.TheVariants as key
@@ -38,7 +39,7 @@ use Rattle.shop_browse.specs.declared.names.Names.{Names}
 use Rattle.shop_browse.specs.Attempts.{Becomes}
 use Rattle.shop_browse.specs.Counting.{HasCount, number_in}
 use Rattle.shop_browse.specs.Driver.{keys_of, Fits, IsNext}
-use Rattle.shop_browse.specs.Names.{HaveTitles, label_keys}
+use Rattle.shop_browse.specs.Names.{HaveTitles, NoneUnread, label_keys}
 use Rattle.shop_browse.proofs.cited.Counting.{size_read}
 use Rattle.shop_browse.proofs.cited.Names.{titles_are}
 use Rattle.shop_order.specs.AdminConfirm.{customers_in, totals_in, lists_in, five_by, FollowsMending, FollowsAdmin, AreAmong, AreRelated, mended_row, published_at, IsChangeTo}
@@ -153,19 +154,20 @@ module _ (asked : AdminAsked) (ask : Ask) (round : ℕ) (reads : List ReadOf) (h
     }
 
     -- the titles of the related items are known
-    titles_here : (round ≡ 2 → label_keys ask.index.now (five_by asked.item items sold.second.bought) ≡ []) → (names : Names) → names.index.now ≡ ask.index.now → names.labels.now ≡ sold.second.labels
+    titles_here : (round ≡ 2 → NoneUnread ask.index.now items (five_by asked.item items sold.second.bought)) → (names : Names) → names.index.now ≡ ask.index.now → names.labels.now ≡ sold.second.labels
         → HaveTitles t names (five_by asked.item items sold.second.bought)
     titles_here none names index_is labels_are =
         let five : List ℕ = five_by asked.item items sold.second.bought in
+        let six : 6 ≤ items = subst (λ n. 6 ≤ n) (sym size) fits.sound.six in
         let all : keys_of sold.second.labels ≡ label_keys ask.index.now five
         = ⊎_elim
-        (λ (is : round ≡ 2). ap keys_of (sold.none is) ∙ sym (none is))
+        (λ (is : round ≡ 2). ap keys_of (sold.none is) ∙ sym (none is (related_there (lists_in sold.second.bought) asked.item items all_among.there six)))
         (λ (later : round ≡ 2 → ⊥). sold.labels_are later)
         (cases_eq round 2) in
         titles_are names t (fits.named ∙ sym index_is) (subst (Shows t) (sym labels_are) sold_shown.1) five
         (ap keys_of labels_are ∙ all ∙ ap (λ (c : Catalogue). label_keys c five) (sym index_is))
 
-  pub changed : (round ≡ 2 → label_keys ask.index.now (five_by asked.item (number_in has.count.row) sold.second.bought) ≡ []) → (names : Names) → names.index.now ≡ ask.index.now → names.labels.now ≡ sold.second.labels
+  pub changed : (round ≡ 2 → NoneUnread ask.index.now (number_in has.count.row) (five_by asked.item (number_in has.count.row) sold.second.bought)) → (names : Names) → names.index.now ≡ ask.index.now → names.labels.now ≡ sold.second.labels
       → (five : List ℕ) → five ≡ five_by asked.item (number_in has.count.row) sold.second.bought → (draft : Draft) (next : Next) → IsChangeTo names asked (mended_row asked five book) draft next
       → (later : ℕ) → IsNext (FollowsAdmin asked ask) (AdminConfirm asked) ask later reads draft next
   changed none names index_is labels_are five five_is draft next change later =

@@ -126,7 +126,7 @@ behind_is (Some id) (Some read) items is = refl
 
 -- the items of the lines that are kept are asked for
 pub asks_items : (asked : CartAsked) (kept : Option (List (ℕ × ℕ))) (ask : Ask) (count : ReadOf) (cart : Option ReadOf) (lines : List (ℕ × ℕ)) (keys : List Key) → count.key ≡ key.Count → IsNumber count.row → IsNamed asked.ids.cart cart
-    → kept ≡ Some lines → MakesOfCart (number_in count.row) asked ask.draw cart lines → keys ≡ map (λ l. key.Item l.0) lines → AsksFor (FollowsCart asked kept ask) (CartRequest asked) ask 2 (count ∷ cart_reads cart) keys
+    → kept ≡ Some lines → MakesOfCart (number_in count.row) asked ask.draw cart lines → keys ≡ map (λ l. key.Item l.0) lines → AsksFor (FollowsCart asked kept ask) (CartRequest asked) ask 1 (count ∷ cart_reads cart) keys
 asks_items asked kept ask count cart lines keys count_is number named is makes are = record {
   few = omega arith;
   goes_on = λ more of.
@@ -154,13 +154,13 @@ asks_items asked kept ask count cart lines keys count_is number named is makes a
 
 -- reads by the rounds
 
--- in the third round the number of items was read, and the cart, if one is named
+-- in the second round the number of items was read, and the cart, if one is named
 pub record HasCart (asked : CartAsked) (count : ReadOf) (cart : Option ReadOf) (reads : List ReadOf) : Type 0 where
   pub reads_are : reads ≡ count ∷ cart_reads cart
   pub count_is : count.key ≡ key.Count
   pub named : IsNamed asked.ids.cart cart
 
-module _ (asked : CartAsked) (kept : Option (List (ℕ × ℕ))) (ask : Ask) (round : ℕ) (reads : List ReadOf) (count : ReadOf) (is : round ≡ 2) (follows : FollowsCart asked kept ask round reads) (first : count ≡ get_or reads 0 count) where
+module _ (asked : CartAsked) (kept : Option (List (ℕ × ℕ))) (ask : Ask) (round : ℕ) (reads : List ReadOf) (count : ReadOf) (is : round ≡ 1) (follows : FollowsCart asked kept ask round reads) (first : count ≡ get_or reads 0 count) where
   second : HasCount (FollowsLines asked kept ask.draw) 1 reads
   second = subst (λ r. FollowsCart asked kept ask r reads) is follows
 
@@ -188,11 +188,11 @@ module _ (asked : CartAsked) (kept : Option (List (ℕ × ℕ))) (ask : Ask) (ro
       }
 
 -- what is done next by these
-pub next_for : (asked : CartAsked) (kept : Option (List (ℕ × ℕ))) (ask : Ask) (round : ℕ) (reads : List ReadOf) (count : ReadOf) (cart : Option ReadOf) (draft : Draft) (next : Next) → round ≡ 2 → HasCart asked count cart reads
+pub next_for : (asked : CartAsked) (kept : Option (List (ℕ × ℕ))) (ask : Ask) (round : ℕ) (reads : List ReadOf) (count : ReadOf) (cart : Option ReadOf) (draft : Draft) (next : Next) → round ≡ 1 → HasCart asked count cart reads
     → IsNextFor asked kept ask count cart draft next → IsNext (FollowsCart asked kept ask) (CartRequest asked) ask round reads draft next
 next_for asked kept ask round reads count cart draft next is has next_is =
     subst (λ n. IsNext (FollowsCart asked kept ask) (CartRequest asked) ask n reads draft next) (sym is)
-    (subst (λ (l : List ReadOf). IsNext (FollowsCart asked kept ask) (CartRequest asked) ask 2 l draft next) (sym has.reads_are) next_is)
+    (subst (λ (l : List ReadOf). IsNext (FollowsCart asked kept ask) (CartRequest asked) ask 1 l draft next) (sym has.reads_are) next_is)
 
 -- later the number of items, the cart and the items of the lines were read
 pub record HasAll (asked : CartAsked) (kept : Option (List (ℕ × ℕ))) (draw : ℕ) (reads : List ReadOf) : Type 0 where
@@ -202,11 +202,10 @@ pub record HasAll (asked : CartAsked) (kept : Option (List (ℕ × ℕ))) (draw 
   pub count_is : count.key ≡ key.Count
   pub items : HasItems (number_in count.row) asked kept draw rest
 
-pub has_all : (asked : CartAsked) (kept : Option (List (ℕ × ℕ))) (ask : Ask) (round : ℕ) (reads : List ReadOf) → (round ≡ 0 → ⊥) → (round ≡ 1 → ⊥) → (round ≡ 2 → ⊥) → FollowsCart asked kept ask round reads → HasAll asked kept ask.draw reads
-has_all asked kept ask zero reads some more most follows = absurd (some refl)
-has_all asked kept ask (suc zero) reads some more most follows = absurd (more refl)
-has_all asked kept ask (suc (suc zero)) reads some more most follows = absurd (most refl)
-has_all asked kept ask (suc (suc (suc round))) reads some more most follows =
+pub has_all : (asked : CartAsked) (kept : Option (List (ℕ × ℕ))) (ask : Ask) (round : ℕ) (reads : List ReadOf) → (round ≡ 0 → ⊥) → (round ≡ 1 → ⊥) → FollowsCart asked kept ask round reads → HasAll asked kept ask.draw reads
+has_all asked kept ask zero reads some more follows = absurd (some refl)
+has_all asked kept ask (suc zero) reads some more follows = absurd (more refl)
+has_all asked kept ask (suc (suc round)) reads some more follows =
     record { count = follows.count; rest = follows.rest; reads_are = follows.reads_are; count_is = follows.key_is; items = follows.rest_are }
 
 -- where a cart is named, one was read

@@ -22,7 +22,7 @@ use Rattle.shop_attempt.specs.declared.attempts.Write.TheVariants.{PutItem}
 use Rattle.shop_browse.specs.declared.attempted.Ask.{Ask}
 use Rattle.shop_browse.specs.declared.driver.Next.{Next}
 use Rattle.shop_browse.specs.declared.driver.Next.TheVariants.{Change}
-use Rattle.shop_browse.specs.Counting.{FollowsCount}
+use Rattle.shop_browse.specs.Counting.{HasCount}
 use Rattle.shop_browse.specs.Driver.{keys_of}
 use Rattle.shop_browse.specs.declared.names.Names.{Names}
 use Rattle.shop_browse.specs.Names.{HaveTitles, label_keys}
@@ -78,9 +78,9 @@ FollowsMending c item items (suc zero) reads = keys_of reads ≡ first_keys item
 FollowsMending c item items (suc (suc zero)) reads = (has : HasSecond item reads) × (has.labels ≡ [])
 FollowsMending c item items (suc (suc (suc more))) reads = HasThird c item items reads
 
--- the number of items was read first
+-- the number of items was read before
 abbrev pub FollowsAdmin : AdminAsked → Ask → ℕ → List ReadOf → Type 0
-FollowsAdmin asked ask = FollowsCount (FollowsMending ask.index.now asked.item)
+FollowsAdmin asked ask = HasCount (FollowsMending ask.index.now asked.item)
 
 -- of so many items this one is there, and so are those that were bought
 pub record AreAmong (items item : ℕ) (bought : List ReadOf) : Type 0 where

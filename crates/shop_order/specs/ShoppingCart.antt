@@ -20,7 +20,7 @@ use Rattle.shop_pricing.specs.Bounds.{AreLines}
 use Rattle.shop_browse.specs.declared.attempted.Ask.{Ask}
 use Rattle.shop_browse.specs.declared.driver.Next.{Next}
 use Rattle.shop_browse.specs.declared.driver.Next.TheVariants.{Change}
-use Rattle.shop_browse.specs.Counting.{FollowsCount}
+use Rattle.shop_browse.specs.Counting.{HasCount}
 use Rattle.shop_browse.specs.Driver.{keys_of, IsNext}
 use Rattle.shop_order.specs.declared.shopping_cart.Begun.{Begun}
 use Rattle.shop_order.specs.declared.shopping_cart.Begun.TheVariants.{Lines, Refused, Never}
@@ -107,14 +107,14 @@ FollowsLines asked kept draw items zero reads = reads ≡ []
 FollowsLines asked kept draw items (suc zero) reads = keys_of reads ≡ cart_keys asked.ids.cart
 FollowsLines asked kept draw items (suc (suc more)) reads = HasItems items asked kept draw reads
 
--- the number of items was read first
+-- the number of items was read before
 abbrev pub FollowsCart : CartAsked → Option (List (ℕ × ℕ)) → Ask → ℕ → List ReadOf → Type 0
-FollowsCart asked kept ask = FollowsCount (FollowsLines asked kept ask.draw)
+FollowsCart asked kept ask = HasCount (FollowsLines asked kept ask.draw)
 
 -- what is done next, where the number of items was read, and the cart, if one is named
 abbrev pub IsNextFor : CartAsked → Option (List (ℕ × ℕ)) → Ask → ReadOf → Option ReadOf → Draft → Next → Type 0
 IsNextFor asked kept ask count cart draft next =
-    IsNext (FollowsCart asked kept ask) (CartRequest asked) ask 2 (count ∷ cart_reads cart) draft next
+    IsNext (FollowsCart asked kept ask) (CartRequest asked) ask 1 (count ∷ cart_reads cart) draft next
 
 -- the write of a cart with these lines: the one that is named, or a new one
 abbrev pub put_lines : Option ℕ → List (ℕ × ℕ) → List Write

@@ -13,7 +13,9 @@ use crate::mending::mended;
 use crate::related::{bought_keys, customers_in, related};
 use crate::stops::{Stop, stopped};
 use shop_attempt::{ReadOf, Store, Write};
-use shop_browse::{Ask, Attempted, Interaction, Names, Next, attempt_by, count_in, unread_labels};
+use shop_browse::{
+    Ask, Attempted, Interaction, Names, Next, attempt_counted, count_in, unread_labels,
+};
 use shop_draft::Draft;
 use shop_history::{Act, Key, Row};
 use shop_model::{AdminConfirm, Item, Refusal, Request};
@@ -23,10 +25,10 @@ use std::alloc::Global;
 fn first_keys(alloc: Global, item: u32) -> Result<Listed<Key>, Memory>
     ensures { IfOk result (λ keys. keys ≡ spec.first_keys item) }
 {
-    let mut keys = Listed::with_capacity(alloc, 2)?;
+    let mut keys = Vec::with_capacity(alloc, 2)?;
     keys.push(Key::Item(item))?;
     keys.push(Key::Buyers(item))?;
-    Ok(keys)
+    Ok(Listed::from_vec(keys))
 }
 
 /// The item in a row.
@@ -42,6 +44,7 @@ fn item_in(row: &Row) -> Result<&Item, Stop>
 }
 
 /// The change of an item, by those that are related to it, whose page it writes.
+#[inline(always)]
 fn change(
     alloc: Global,
     names: Names,
@@ -80,11 +83,8 @@ impl<'a> Interaction for Mending<'a> {
         reads: &[ReadOf],
         draft: &mut Draft,
     ) -> Result<Next, Memory> {
-        if round == 0 {
-            return Ok(Next::ReadOne(Key::Count));
-        }
         let asked = self.asked.get();
-        if round == 1 {
+        if round == 0 {
             return Ok(Next::Read(first_keys(alloc, asked.item)?));
         }
         let item = match item_in(&reads[1].row) {
@@ -92,15 +92,16 @@ impl<'a> Interaction for Mending<'a> {
             Err(stop) => return stopped(draft, stop),
         };
         let customers = customers_in(&reads[2].row);
-        if round == 2 {
+        if round == 1 {
             return Ok(Next::Read(bought_keys(alloc, customers)?));
         }
         let (bought, labels) = reads[3..].split_at(customers.len());
-        let Some(related) = related(alloc, count_in(&reads[0]), asked.item, bought)? else {
+        let items = count_in(&reads[0]);
+        let Some(related) = related(alloc, items, asked.item, bought)? else {
             return Ok(Next::Never);
         };
-        if round == 3 {
-            if let Some(keys) = unread_labels(alloc, ask.index, &related)? {
+        if round == 2 {
+            if let Some(keys) = unread_labels(alloc, ask.index, items, &related)? {
                 return Ok(Next::Read(keys));
             }
         }
@@ -125,5 +126,5 @@ pub fn admin_confirm<St: Store>(
     ensures looks { Looks St.seat St.marked store.old store.new }
     ensures attempted { AttemptedAs (St.seat store.old) (St.seat store.new) (asking_of ask.now (Request.AdminConfirm asked.now)) draft.new result }
 {
-    attempt_by(alloc, store, ask, Mending { asked }, draft)
+    attempt_counted(alloc, store, ask, Mending { asked }, draft)
 }

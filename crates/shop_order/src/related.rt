@@ -24,11 +24,11 @@ pub(crate) fn customers_in(row: &Row) -> &[u32]
 pub(crate) fn bought_keys(alloc: Global, customers: &[u32]) -> Result<Listed<Key>, Memory>
     ensures { IfOk result (λ keys. keys ≡ map key_kinds.Bought customers.now) }
 {
-    let mut keys = Listed::with_capacity(alloc, customers.len())?;
+    let mut keys = Vec::with_capacity(alloc, customers.len())?;
     for customer in customers {
         keys.push(Key::Bought(*customer))?;
     }
-    Ok(keys)
+    Ok(Listed::from_vec(keys))
 }
 
 /// The items in a row, with how many units of each; another row has none.

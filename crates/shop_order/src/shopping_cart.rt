@@ -9,7 +9,7 @@ ghost use Rattle.shop_order.specs.ShoppingCart as spec;
 
 use crate::page::write_page;
 use shop_attempt::{ReadOf, Store, Write};
-use shop_browse::{Ask, Attempted, Interaction, Next, attempt_by, count_in};
+use shop_browse::{Ask, Attempted, Interaction, Next, attempt_counted, count_in};
 use shop_draft::{Draft, refusal as write_refusal};
 use shop_history::{Act, Key, Row};
 use shop_model::{Cart, CartRequest, Refusal, Request};
@@ -204,17 +204,14 @@ impl<'a> Interaction for ShoppingCart<'a> {
         reads: &[ReadOf],
         draft: &mut Draft,
     ) -> Result<Next, Memory> {
-        if round == 0 {
-            return Ok(Next::ReadOne(Key::Count));
-        }
         let asked = self.asked;
-        if round == 1 {
+        if round == 0 {
             return Ok(match asked.ids.cart {
                 Some(id) => Next::ReadOne(Key::Cart(id)),
                 None => Next::Read(Listed::new(alloc)),
             });
         }
-        if round == 2 {
+        if round == 1 {
             let count = &reads[0];
             let kept = &mut self.lines;
             return match asked.ids.cart {
@@ -243,7 +240,7 @@ pub fn shopping_cart<St: Store>(
     ensures looks { Looks St.seat St.marked store.old store.new }
     ensures attempted { AttemptedAs (St.seat store.old) (St.seat store.new) (asking_of ask.now (Request.CartRequest asked.now)) draft.new result }
 {
-    attempt_by(
+    attempt_counted(
         alloc,
         store,
         ask,

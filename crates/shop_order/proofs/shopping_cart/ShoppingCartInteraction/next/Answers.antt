@@ -1,21 +1,13 @@
-use Rattle.std.proofs.Common.{◌≡◌, List, drop, length, take, ◌-◌, Some, refl, sym, ◌∙◌, ap, subst, inl}
+use Rattle.std.proofs.Common.{◌≡◌, List, drop, length, take, ◌-◌, Some, refl, sym, ◌∙◌, ap, subst}
 use Rattle.std.proofs.lemmas.Result.{IfOk-weaker}
 use Rattle.shop_model.specs.declared.requests.Request.TheVariants.{CartRequest}
 use Rattle.shop_model.specs.asked.CartAsked.{CartAsked}
 use Rattle.shop_attempt.specs.declared.attempts.ReadOf.{ReadOf}
 use Rattle.shop_browse.specs.Driver.{AreSeen}
-use Rattle.shop_browse.proofs.cited.Counting.{asks_count}
 use Rattle.shop_browse.proofs.cited.Reads.{behind}
-use Rattle.shop_order.specs.ShoppingCart.{behind_cart, FollowsLines, IsChangeTo}
+use Rattle.shop_order.specs.ShoppingCart.{behind_cart, IsChangeTo}
 use Rattle.shop_order.proofs.ShoppingCartLemmas.{fit_seen, has_none, has_cart, next_for, has_all, changed}
 use Rattle.shop_order.proofs.shopping_cart.ShoppingCartInteraction.next.Goals as goal
-
-pub returns-then-round-eq0-clause-next : goal.returns-then-round-eq0-clause-next
-returns-then-round-eq0-clause-next c =
-    let asked = c.args.self.now.asked.now in
-    let ask = c.args.ask.now in
-    asks_count (FollowsLines asked c.args.self.now.lines ask.draw) (CartRequest asked) ask c.args.round c.args.reads.now (λ items. refl) c.if-round-eq0.true c.requires.follows
-    (λ opening log. inl (inl (inl refl)))
 
 pub by_cart-requires-in-Some-cart-clause-fit : goal.by_cart-requires-in-Some-cart-clause-fit
 by_cart-requires-in-Some-cart-clause-fit c =
@@ -23,7 +15,7 @@ by_cart-requires-in-Some-cart-clause-fit c =
     let ask = c.args.ask.now in
     let cart = c.index-reads-1.result in
     let named = ap (λ (a : CartAsked). a.ids.cart) (sym c.asked.view_is) ∙ c.in-Some-cart.is in
-    let has = has_cart asked _ ask c.args.round c.args.reads.now c.index-reads-0.result c.if-round-eq2.true c.requires.follows c.index-reads-0.is c.in-Some-cart.field-0 cart named c.index-reads-1.is in
+    let has = has_cart asked _ ask c.args.round c.args.reads.now c.index-reads-0.result c.if-round-eq1.true c.requires.follows c.index-reads-0.is c.in-Some-cart.field-0 cart named c.index-reads-1.is in
     fit_seen asked ask (Some cart) has.named (subst (AreSeen ask.index.now) has.reads_are c.requires.seen).1
 
 pub returns-in-None-cart-clause-next : goal.returns-in-None-cart-clause-next
@@ -32,8 +24,8 @@ returns-in-None-cart-clause-next c =
     let ask = c.args.ask.now in
     let reads = c.args.reads.now in
     let named = ap (λ (a : CartAsked). a.ids.cart) (sym c.asked.view_is) ∙ c.in-None-cart.is in
-    let has = has_none asked _ ask c.args.round reads c.index-reads-0.result c.if-round-eq2.true c.requires.follows c.index-reads-0.is named in
-    IfOk-weaker c.by_cart.result _ _ (λ next is. next_for asked c.by_cart.new.kept ask c.args.round reads _ _ c.by_cart.new.draft next c.if-round-eq2.true has is) c.by_cart.ensures
+    let has = has_none asked _ ask c.args.round reads c.index-reads-0.result c.if-round-eq1.true c.requires.follows c.index-reads-0.is named in
+    IfOk-weaker c.by_cart.result _ _ (λ next is. next_for asked c.by_cart.new.kept ask c.args.round reads _ _ c.by_cart.new.draft next c.if-round-eq1.true has is) c.by_cart.ensures
 
 pub returns-in-Some-cart-clause-next : goal.returns-in-Some-cart-clause-next
 returns-in-Some-cart-clause-next c =
@@ -41,9 +33,9 @@ returns-in-Some-cart-clause-next c =
     let ask = c.args.ask.now in
     let reads = c.args.reads.now in
     let named = ap (λ (a : CartAsked). a.ids.cart) (sym c.asked.view_is) ∙ c.in-Some-cart.is in
-    let has = has_cart asked _ ask c.args.round reads c.index-reads-0.result c.if-round-eq2.true c.requires.follows c.index-reads-0.is c.in-Some-cart.field-0 c.index-reads-1.result named c.index-reads-1.is in
+    let has = has_cart asked _ ask c.args.round reads c.index-reads-0.result c.if-round-eq1.true c.requires.follows c.index-reads-0.is c.in-Some-cart.field-0 c.index-reads-1.result named c.index-reads-1.is in
     IfOk-weaker c.by_cart-in-Some-cart.result _ _
-    (λ next is. next_for asked c.by_cart-in-Some-cart.new.kept ask c.args.round reads _ _ c.by_cart-in-Some-cart.new.draft next c.if-round-eq2.true has is) c.by_cart-in-Some-cart.ensures
+    (λ next is. next_for asked c.by_cart-in-Some-cart.new.kept ask c.args.round reads _ _ c.by_cart-in-Some-cart.new.draft next c.if-round-eq1.true has is) c.by_cart-in-Some-cart.ensures
 
 pub returns-clause-next : goal.returns-clause-next
 returns-clause-next c =
@@ -52,7 +44,7 @@ returns-clause-next c =
     let reads = c.args.reads.now in
     let lines = c.in-Some-take.lines in
     let draft = c.change.new.draft in
-    let has = has_all asked _ ask c.args.round reads c.if-round-eq0.false c.if-round-eq1.false c.if-round-eq2.false c.requires.follows in
+    let has = has_all asked _ ask c.args.round reads c.if-round-eq0.false c.if-round-eq1.false c.requires.follows in
     let items =
     c.behind_cart-items.ensures
     ∙ ap (λ (a : CartAsked). behind_cart a.ids.cart (take (length reads - 1) (drop 1 reads))) c.asked.view_is
