@@ -107,6 +107,14 @@ all_read start now keys left old new some none = record {
   valid = some.valid;
 }
 
+-- two rows more were read
+pub adds_two : (start middle now : Seat) (one other : Key) (old reads new : List ReadOf) → Looked start middle → Looked middle now → AddsReads start middle (one ∷ []) old reads → AddsReads middle now (other ∷ []) reads new
+    → AddsReads start now (one ∷ other ∷ []) old new
+adds_two start middle now one other old reads new first second before after =
+    let keys : List Key = one ∷ other ∷ [] in
+    let half = one_more start start middle keys keys (other ∷ []) one old old reads (none_read start keys keys old refl) refl (looked_self start) first before in
+    all_read start now keys [] old new (one_more start middle now keys (other ∷ []) [] other old reads new half refl first second after) refl
+
 -- a draft with the ids that a request hands on
 pub with_ids : (draft : Draft) (page : IdsAsked → Page) (given : PageIds) (ids : IdsAsked) → ((drawn : Drawn) → ids_at drawn given ≡ ids)
     → Shows draft (λ drawn. page (ids_at drawn given)) → Shows draft (λ drawn. page ids)

@@ -1,5 +1,5 @@
 -- Labels that were read, and the keys of those that are to be read, one by one.
-use Rattle.std.proofs.Common.{◌≡◌, ◌≢◌, ◌≤◌, ℕ, Bool, true, false, not, cond, IsTrue, List, [], ◌∷◌, ◌++◌, length, map, filter, All, Option, Some, None, is_some, MatchOption, refl, arith}
+use Rattle.std.proofs.Common.{◌≡◌, ◌≢◌, ◌≤◌, ℕ, Bool, true, false, not, cond, IsTrue, List, [], ◌∷◌, ◌++◌, length, map, filter, Option, Some, None, is_some, MatchOption, refl, arith}
 use Rattle.std.proofs.lemmas.List.Elements.{All-head, All-tail}
 use Rattle.shop_model.specs.declared.item.ItemDetails.{ItemDetails}
 use Rattle.shop_model.specs.lists.Catalogues.{Catalogue, Naming}

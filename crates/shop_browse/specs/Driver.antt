@@ -21,7 +21,7 @@ use Rattle.shop_attempt.specs.Reads.{AreTrue, AreReadSince}
 use Rattle.shop_attempt.specs.Seats.{Seat, IsSeat}
 use Rattle.shop_browse.specs.declared.attempted.Ask.{Ask}
 use Rattle.shop_browse.specs.declared.driver.Next.{Next}
-use Rattle.shop_browse.specs.declared.driver.Next.TheVariants.{ReadOne, Read, Show, ShowList, Change, Pay, Never}
+use Rattle.shop_browse.specs.declared.driver.Next.TheVariants.{ReadOne, ReadTwo, Read, Show, ShowList, Change, Pay, Never}
 use Rattle.shop_browse.specs.Attempts.{Becomes, IsShownBy, IsFree}
 use Rattle.shop_browse.specs.Baskets.{IsBasketFor}
 pub use Rattle.shop_browse.specs.Fitting.{keys_of, Fits, AreSeen}
@@ -76,6 +76,7 @@ IsPageFor request ask reads draft = (t : Tables) → Fits ask.index.now t reads 
 -- what is done next is right in whichever tables fit what was read, with the draft as it is then
 abbrev pub IsNext : (ℕ → List ReadOf → Type 0) → Request → Ask → ℕ → List ReadOf → Draft → Next → Type 0
 IsNext follows request ask round reads draft (ReadOne key) = AsksFor follows request ask round reads (key ∷ [])
+IsNext follows request ask round reads draft (ReadTwo one other) = AsksFor follows request ask round reads (one ∷ other ∷ [])
 IsNext follows request ask round reads draft (Read keys) = AsksFor follows request ask round reads keys
 IsNext follows request ask round reads draft Show = (key_asked request ≡ None) × IsPageFor request ask reads draft
 IsNext follows request ask round reads draft (ShowList lines) =

@@ -28,6 +28,8 @@ const READS: usize = 11;
 pub enum Next {
     /// It reads this row.
     ReadOne(Key),
+    /// It reads these two rows.
+    ReadTwo(Key, Key),
     /// It reads these rows.
     Read(Listed<Key>),
     /// It shows the page that it has written, and changes nothing.
@@ -83,6 +85,20 @@ fn read_one<St: Store>(store: &mut St, reads: &mut Vec<ReadOf>, key: Key) -> Res
     ensures reads { IfOk result (λ _. spec.AddsReads (St.seat store.old) (St.seat store.new) (key ∷ []) reads.old.items reads.new.items) }
 {
     add_read(store, reads, key)
+}
+
+/// Reads two rows more.
+fn read_two<St: Store>(
+    store: &mut St,
+    reads: &mut Vec<ReadOf>,
+    one: Key,
+    other: Key,
+) -> Result<(), Memory>
+    ensures looks { Looks St.seat St.marked store.old store.new }
+    ensures reads { IfOk result (λ _. spec.AddsReads (St.seat store.old) (St.seat store.new) (one ∷ other ∷ []) reads.old.items reads.new.items) }
+{
+    read_one(store, reads, one)?;
+    read_one(store, reads, other)
 }
 
 /// Reads rows, one after another.
@@ -159,6 +175,11 @@ fn attempt_from<St: Store, I: Interaction + Drop>(
         match next {
             Next::ReadOne(key) => {
                 let Ok(()) = read_one(store, &mut reads, key) else {
+                    return Attempted::Memory;
+                };
+            }
+            Next::ReadTwo(one, other) => {
+                let Ok(()) = read_two(store, &mut reads, one, other) else {
                     return Attempted::Memory;
                 };
             }

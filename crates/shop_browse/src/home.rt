@@ -1,11 +1,10 @@
-ghost use Rattle.std.specs.Prelude.{◌≡◌, ◌∷◌, [], Some, IfOk, OnOk, codes, option_copied};
+ghost use Rattle.std.specs.Prelude.{Some, IfOk, OnOk, codes, option_copied};
 ghost use Rattle.std.specs.List.{flat_map};
 ghost use Rattle.shop_model.specs.pages.PageText.{block_line};
 ghost use Rattle.shop_model.specs.declared.page.Block.TheVariants as block;
 ghost use Rattle.shop_draft.specs.Drawing.{ids_at};
 ghost use Rattle.shop_draft.specs.Pages.{Shows};
 ghost use Rattle.shop_draft.specs.Templates.{Adds, Says};
-ghost use Rattle.shop_history.specs.declared.keys.Key.TheVariants as key_kinds;
 ghost use Rattle.shop_model.specs.pages.Home as spec;
 ghost use Rattle.shop_attempt.specs.Marks.{Looks};
 ghost use Rattle.shop_browse.specs.Attempts.{AttemptedAs, Suits, asking_of};
@@ -20,7 +19,7 @@ use shop_attempt::{ReadOf, Store};
 use shop_draft::{Draft, PageIds, Template, refusal};
 use shop_history::{Key, Row};
 use shop_model::{Customer, Home, IdsAsked, Refusal, Request, Subject};
-use shop_text::{Listed, Memory};
+use shop_text::Memory;
 use std::alloc::Global;
 
 /// Adds the heading.
@@ -111,16 +110,6 @@ fn greet(
     }
 }
 
-/// The keys of a customer and of the drawn item.
-fn first_keys(alloc: Global, number: u32, drawn: Key) -> Result<Listed<Key>, Memory>
-    ensures { IfOk result (λ keys. keys ≡ key_kinds.Customer number ∷ drawn ∷ []) }
-{
-    let mut keys = Vec::with_capacity(alloc, 2)?;
-    keys.push(Key::Customer(number))?;
-    keys.push(drawn)?;
-    Ok(Listed::from_vec(keys))
-}
-
 impl<'a> Interaction for &'a Home {
     ghost use Rattle.shop_model.specs.declared.requests.Request.TheVariants as request_kinds;
 
@@ -158,7 +147,7 @@ impl<'a> Interaction for &'a Home {
             Some(number) => {
                 if round == 0 {
                     let drawn = drawn_key(ask.draw, items);
-                    return Ok(Next::Read(first_keys(alloc, number, drawn)?));
+                    return Ok(Next::ReadTwo(Key::Customer(number), drawn));
                 }
                 let related = related_in(&reads[2].row);
                 if round == 1 {

@@ -22,15 +22,6 @@ use shop_model::{AdminConfirm, Item, Refusal, Request};
 use shop_text::{Listed, Memory, Shared};
 use std::alloc::Global;
 
-fn first_keys(alloc: Global, item: u32) -> Result<Listed<Key>, Memory>
-    ensures { IfOk result (λ keys. keys ≡ spec.first_keys item) }
-{
-    let mut keys = Vec::with_capacity(alloc, 2)?;
-    keys.push(Key::Item(item))?;
-    keys.push(Key::Buyers(item))?;
-    Ok(Listed::from_vec(keys))
-}
-
 /// The item in a row.
 fn item_in(row: &Row) -> Result<&Item, Stop>
     ensures ok { IfOk result (λ item. row.now ≡ row_kinds.Item item.now) }
@@ -85,7 +76,7 @@ impl<'a> Interaction for Mending<'a> {
     ) -> Result<Next, Memory> {
         let asked = self.asked.get();
         if round == 0 {
-            return Ok(Next::Read(first_keys(alloc, asked.item)?));
+            return Ok(Next::ReadTwo(Key::Item(asked.item), Key::Buyers(asked.item)));
         }
         let item = match item_in(&reads[1].row) {
             Ok(item) => item,

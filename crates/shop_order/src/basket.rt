@@ -58,14 +58,14 @@ pub(crate) fn begin<'a>(
 pub(crate) fn first_keys(alloc: Global, asked: &BuyConfirm) -> Result<Listed<Key>, Memory>
     ensures { IfOk result (λ keys. keys ≡ spec.first_keys asked.now) }
 {
-    let mut keys = Listed::with_capacity(alloc, 3)?;
+    let mut keys = Vec::with_capacity(alloc, 3)?;
     keys.push(Key::Customer(asked.c))?;
     keys.push(Key::Cart(asked.cart))?;
     if let Some(text) = &asked.address {
         let text = text.copy(alloc)?;
         keys.push(Key::SameAddress(Boxed::new(alloc, text)?))?;
     }
-    Ok(keys)
+    Ok(Listed::from_vec(keys))
 }
 
 /// The customer's address comes first, where no text is given, and then the items of the lines.
@@ -76,13 +76,13 @@ pub(crate) fn second_keys(
 ) -> Result<Listed<Key>, Memory>
     ensures { IfOk result (λ keys. keys ≡ spec.second_keys text.now basket.now.customer.now.address basket.now.lines.now) }
 {
-    let mut keys = Listed::with_capacity(alloc, basket.lines.len().saturating_add(1))?;
+    let mut keys = Vec::with_capacity(alloc, basket.lines.len().saturating_add(1))?;
     if text.is_none() {
         let customer = basket.customer;
         keys.push(Key::Address(customer.address))?;
     }
     add_item_keys(&mut keys, basket.lines)?;
-    Ok(keys)
+    Ok(Listed::from_vec(keys))
 }
 
 /// Whether a row tells where a purchase ships to.

@@ -96,25 +96,16 @@ fn buyer_key(alloc: Global, buyer: &Buyer) -> Result<Key, Memory>
     }
 }
 
-fn first_keys(alloc: Global, asked: &BuyRequest) -> Result<Listed<Key>, Memory>
-    ensures { IfOk result (λ keys. keys ≡ spec.first_keys asked.now) }
-{
-    let mut keys = Listed::with_capacity(alloc, 2)?;
-    keys.push(Key::Cart(asked.cart))?;
-    keys.push(buyer_key(alloc, &asked.buyer)?)?;
-    Ok(keys)
-}
-
 /// The customer who returns comes first, and then the items of the lines.
 fn second_keys(alloc: Global, buyer: &Buyer, begun: &Begun) -> Result<Listed<Key>, Memory>
     ensures { IfOk result (λ keys. keys ≡ spec.second_keys buyer.now begun.now.found begun.now.lines.now) }
 {
-    let mut keys = Listed::with_capacity(alloc, begun.lines.len().saturating_add(1))?;
+    let mut keys = Vec::with_capacity(alloc, begun.lines.len().saturating_add(1))?;
     if let (Buyer::Returning(_), Some(id)) = (buyer, begun.found) {
         keys.push(Key::Customer(id))?;
     }
     add_item_keys(&mut keys, begun.lines)?;
-    Ok(keys)
+    Ok(Listed::from_vec(keys))
 }
 
 /// What is done for a customer who returns: after the password, where the customer lives is read, and then
@@ -236,7 +227,8 @@ impl<'a> Interaction for Buying<'a> {
     ) -> Result<Next, Memory> {
         let asked = self.asked;
         if round == 0 {
-            return Ok(Next::Read(first_keys(alloc, asked)?));
+            let buyer = buyer_key(alloc, &asked.buyer)?;
+            return Ok(Next::ReadTwo(Key::Cart(asked.cart), buyer));
         }
         let begun = match begin(asked, &reads[0], &reads[1]) {
             Ok(begun) => begun,

@@ -121,8 +121,8 @@ fn change(
 }
 
 /// Adds the keys of the items of lines.
-pub(crate) fn add_item_keys(keys: &mut Listed<Key>, lines: &[(u32, u32)]) -> Result<(), Memory>
-    ensures { OnOk result (keys.new ≡ keys.old ++ map (λ l. key_kinds.Item l.0) lines.now) }
+pub(crate) fn add_item_keys(keys: &mut Vec<Key>, lines: &[(u32, u32)]) -> Result<(), Memory>
+    ensures { OnOk result (keys.new.items ≡ keys.old.items ++ map (λ l. key_kinds.Item l.0) lines.now) }
 {
     for line in lines {
         keys.push(Key::Item(line.0))?;
@@ -134,9 +134,9 @@ pub(crate) fn add_item_keys(keys: &mut Listed<Key>, lines: &[(u32, u32)]) -> Res
 fn item_keys(alloc: Global, lines: &[(u32, u32)]) -> Result<Listed<Key>, Memory>
     ensures { IfOk result (λ keys. keys ≡ map (λ l. key_kinds.Item l.0) lines.now) }
 {
-    let mut keys = Listed::with_capacity(alloc, lines.len())?;
+    let mut keys = Vec::with_capacity(alloc, lines.len())?;
     add_item_keys(&mut keys, lines)?;
-    Ok(keys)
+    Ok(Listed::from_vec(keys))
 }
 
 /// What is done next by what was read of the number of items and of the cart; the lines that are left are kept.

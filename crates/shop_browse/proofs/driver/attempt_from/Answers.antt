@@ -1,14 +1,17 @@
 use Rattle.std.proofs.Common.{◌+◌, [], ◌∷◌, Some, sym, ◌∙◌, subst}
 use Rattle.shop_attempt.specs.declared.attempts.Attempt.{Attempt}
 use Rattle.shop_attempt.proofs.cited.Marks.{looks_then}
-use Rattle.shop_browse.specs.declared.driver.Next.TheVariants.{ReadOne, Read, Show, ShowList, Change, Pay, Never}
+use Rattle.shop_browse.specs.declared.driver.Next.TheVariants.{ReadOne, ReadTwo, Read, Show, ShowList, Change, Pay, Never}
 use Rattle.shop_browse.specs.Attempts.{IsPlain, IsList, IsPayable, IsContradiction, asking_of}
 use Rattle.shop_browse.proofs.DriverLemmas.{HasGone, one_round, next_is, showed, listed, changed, payable, never_shown}
 use Rattle.shop_browse.proofs.driver.attempt_from.Goals as goal
-use Rattle.shop_browse.proofs.driver.attempt_from.Goals.{in-ReadOne+in-Ok-read_one, in-Read+in-Ok-read_all}
+use Rattle.shop_browse.proofs.driver.attempt_from.Goals.{in-ReadOne+in-Ok-read_one, in-ReadTwo+in-Ok-read_two, in-Read+in-Ok-read_all}
 
 pub returns-in_default-read_one-clause-looks : goal.returns-in_default-read_one-clause-looks
 returns-in_default-read_one-clause-looks g c = looks_then c.loop-round.invariant.gone.looks c.read_one.ensures.looks
+
+pub returns-in_default-read_two-clause-looks : goal.returns-in_default-read_two-clause-looks
+returns-in_default-read_two-clause-looks g c = looks_then c.loop-round.invariant.gone.looks c.read_two.ensures.looks
 
 pub returns-in_default-read_all-clause-looks : goal.returns-in_default-read_all-clause-looks
 returns-in_default-read_all-clause-looks g c = looks_then c.loop-round.invariant.gone.looks c.read_all.ensures.looks
@@ -98,6 +101,11 @@ loop-round-preserved g c =
             rw (w.store-is, w.reads-is)
             (one_round seat marked first old w.read_one.new.store _ follows request ask round reads w.read_one.new.reads.items (w.in-ReadOne.key ∷ []) c.loop-round.invariant.gone next
             w.read_one.ensures.looks w.in-Ok-read_one.ensures.reads)
+        | in-ReadTwo+in-Ok-read_two w ↦
+            let next = next_is follows _ request ask round reads _ draft _ (ReadTwo w.in-ReadTwo.one w.in-ReadTwo.other) same c.deref.ensures.value w.in-ReadTwo.is c.in-Ok-next.ensures.next in
+            rw (w.store-is, w.reads-is)
+            (one_round seat marked first old w.read_two.new.store _ follows request ask round reads w.read_two.new.reads.items (w.in-ReadTwo.one ∷ w.in-ReadTwo.other ∷ []) c.loop-round.invariant.gone next
+            w.read_two.ensures.looks w.in-Ok-read_two.ensures.reads)
         | in-Read+in-Ok-read_all w ↦
             let next = next_is follows _ request ask round reads _ draft _ (Read w.in-Read.keys) same c.deref.ensures.value w.in-Read.is c.in-Ok-next.ensures.next in
             rw (w.store-is, w.reads-is)

@@ -84,9 +84,9 @@ returns-then-round-eq0-2-clause-next c =
     let first : c.index-reads-0.result ≡ has.count = count_first follows c.args.round reads has c.index-reads-0.result c.index-reads-0.is in
     let key_is : c.drawn_key-drawn.result ≡ drawn_key ask.draw (number_in has.count.row)
     = c.drawn_key-drawn.ensures ∙ ap (drawn_key ask.draw) (c.count_in-items.ensures.number ∙ ap (λ (r : ReadOf). number_in r.row) first) in
-    subst (λ n. AsksFor (FollowsHome n ask) (Home asked) ask c.args.round reads c.in_ok-first_keys-in-Some.field-0) (sym c.in-Some.is)
-    (asks_both asked number c.in-Some.is ask c.args.round reads has c.if-round-eq0-2.true c.requires.seen c.in_ok-first_keys-in-Some.field-0
-    (c.in_ok-first_keys-in-Some.ensures ∙ ap (λ (k : Key). Customer number ∷ k ∷ []) key_is))
+    subst (λ n. AsksFor (FollowsHome n ask) (Home asked) ask c.args.round reads (Customer number ∷ c.drawn_key-drawn.result ∷ [])) (sym c.in-Some.is)
+    (asks_both asked number c.in-Some.is ask c.args.round reads has c.if-round-eq0-2.true c.requires.seen (Customer number ∷ c.drawn_key-drawn.result ∷ [])
+    (ap (λ (k : Key). Customer number ∷ k ∷ []) key_is))
 
 pub returns-in-Some-3-clause-next : goal.returns-in-Some-3-clause-next
 returns-in-Some-3-clause-next c =
