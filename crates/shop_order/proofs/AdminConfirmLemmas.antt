@@ -5,6 +5,7 @@ use Rattle.std.proofs.Math.Seq.{take-append_seam, drop-append_seam}
 use Rattle.std.proofs.lemmas.List.{length-map}
 use Rattle.std.proofs.lemmas.List.Elements.{All-nil, All-cons, All-map, Contains-get_or}
 use Rattle.std.proofs.lemmas.List.Sums.{sum_by-le}
+use Rattle.shop_model.specs.declared.requests.Request.{Request}
 use Rattle.shop_model.specs.declared.requests.Request.TheVariants.{AdminConfirm}
 use Rattle.shop_model.specs.declared.refusal.Refusal.TheVariants.{NoItem}
 use Rattle.shop_model.specs.declared.tables.Tables.{Tables}
@@ -23,18 +24,21 @@ use Rattle.shop_history.specs.declared.keys.Row.{Row}
 use Rattle.shop_history.specs.declared.keys.Row.TheVariants as row
 use Rattle.shop_history.specs.Keys.{row_of, shown}
 use Rattle.shop_history.specs.Logs.{tables}
+use Rattle.shop_draft.specs.declared.draft.Draft.{Draft}
 use Rattle.shop_attempt.specs.declared.attempts.ReadOf.{ReadOf}
 use Rattle.shop_attempt.specs.Reads.{Shows, AreTrue}
 use Rattle.shop_browse.specs.declared.attempted.Ask.{Ask}
+use Rattle.shop_browse.specs.declared.driver.Next.{Next}
+use Rattle.shop_browse.specs.declared.driver.Next.TheVariants.{ReadOne, ReadTwo, Read}
 use Rattle.shop_browse.specs.Counting.{HasCount, number_in}
-use Rattle.shop_browse.specs.Driver.{keys_of, Fits, AreSeen, AsksFor}
+use Rattle.shop_browse.specs.Driver.{keys_of, Fits, AreSeen, AsksFor, IsNext}
 use Rattle.shop_browse.specs.Footprints.{InFootprint, IsBoughtBeside, WasShown}
 use Rattle.shop_browse.specs.Names.{label_keys}
 use Rattle.shop_browse.proofs.cited.Counting.{asks_behind, number_first, size_read, was_shown}
 use Rattle.shop_browse.proofs.cited.Names.{labels_may}
 use Rattle.shop_order.specs.declared.stops.Stop.{Stop}
 use Rattle.shop_order.specs.declared.stops.Stop.TheVariants.{Refused, Never}
-use Rattle.shop_order.specs.AdminConfirm.{customers_in, totals_in, lists_in, five_by, first_keys, HasFirst, HasSecond, FollowsMending, FollowsAdmin, AreAmong, AreFew}
+use Rattle.shop_order.specs.AdminConfirm.{customers_in, totals_in, lists_in, five_by, first_keys, Reads, HasFirst, HasSecond, FollowsMending, FollowsAdmin, AreAmong, AreFew}
 use Rattle.shop_order.specs.Stops.{StopsBy, IsStop}
 use Rattle.shop_order.proofs.RelatedLemmas.{few_buyers, few_bought}
 
@@ -86,6 +90,14 @@ few_customers : (item : ℕ) (c : Catalogue) (read : ReadOf) → read.key ≡ ke
 few_customers item c read is seen =
     let t : Tables = seen.0.0 in
     subst (λ (l : List ℕ). length l ≤ recent_orders) (ap customers_in (ap (row_of t) (sym is) ∙ seen.0.1.shows.0)) (few_buyers t seen.0.1.sound item)
+
+-- rows that may be read are read next
+pub reads_next : (follows : ℕ → List ReadOf → Type 0) (request : Request) (ask : Ask) (round : ℕ) (reads : List ReadOf) (draft : Draft) (keys : List Key) (next : Next) → AsksFor follows request ask round reads keys
+    → Reads keys next → IsNext follows request ask round reads draft next
+reads_next follows request ask round reads draft keys (ReadOne one) asks is = subst (AsksFor follows request ask round reads) is asks
+reads_next follows request ask round reads draft keys (ReadTwo one other) asks is = subst (AsksFor follows request ask round reads) is asks
+reads_next follows request ask round reads draft keys (Read list) asks is = subst (AsksFor follows request ask round reads) is asks
+reads_next follows request ask round reads draft keys _ asks is = absurd is
 
 -- a customer among the buyers that a row shows
 bought_beside : (opening : Tables) (log : List Entry) (item : ℕ) (r : Row) (customer : ℕ) → WasShown opening log (key.Buyers item) r → Contains (customers_in r) customer

@@ -21,7 +21,7 @@ use Rattle.shop_attempt.specs.declared.attempts.ReadOf.{ReadOf}
 use Rattle.shop_attempt.specs.declared.attempts.Write.TheVariants.{PutItem}
 use Rattle.shop_browse.specs.declared.attempted.Ask.{Ask}
 use Rattle.shop_browse.specs.declared.driver.Next.{Next}
-use Rattle.shop_browse.specs.declared.driver.Next.TheVariants.{Change}
+use Rattle.shop_browse.specs.declared.driver.Next.TheVariants.{ReadOne, ReadTwo, Read, Change}
 use Rattle.shop_browse.specs.Counting.{HasCount}
 use Rattle.shop_browse.specs.Driver.{keys_of}
 use Rattle.shop_browse.specs.declared.names.Names.{Names}
@@ -40,6 +40,13 @@ totals_in _ = []
 -- what buyers bought, as it was read
 abbrev pub lists_in : List ReadOf → List (List (ℕ × ℕ))
 lists_in bought = map (λ r. totals_in r.row) bought
+
+-- what is done next is to read these rows
+abbrev pub Reads : List Key → Next → Type 0
+Reads keys (ReadOne one) = keys ≡ one ∷ []
+Reads keys (ReadTwo one other) = keys ≡ one ∷ other ∷ []
+Reads keys (Read list) = keys ≡ list
+Reads keys _ = ⊥
 
 -- the keys of the first round
 abbrev pub first_keys : ℕ → List Key

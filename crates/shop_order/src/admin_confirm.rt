@@ -10,7 +10,7 @@ ghost use Rattle.shop_order.specs.Stops.{StopsBy};
 
 use crate::mended_page::write_page;
 use crate::mending::mended;
-use crate::related::{bought_keys, customers_in, related};
+use crate::related::{customers_in, read_bought, related};
 use crate::stops::{Stop, stopped};
 use shop_attempt::{ReadOf, Store, Write};
 use shop_browse::{
@@ -84,7 +84,7 @@ impl<'a> Interaction for Mending<'a> {
         };
         let customers = customers_in(&reads[2].row);
         if round == 1 {
-            return Ok(Next::Read(bought_keys(alloc, customers)?));
+            return read_bought(alloc, customers);
         }
         let (bought, labels) = reads[3..].split_at(customers.len());
         let items = count_in(&reads[0]);

@@ -46,7 +46,6 @@ fn thumb(page: &mut Template, item: &Item) -> Result<(), Memory>
 }
 
 /// Writes the page of an item, with the titles of the related ones that are known.
-#[inline(always)]
 pub(crate) fn write_page(
     draft: &mut Draft,
     names: Names,

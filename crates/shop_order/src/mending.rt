@@ -7,7 +7,6 @@ use shop_text::{Caption, Memory, Shared};
 use std::alloc::Global;
 
 /// The item as it is asked for, with those that are related to it; the settle publishes it.
-#[inline(always)]
 pub(crate) fn mended(
     alloc: Global,
     item: &Item,

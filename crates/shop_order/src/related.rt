@@ -5,6 +5,7 @@ ghost use Rattle.shop_history.specs.declared.keys.Key.TheVariants as key_kinds;
 ghost use Rattle.shop_order.specs.AdminConfirm as spec;
 
 use shop_attempt::ReadOf;
+use shop_browse::Next;
 use shop_history::{Key, Row};
 use shop_text::{Listed, Memory};
 use shop_window::five_related;
@@ -21,7 +22,7 @@ pub(crate) fn customers_in(row: &Row) -> &[u32]
 }
 
 /// The keys of what customers bought.
-pub(crate) fn bought_keys(alloc: Global, customers: &[u32]) -> Result<Listed<Key>, Memory>
+fn bought_keys(alloc: Global, customers: &[u32]) -> Result<Listed<Key>, Memory>
     ensures { IfOk result (λ keys. keys ≡ map key_kinds.Bought customers.now) }
 {
     let mut keys = Vec::with_capacity(alloc, customers.len())?;
@@ -29,6 +30,17 @@ pub(crate) fn bought_keys(alloc: Global, customers: &[u32]) -> Result<Listed<Key
         keys.push(Key::Bought(*customer))?;
     }
     Ok(Listed::from_vec(keys))
+}
+
+/// The reads of what customers bought; those of one or two need no list.
+pub(crate) fn read_bought(alloc: Global, customers: &[u32]) -> Result<Next, Memory>
+    ensures { IfOk result (spec.Reads (map key_kinds.Bought customers.now)) }
+{
+    match customers {
+        [one] => Ok(Next::ReadOne(Key::Bought(*one))),
+        [one, other] => Ok(Next::ReadTwo(Key::Bought(*one), Key::Bought(*other))),
+        _ => Ok(Next::Read(bought_keys(alloc, customers)?)),
+    }
 }
 
 /// The items in a row, with how many units of each; another row has none.

@@ -4,6 +4,7 @@ use Rattle.shop_model.specs.declared.refusal.Refusal.TheVariants.{NoItem}
 use Rattle.shop_model.specs.declared.requests.Request.TheVariants.{AdminConfirm}
 use Rattle.shop_model.specs.asked.AdminAsked.{AdminAsked}
 use Rattle.shop_model.specs.pages.Show.{check_there}
+use Rattle.shop_history.specs.declared.keys.Key.{Key}
 use Rattle.shop_history.specs.declared.keys.Key.TheVariants.{Bought}
 use Rattle.shop_history.specs.declared.keys.Row.TheVariants.{Item}
 use Rattle.shop_attempt.specs.declared.attempts.ReadOf.{ReadOf}
@@ -14,7 +15,7 @@ use Rattle.shop_browse.proofs.cited.Reads.{rest_of}
 use Rattle.shop_order.specs.AdminConfirm.{customers_in, FollowsMending, FollowsAdmin, AreFew, AreAmong, AreRelated, five_by}
 use Rattle.shop_order.specs.Stops.{StopsBy}
 use Rattle.shop_order.proofs.StopsLemmas.{stopped_next}
-use Rattle.shop_order.proofs.AdminConfirmLemmas.{has_first, has_bought, first_reads, bought_reads, item_stops, asks_bought, many_within, bought_taken, labels_left, few_sold, asks_labels}
+use Rattle.shop_order.proofs.AdminConfirmLemmas.{has_first, has_bought, first_reads, bought_reads, item_stops, reads_next, asks_bought, many_within, bought_taken, labels_left, few_sold, asks_labels}
 use Rattle.shop_order.proofs.MendingLemmas.{related_as, none_left, all_among, changed}
 use Rattle.shop_order.proofs.admin_confirm.MendingInteraction.next.Goals as goal
 use Rattle.shop_order.proofs.admin_confirm.MendingInteraction.next.Goals.{then-round-eq2+in_ok-keys+in_default-2, else-round-eq2}
@@ -41,7 +42,12 @@ returns-then-round-eq1-clause-next c =
     let first = has_first ask.index.now asked.item (number_in has.count.row) c.args.round has.rest c.if-round-eq0.false has.rest_are in
     let customers : c.customers_in-customers.result.now ≡ customers_in first.buyers.row
     = c.customers_in-customers.ensures ∙ ap (λ (l : List ReadOf). customers_in (get_or l 2 c.index-reads-2.result).row) (first_reads asked ask c.args.round reads has first) in
-    asks_bought asked ask c.args.round reads has first c.if-round-eq1.true c.in_ok-bought_keys.field-0 (c.in_ok-bought_keys.ensures ∙ ap (map Bought) customers)
+    let keys : List Key = map Bought c.customers_in-customers.result.now in
+    IfOk-weaker c.read_bought.result _ _
+    (λ next is.
+    reads_next (FollowsAdmin asked ask) (AdminConfirm asked) ask c.args.round reads c.args.draft.now keys next
+    (asks_bought asked ask c.args.round reads has first c.if-round-eq1.true keys (ap (map Bought) customers)) is)
+    c.read_bought.ensures
 
 pub split_at-requires : goal.split_at-requires
 split_at-requires c =
