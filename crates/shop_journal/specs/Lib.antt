@@ -1,0 +1,10 @@
+pub mod Pairs
+pub mod Targets
+pub mod Headers
+pub mod Payloads
+pub mod Parts
+pub mod Journals
+pub mod Runs
+pub mod Appending
+pub mod Opening
+pub mod Migrating
