@@ -21,7 +21,7 @@ use shop_text::Memory;
 use std::alloc::Global;
 
 /// The most answers of a connection.
-const ANSWERS: usize = 1_000;
+pub const ANSWERS: usize = 1_000;
 
 /// The form of the last reply.
 const CLOSING: Form = Form {
@@ -151,7 +151,7 @@ fn add_point(points: &mut Vec<Point>, point: Point)
 }
 
 /// Tells that a message is refused: writes the page, and adds a plain point.
-fn refuse<St: Store, K: Sink>(
+pub fn refuse<St: Store, K: Sink>(
     worker: &mut Worker<St>,
     sink: &mut K,
     points: &mut Vec<Point>,

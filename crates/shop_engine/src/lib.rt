@@ -12,7 +12,7 @@ mod settles;
 mod tries;
 mod worker;
 
-pub use connection::{answer_next, refuse_next, refuse_reading};
+pub use connection::{ANSWERS, answer_next, refuse, refuse_next, refuse_reading};
 pub use laws::one_order_for_a_cart;
 pub use report::{Answered, Ended, Point, PointKind, Report};
 pub use resting::Resting;

@@ -1,0 +1,7 @@
+mod Acts
+mod Adding
+mod Alone
+mod Approvals
+mod OneByOne
+mod Paying
+mod Stamps

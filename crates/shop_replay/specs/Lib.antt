@@ -1,0 +1,4 @@
+pub mod Replays
+pub mod Tries
+pub mod Approvals
+pub mod Again
