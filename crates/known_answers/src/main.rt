@@ -64,5 +64,6 @@ fn main(rt: HostRuntime) -> Result<(), Stop> {
     links::print(&rt)?;
     browsers::print(&rt)?;
     print_input(&rt, &Routes::new(rt.alloc())?)?;
-    words::print_no_words(&rt)
+    words::print_no_words(&rt)?;
+    words::print_kept(&rt)
 }

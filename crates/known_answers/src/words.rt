@@ -2,7 +2,7 @@
 use crate::answers::{answer, heading};
 use crate::stop::Stop;
 use shop_text::{Memory, Text};
-use shop_words::command_of;
+use shop_words::{command_of, is_kept, kept_command_of};
 use std::alloc::Global;
 use std::fmt::Debug;
 
@@ -21,18 +21,22 @@ pub fn print_line(rt: &(impl Print + AllocGlobal), line: &str) -> Result<(), Sto
     print_command(rt, &line, &words_of(rt.alloc(), line)?)
 }
 
-/// Prints which command words give.
+/// Prints which command words give, by the grammar for which their first one is.
 fn print_command(
     rt: &(impl Print + AllocGlobal),
     asked: &impl Debug,
     words: &[Text],
 ) -> Result<(), Stop> {
-    answer(rt, asked, &command_of(rt.alloc(), words))
+    if is_kept(words) {
+        answer(rt, asked, &kept_command_of(rt.alloc(), words))
+    } else {
+        answer(rt, asked, &command_of(rt.alloc(), words))
+    }
 }
 
-/// `session`, and a word that may be no text.
-fn two_words(alloc: Global, second: &[u8]) -> Result<Vec<Text>, Memory> {
-    let mut words = words_of(alloc, "session")?;
+/// The name of a command, and a word that may be no text.
+fn two_words(alloc: Global, command: &str, second: &[u8]) -> Result<Vec<Text>, Memory> {
+    let mut words = words_of(alloc, command)?;
     words.push(Text::copy(alloc, second)?)?;
     Ok(words)
 }
@@ -42,12 +46,64 @@ pub fn print_no_words(rt: &(impl Print + AllocGlobal)) -> Result<(), Stop> {
     print_command(rt, &"no words", &[])?;
     heading(rt, "words that are not text are bad")?;
     for second in [&b"--seed=\xff"[..], &b"\xc3"[..], &b"-\xc3"[..]] {
-        print_second(rt, second)?;
+        print_second(rt, "session", second)?;
+    }
+    heading(
+        rt,
+        "the name of a journal's file is text, and need not be ASCII",
+    )?;
+    for second in [
+        &b"--journal=\xff"[..],
+        &b"--journal=a\xc3"[..],
+        &b"--journal=\xed\xa0\x80"[..],
+        &b"--journal=\xc3\xa9"[..],
+    ] {
+        print_second(rt, "keep", second)?;
     }
     Ok(())
 }
 
-/// Prints which command `session` and another word give.
-fn print_second(rt: &(impl Print + AllocGlobal), second: &[u8]) -> Result<(), Stop> {
-    print_command(rt, &second, &two_words(rt.alloc(), second)?)
+/// Prints which command this one's name and another word give.
+fn print_second(rt: &(impl Print + AllocGlobal), command: &str, second: &[u8]) -> Result<(), Stop> {
+    print_command(rt, &second, &two_words(rt.alloc(), command, second)?)
+}
+
+/// Prints which first words are those of the commands of a journal, and that the other grammar has none of them.
+pub fn print_kept(rt: &(impl Print + AllocGlobal)) -> Result<(), Stop> {
+    heading(rt, "a journal is kept where the first word says so")?;
+    answer(rt, &"no words", &is_kept(&[]))?;
+    for line in [
+        "keep",
+        "keep keep",
+        "migrate",
+        "migrate --journal=a",
+        "''",
+        "Keep",
+        "kee",
+        "keeps",
+        "MIGRATE",
+        "migrated",
+        "session",
+        "session keep",
+        "'' migrate",
+        "--keep",
+    ] {
+        answer(rt, &line, &is_kept(&words_of(rt.alloc(), line)?))?;
+    }
+    heading(rt, "each grammar has its own commands")?;
+    for line in ["keep --journal=a", "migrate --from=a --to=b"] {
+        answer(
+            rt,
+            &line,
+            &command_of(rt.alloc(), &words_of(rt.alloc(), line)?),
+        )?;
+    }
+    for line in ["session", "gateway"] {
+        answer(
+            rt,
+            &line,
+            &kept_command_of(rt.alloc(), &words_of(rt.alloc(), line)?),
+        )?;
+    }
+    Ok(())
 }

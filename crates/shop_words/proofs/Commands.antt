@@ -11,7 +11,7 @@ use Rattle.clap.specs.Walk.{Text}
 use Rattle.shop_words.specs.declared.options.Refusal.{Refusal}
 use Rattle.shop_words.specs.declared.options.Refusal.TheVariants as refusal
 use Rattle.shop_words.specs.Commands.{IsGiven, IsRead}
-use Rattle.shop_words.specs.Options.{AreOptions, Given, IsChosen, IsOptionName, IsPlain, IsReading, IsWord, name_of, value_for, value_of}
+use Rattle.shop_words.specs.Options.{AreOptions, Given, IsChosen, IsOptionName, IsPlain, IsReading, IsRequired, IsWord, name_of, value_for, value_of}
 use Rattle.shop_words.proofs.Parses.{by-recursion, from-recursion}
 use Rattle.shop_words.proofs.Readings.{option-words}
 use Rattle.shop_words.proofs.Rules.{text-same}
@@ -33,12 +33,15 @@ name-from name some low other = record {
     not-equals b e same = let no : false ≡ true = rw same at e in true≢false (sym no)
 
 pub plain-from : (text : Text) → list_all (λ b. nat_lt b 128) text ≡ true → slice_index text 0 ≢ 45 → IsPlain text
-plain-from text low other = record { ascii = ascii-from text low; no_hyphen = other }
+plain-from text low other = record { utf8 = IsUtf8-from_ascii text (ascii-from text low); no_hyphen = other }
 
 pub word-from : (text : Text) → list_all (λ b. nat_lt b 128) text ≡ true → text ≢ codes "--" → IsWord text
 word-from text low other = record { utf8 = IsUtf8-from_ascii text (ascii-from text low); no_hyphens = other }
 
 -- ---- what one value chooses
+
+some-same : (a b : Text) → Some a ≡ Some b → a ≡ b
+some-same a b is = cc
 
 -- a value, where there is one, is plain
 abbrev pub IsPlainAt : (Text → Option Text) → Text → Type 0
@@ -55,6 +58,19 @@ chosen-along form fallback value other chosen same = subst (λ v. IsChosen form 
 pub chosen-same : {A : Type 0} (form : Text → Option A) (fallback : A) (value : Option Text) (a b : A) → IsChosen form fallback value a → IsChosen form fallback value b → a ≡ b
 chosen-same form fallback None a b x y = x ∙ sym y
 chosen-same form fallback (Some text) a b x y = let both : Some a ≡ Some b = sym x ∙ y in cc
+
+-- a value that has to be given
+pub required-plain : (Form : Text → Type 0) (values : Text → Option Text) (name chosen : Text) → ((text : Text) → Form text → IsPlain text)
+    → IsRequired Form (values name) chosen → IsPlainAt values name
+required-plain Form values name chosen plain required text is =
+    let same : chosen ≡ text = some-same chosen text (sym required.given ∙ is) in
+    plain text (subst Form same required.form)
+
+pub required-along : (Form : Text → Type 0) (value other : Option Text) (chosen : Text) → value ≡ other → IsRequired Form value chosen → IsRequired Form other chosen
+required-along Form value other chosen same = subst (λ v. IsRequired Form v chosen) same
+
+pub required-same : (Form : Text → Type 0) (value : Option Text) (a b : Text) → IsRequired Form value a → IsRequired Form value b → a ≡ b
+required-same Form value a b x y = some-same a b (sym x.given ∙ y.given)
 
 -- ---- what the values of options choose
 
@@ -187,3 +203,50 @@ pub first-named : (first : Text) (words : List Text) (read : List (Bor Text)) (b
     → words ≡ first ∷ rest-of words
 first-named first words [] blank are some is = absurd (omega (arith, some))
 first-named first words (t ∷ read) blank are some is = subst (λ ws. ws ≡ first ∷ rest-of ws) are (ap (λ w. w ∷ texts read) is)
+
+-- ---- one of several commands
+
+-- words begin with one name
+pub same-name : (a b : Text) (words rest more : List Text) → words ≡ a ∷ rest → words ≡ b ∷ more → bytes_eq a b ≡ true
+same-name a b words rest more x y =
+    let both : a ∷ rest ≡ b ∷ more = sym x ∙ y in
+    let same : a ≡ b = cc in
+    subst (λ n. bytes_eq a n ≡ true) same (text-same a)
+
+-- what words give, where they begin with its name
+pub record Only {T A : Type 0} (made : A → T) (Given : A → Type 0) (other : T) : Type 0 where
+  pub chosen : A
+  pub is : other ≡ made chosen
+  pub given : Given chosen
+
+-- one kind of command: the one with this name and these options
+pub record IsKind {T A : Type 0} (Is : List Text → T → Type 0) (first : Text) (names : List Text) (Choose : (Text → Option Text) → A → Type 0) (made : A → T) : Type 0 where
+  pub form : IsForm names Choose
+  pub stands : (words : List Text) (chosen : A) → IsGiven first names Choose words chosen → Is words (made chosen)
+  pub only : (words : List Text) (other : T) → words ≡ first ∷ rest-of words → Is words other → Only made (IsGiven first names Choose words) other
+
+-- what is made of words that begin with the name
+module _ {T A : Type 0} {Is : List Text → T → Type 0} {first : Text} {names : List Text} {Choose : (Text → Option Text) → A → Type 0} {made : A → T}
+    (kind : IsKind Is first names Choose made) (words : List Text) (read : List (Bor Text)) (are : texts read ≡ words) (named : words ≡ first ∷ rest-of words) where
+  -- no options: nothing is given
+  pub none-read : ((given : List Given) → AreOptions names (rest-of (texts read)) given → ¬ (All IsPlain (map value_of given))) → (other : T) → ¬ (Is words other)
+  none-read none other is =
+      let only = kind.only words other named is in
+      no-options first names Choose kind.form words (subst (λ ws. (given : List Given) → AreOptions names (rest-of ws) given → ¬ (All IsPlain (map value_of given))) are none) only.chosen only.given
+
+  module _ (values : Text → Option Text) (reading : IsReading names (rest-of (texts read)) values) where
+    abbrev same-reading : IsReading names (rest-of words) values
+    same-reading = subst (λ ws. IsReading names (rest-of ws) values) are reading
+
+    pub chosen-read : (chosen : A) → Choose values chosen → IsRead (Is words) (Ok (made chosen))
+    chosen-read chosen chooses = (
+      kind.stands words chosen (is-given first names Choose kind.form words values same-reading named chosen chooses),
+      λ other is.
+          let only = kind.only words other named is in
+          only.is ∙ ap made (one-given first names Choose kind.form words values same-reading chosen chooses only.chosen only.given),
+    )
+
+    pub none-chosen : ((chosen : A) → ¬ (Choose values chosen)) → (other : T) → ¬ (Is words other)
+    none-chosen none other is =
+        let only = kind.only words other named is in
+        none only.chosen (chosen-by first names Choose kind.form words values same-reading only.chosen only.given)

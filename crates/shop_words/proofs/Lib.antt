@@ -8,3 +8,4 @@ pub mod Numbers
 pub mod ScaleNames
 pub mod Commands
 pub mod Sessions
+pub mod KeptCommands

@@ -5,7 +5,7 @@ use Rattle.std.specs.List.{list_all}
 use Rattle.std.specs.Char.{is_ascii_digit}
 use Rattle.std.specs.Str.Parse.{AllDigits}
 use Rattle.std.proofs.lemmas.Fmt.{IsAscii-from_digits}
-use Rattle.std.proofs.lemmas.Str.{digit_value_digit}
+use Rattle.std.proofs.lemmas.Str.{IsUtf8-from_ascii, digit_value_digit}
 use Rattle.shop_text.proofs.cited.Digits.{digit_range}
 use Rattle.clap.proofs.WalkLemmas.{both}
 use Rattle.shop_words.specs.Options.{IsPlain}
@@ -23,7 +23,7 @@ digit-plain : (bs : List ℕ) → 0 < length bs → list_all is_ascii_digit bs �
 digit-plain [] some digits = absurd (omega (arith, some))
 digit-plain (c ∷ bs) some digits =
     let range = digit_range c (both (is_ascii_digit c) (list_all is_ascii_digit bs) digits).0 in
-    record { ascii = IsAscii-from_digits (c ∷ bs) (digits-from (c ∷ bs) digits); no_hyphen = λ is. omega (arith, range, is) }
+    record { utf8 = IsUtf8-from_ascii (c ∷ bs) (IsAscii-from_digits (c ∷ bs) (digits-from (c ∷ bs) digits)); no_hyphen = λ is. omega (arith, range, is) }
 
 -- a number is written in digits
 pub number-digits : (bs : List ℕ) (n : ℕ) → number_of bs ≡ Some n → (0 < length bs) × (list_all is_ascii_digit bs ≡ true)

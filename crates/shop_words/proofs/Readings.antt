@@ -1,8 +1,9 @@
 -- What clap takes and what it finds, as readings of the grammar of options.
 use Rattle.std.proofs.Common.{◌≡◌, ◌≢◌, ◌∙◌, ◌<◌, ℕ, zero, suc, Bool, true, false, refl, sym, ap, subst, List, [], ◌∷◌, ◌++◌, map, Option, Some, None, drop, true≢false, arith}
 use Rattle.std.specs.List.{All, AllByRecursion, Contains, flat_map}
-use Rattle.std.specs.Str.{bytes_eq, IsAscii}
-use Rattle.std.proofs.lemmas.Str.{IsUtf8-from_ascii, IsAscii-append}
+use Rattle.std.specs.Str.{bytes_eq, IsAscii, IsUtf8}
+use Rattle.std.proofs.lemmas.Str.{IsUtf8-append, IsUtf8-from_ascii}
+use Rattle.std.proofs.lemmas.Str.Ascii.{IsAscii-nil}
 use Rattle.std.proofs.lemmas.List.Elements.{All-drop}
 use Rattle.clap.specs.Walk.{Text, first_of}
 use Rattle.clap.specs.Simple.{matches_of}
@@ -24,9 +25,13 @@ clear-from : (names : List Text) → All IsOptionName names → (given : List Gi
 clear-from names all [] known plain = tt
 clear-from names all (g ∷ given) known plain = ((named names all (name_of g) known.0, plain.0), clear-from names all given known.1 plain.1)
 
-pub ascii-more : (b : ℕ) (bs : List ℕ) → b < 128 → IsAscii bs → IsAscii (b ∷ bs)
-ascii-more b bs low ascii zero = low
-ascii-more b bs low ascii (suc i) = ascii i
+-- UTF-8, and an ASCII byte before it
+pub utf8-more : (b : ℕ) (bs : List ℕ) → b < 128 → IsUtf8 bs → IsUtf8 (b ∷ bs)
+utf8-more b bs low utf8 = IsUtf8-append (b ∷ []) bs (IsUtf8-from_ascii (b ∷ []) one) utf8
+  where
+    one : IsAscii (b ∷ [])
+    one zero = low
+    one (suc i) = IsAscii-nil i
 
 different : (word other : Text) → bytes_eq word other ≡ false → word ≢ other
 different word other unlike same = true≢false (sym (rw same (text-same other)) ∙ unlike)
@@ -40,20 +45,20 @@ same-not word other unlike = go (bytes_eq word other) refl
 
 spelled-word : (name : Text) → IsOptionName name → IsWord (spelled name None)
 spelled-word name is = record {
-  utf8 = IsUtf8-from_ascii _ (ascii-more 45 (45 ∷ name) (omega arith) (ascii-more 45 name (omega arith) is.ascii));
+  utf8 = utf8-more 45 (45 ∷ name) (omega arith) (utf8-more 45 name (omega arith) (IsUtf8-from_ascii name is.ascii));
   no_hyphens = different _ _ (spelled-more name None is);
 }
 
 joined-word : (name value : Text) → IsOptionName name → IsPlain value → IsWord (spelled name (Some value))
 joined-word name value is plain =
-    let ends : IsAscii (61 ∷ value) = ascii-more 61 value (omega arith) plain.ascii in
+    let ends = utf8-more 61 value (omega arith) plain.utf8 in
     record {
-      utf8 = IsUtf8-from_ascii _ (ascii-more 45 (45 ∷ (name ++ 61 ∷ value)) (omega arith) (ascii-more 45 (name ++ 61 ∷ value) (omega arith) (IsAscii-append name (61 ∷ value) is.ascii ends)));
+      utf8 = utf8-more 45 (45 ∷ (name ++ 61 ∷ value)) (omega arith) (utf8-more 45 (name ++ 61 ∷ value) (omega arith) (IsUtf8-append name (61 ∷ value) (IsUtf8-from_ascii name is.ascii) ends));
       no_hyphens = different _ _ (spelled-more name (Some value) is);
     }
 
 plain-word : (value : Text) → IsPlain value → IsWord value
-plain-word value plain = record { utf8 = IsUtf8-from_ascii value plain.ascii; no_hyphens = different _ _ (plain-more value plain) }
+plain-word value plain = record { utf8 = plain.utf8; no_hyphens = different _ _ (plain-more value plain) }
 
 clear-words : (given : List Given) → AllByRecursion IsClear given → AllByRecursion IsWord (flat_map words_of given)
 clear-words [] clear = tt

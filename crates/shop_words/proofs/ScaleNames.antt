@@ -2,15 +2,15 @@
 use Rattle.std.proofs.Common.{◌≡◌, ◌∙◌, ◌<◌, ◌≤◌, ◌⊎◌, ◌↔◌, ◌||◌, ◌==◌, ℕ, Bool, true, false, refl, sym, ap, subst, inl, inr, List, [], ◌∷◌, ◌++◌, ◌+◌, length, Option, Some, None, IsSome, IfSome, codes, true≢false, arith, le-leb, leb-true, eqb-true, eq-eqb, ltb-true, get_or, drop_of_length-le, length-drop}
 use Rattle.std.specs.Prelude.{nat_le, nat_lt, slice_index}
 use Rattle.std.specs.List.{before_first, after_first, position_or_len}
-use Rattle.std.specs.Str.{bytes_eq, IsAscii}
+use Rattle.std.specs.Str.{bytes_eq, IsAscii, IsUtf8}
 use Rattle.std.proofs.Math.Bool.{or-true}
 use Rattle.std.proofs.lemmas.List.Sums.{AllPass-from_list_all, split_at_first, passes_at_first}
-use Rattle.std.proofs.lemmas.Str.{IsAscii-append}
+use Rattle.std.proofs.lemmas.Str.{IsUtf8-append, IsUtf8-from_ascii}
 use Rattle.std.proofs.lemmas.Str.Ascii.{IsAscii-from_all}
 use Rattle.shop_model.specs.population.Scales.{ScaleRow, desk, larger}
 use Rattle.shop_words.specs.Options.{IsPlain}
 use Rattle.shop_words.proofs.Numbers.{number-digits, number-plain}
-use Rattle.shop_words.proofs.Readings.{ascii-more}
+use Rattle.shop_words.proofs.Readings.{utf8-more}
 use Rattle.shop_words.proofs.Rules.{same-text}
 use Rattle.shop_text.specs.Numbers.{number_of}
 use Rattle.shop_words.specs.Values.{is_x, larger_of, larger_of_both, scale_of}
@@ -99,7 +99,7 @@ larger-plain text scale is =
     let rest = get_or text (position_or_len is_x text) 0 ∷ after_first is_x text in
     let low : get_or text (position_or_len is_x text) 0 < 128 = let at = eqb-true _ _ (passes_at_first is_x text 0 place) in omega (arith, at) in
     record {
-      ascii = subst IsAscii (sym cut) (IsAscii-append (before_first is_x text) rest items.ascii (ascii-more _ (after_first is_x text) low ebs.ascii));
+      utf8 = subst IsUtf8 (sym cut) (IsUtf8-append (before_first is_x text) rest items.utf8 (utf8-more _ (after_first is_x text) low ebs.utf8));
       no_hyphen = λ e. items.no_hyphen (sym (front-kept (before_first is_x text) rest some) ∙ ap (λ (t : List ℕ). slice_index t 0) (sym cut) ∙ e);
     }
   where
@@ -107,7 +107,7 @@ larger-plain text scale is =
     place-below text some = let long = length-drop (position_or_len is_x text + 1) text in omega (arith, some, long)
 
 desk-plain : IsPlain (codes "desk")
-desk-plain = record { ascii = low; no_hyphen = λ e. omega (arith, e) }
+desk-plain = record { utf8 = IsUtf8-from_ascii (codes "desk") low; no_hyphen = λ e. omega (arith, e) }
   where
     low : IsAscii (codes "desk")
     low = IsAscii-from_all (codes "desk") (λ k d lt. ltb-true _ _ (AllPass-from_list_all (λ b. nat_lt b 128) (codes "desk") refl k d lt))

@@ -1,5 +1,5 @@
 -- Commands in words: what their options choose.
-use Rattle.std.proofs.Common.{◌≡◌, ◌∙◌, Bool, true, false, refl, sym, ap, ap₂, subst, List, [], ◌∷◌, Option, Some, None, Ok, Err, Bor, map, codes, arith, ℕ}
+use Rattle.std.proofs.Common.{◌≡◌, Bool, true, false, refl, sym, ap₂, subst, List, [], ◌∷◌, Some, None, Option, codes, arith, ℕ}
 use Rattle.std.proofs.lemmas.Bool.{false≢true}
 use Rattle.std.specs.List.{All}
 use Rattle.std.specs.Prelude.{⊤}
@@ -12,14 +12,13 @@ use Rattle.shop_words.specs.declared.choices.Workload.{Workload}
 use Rattle.shop_words.specs.declared.command.Command.{Command}
 use Rattle.shop_words.specs.declared.command.Command.TheVariants as command
 use Rattle.shop_words.specs.declared.command.Session.{Session}
-use Rattle.shop_words.specs.declared.options.Refusal.TheVariants as refusal
-use Rattle.shop_words.specs.Commands.{Chooses, ChoosesDrive, ChoosesRace, ChoosesServe, ChoosesWorkload, IsCommand, IsDrive, IsGateway, IsGiven, IsRace, IsRead, IsServe, IsSession, drive_options, race_options, serve_options, session_options, workload_of_drive, workload_of_race, workload_options}
-use Rattle.shop_words.specs.Options.{AreOptions, Given, IsPlain, IsReading, IsWord, value_of}
+use Rattle.shop_words.specs.Commands.{Chooses, ChoosesDrive, ChoosesRace, ChoosesServe, ChoosesWorkload, IsCommand, IsDrive, IsGateway, IsRace, IsServe, IsSession, drive_options, race_options, serve_options, session_options, workload_of_drive, workload_of_race, workload_options}
+use Rattle.shop_words.specs.Options.{IsPlain, IsWord}
 use Rattle.shop_text.specs.Numbers.{number_of}
 use Rattle.shop_words.specs.Values.{connections_of, gateway_of, limit_of, mix_of, scale_of, within, workers_of}
-use Rattle.shop_words.proofs.Commands.{Beside, IsForm, beside-form, more-form, chosen-along, chosen-plain, chosen-same, chosen-by, given-words, is-given, name-from, no-options, one-given, plain-from, rest-of, texts, word-from}
+use Rattle.shop_words.proofs.Commands.{Beside, IsForm, IsKind, Only, beside-form, more-form, chosen-along, chosen-plain, chosen-same, given-words, name-from, plain-from, rest-of, same-name, word-from}
 use Rattle.shop_words.proofs.Numbers.{number-plain}
-use Rattle.shop_words.proofs.Rules.{same-text, text-same}
+use Rattle.shop_words.proofs.Rules.{same-text}
 use Rattle.shop_words.proofs.ScaleNames.{scale-plain}
 
 -- ---- values in their forms are plain
@@ -135,13 +134,6 @@ command-words words (command.Race race) is = given-words (codes "race") race_opt
 command-words words (command.Serve serve) is = given-words (codes "serve") serve_options ChoosesServe serve-form words (word-from (codes "serve") refl (λ e. cc)) serve is
 command-words words command.Gateway is = given-words (codes "gateway") [] (λ values nothing. ⊤) gateway-form words (word-from (codes "gateway") refl (λ e. cc)) tt is
 
--- words begin with one name
-same-name : (a b : Text) (words rest more : List Text) → words ≡ a ∷ rest → words ≡ b ∷ more → bytes_eq a b ≡ true
-same-name a b words rest more x y =
-    let both : a ∷ rest ≡ b ∷ more = sym x ∙ y in
-    let same : a ≡ b = cc in
-    subst (λ n. bytes_eq a n ≡ true) same (text-same a)
-
 -- the word that a command begins with
 abbrev name-of : Command → Text
 name-of (command.Session session) = codes "session"
@@ -155,76 +147,37 @@ named-so : (first : Text) (words : List Text) → words ≡ first ∷ rest-of wo
 named-so first words named (command.Session session) is = same-name first _ words _ is.rest named is.named
 named-so first words named other is = same-name first _ words _ is.rest named is.named
 
--- what words give, where they begin with its name
-pub record Only {A : Type 0} (made : A → Command) (Given : A → Type 0) (other : Command) : Type 0 where
-  pub chosen : A
-  pub is : other ≡ made chosen
-  pub given : Given chosen
+only-session : (words : List Text) (other : Command) → words ≡ codes "session" ∷ rest-of words → IsCommand words other → Only command.Session (IsSession words) other
+only-session words (command.Session session) named is = record { chosen = session; is = refl; given = is }
+only-session words other named is = absurd (false≢true (named-so (codes "session") words named other is))
 
--- one kind of command: the one with this name and these options
-pub record IsKind {A : Type 0} (first : Text) (names : List Text) (Choose : (Text → Option Text) → A → Type 0) (made : A → Command) : Type 0 where
-  pub form : IsForm names Choose
-  pub stands : (words : List Text) (chosen : A) → IsGiven first names Choose words chosen → IsCommand words (made chosen)
-  pub only : (words : List Text) (other : Command) → IsCommand words other → bytes_eq first (name-of other) ≡ true → Only made (IsGiven first names Choose words) other
+only-drive : (words : List Text) (other : Command) → words ≡ codes "drive" ∷ rest-of words → IsCommand words other → Only command.Drive (IsDrive words) other
+only-drive words (command.Drive drive) named is = record { chosen = drive; is = refl; given = is }
+only-drive words other named is = absurd (false≢true (named-so (codes "drive") words named other is))
 
-only-session : (words : List Text) (other : Command) → IsCommand words other → bytes_eq (codes "session") (name-of other) ≡ true → Only command.Session (IsSession words) other
-only-session words (command.Session session) is same = record { chosen = session; is = refl; given = is }
-only-session words other is same = absurd (false≢true same)
+only-race : (words : List Text) (other : Command) → words ≡ codes "race" ∷ rest-of words → IsCommand words other → Only command.Race (IsRace words) other
+only-race words (command.Race race) named is = record { chosen = race; is = refl; given = is }
+only-race words other named is = absurd (false≢true (named-so (codes "race") words named other is))
 
-only-drive : (words : List Text) (other : Command) → IsCommand words other → bytes_eq (codes "drive") (name-of other) ≡ true → Only command.Drive (IsDrive words) other
-only-drive words (command.Drive drive) is same = record { chosen = drive; is = refl; given = is }
-only-drive words other is same = absurd (false≢true same)
+only-serve : (words : List Text) (other : Command) → words ≡ codes "serve" ∷ rest-of words → IsCommand words other → Only command.Serve (IsServe words) other
+only-serve words (command.Serve serve) named is = record { chosen = serve; is = refl; given = is }
+only-serve words other named is = absurd (false≢true (named-so (codes "serve") words named other is))
 
-only-race : (words : List Text) (other : Command) → IsCommand words other → bytes_eq (codes "race") (name-of other) ≡ true → Only command.Race (IsRace words) other
-only-race words (command.Race race) is same = record { chosen = race; is = refl; given = is }
-only-race words other is same = absurd (false≢true same)
+only-gateway : (words : List Text) (other : Command) → words ≡ codes "gateway" ∷ rest-of words → IsCommand words other → Only (λ nothing. command.Gateway) (IsGateway words) other
+only-gateway words command.Gateway named is = record { chosen = tt; is = refl; given = is }
+only-gateway words other named is = absurd (false≢true (named-so (codes "gateway") words named other is))
 
-only-serve : (words : List Text) (other : Command) → IsCommand words other → bytes_eq (codes "serve") (name-of other) ≡ true → Only command.Serve (IsServe words) other
-only-serve words (command.Serve serve) is same = record { chosen = serve; is = refl; given = is }
-only-serve words other is same = absurd (false≢true same)
-
-only-gateway : (words : List Text) (other : Command) → IsCommand words other → bytes_eq (codes "gateway") (name-of other) ≡ true → Only (λ nothing. command.Gateway) (IsGateway words) other
-only-gateway words command.Gateway is same = record { chosen = tt; is = refl; given = is }
-only-gateway words other is same = absurd (false≢true same)
-
-pub session-kind : IsKind (codes "session") session_options Chooses command.Session
+pub session-kind : IsKind IsCommand (codes "session") session_options Chooses command.Session
 session-kind = record { form = session-form; stands = λ words session is. is; only = only-session }
 
-pub drive-kind : IsKind (codes "drive") drive_options ChoosesDrive command.Drive
+pub drive-kind : IsKind IsCommand (codes "drive") drive_options ChoosesDrive command.Drive
 drive-kind = record { form = drive-form; stands = λ words drive is. is; only = only-drive }
 
-pub race-kind : IsKind (codes "race") race_options ChoosesRace command.Race
+pub race-kind : IsKind IsCommand (codes "race") race_options ChoosesRace command.Race
 race-kind = record { form = race-form; stands = λ words race is. is; only = only-race }
 
-pub serve-kind : IsKind (codes "serve") serve_options ChoosesServe command.Serve
+pub serve-kind : IsKind IsCommand (codes "serve") serve_options ChoosesServe command.Serve
 serve-kind = record { form = serve-form; stands = λ words serve is. is; only = only-serve }
 
-pub gateway-kind : IsKind (codes "gateway") [] (λ values (nothing : ⊤). ⊤) (λ nothing. command.Gateway)
+pub gateway-kind : IsKind IsCommand (codes "gateway") [] (λ values (nothing : ⊤). ⊤) (λ nothing. command.Gateway)
 gateway-kind = record { form = gateway-form; stands = λ words nothing is. is; only = only-gateway }
-
--- ---- what is made of words that begin with the name
-
-module _ {A : Type 0} {first : Text} {names : List Text} {Choose : (Text → Option Text) → A → Type 0} {made : A → Command}
-    (kind : IsKind first names Choose made) (words : List Text) (read : List (Bor Text)) (are : texts read ≡ words) (named : words ≡ first ∷ rest-of words) where
-  -- no options: nothing is given
-  pub none-read : ((given : List Given) → AreOptions names (rest-of (texts read)) given → ¬ (All IsPlain (map value_of given))) → (other : Command) → ¬ (IsCommand words other)
-  none-read none other is =
-      let only = kind.only words other is (named-so first words named other is) in
-      no-options first names Choose kind.form words (subst (λ ws. (given : List Given) → AreOptions names (rest-of ws) given → ¬ (All IsPlain (map value_of given))) are none) only.chosen only.given
-
-  module _ (values : Text → Option Text) (reading : IsReading names (rest-of (texts read)) values) where
-    abbrev same-reading : IsReading names (rest-of words) values
-    same-reading = subst (λ ws. IsReading names (rest-of ws) values) are reading
-
-    pub chosen-read : (chosen : A) → Choose values chosen → IsRead (IsCommand words) (Ok (made chosen))
-    chosen-read chosen chooses = (
-      kind.stands words chosen (is-given first names Choose kind.form words values same-reading named chosen chooses),
-      λ other is.
-          let only = kind.only words other is (named-so first words named other is) in
-          only.is ∙ ap made (one-given first names Choose kind.form words values same-reading chosen chooses only.chosen only.given),
-    )
-
-    pub none-chosen : ((chosen : A) → ¬ (Choose values chosen)) → IsRead (IsCommand words) (Err refusal.Bad)
-    none-chosen none other is =
-        let only = kind.only words other is (named-so first words named other is) in
-        none only.chosen (chosen-by first names Choose kind.form words values same-reading only.chosen only.given)

@@ -2,3 +2,4 @@ pub mod Parser
 pub mod Options
 pub mod Values
 pub mod Commands
+pub mod Kept

@@ -36,6 +36,11 @@ abbrev pub IsChosen : {A : Type 0} → (List ℕ → Option A) → A → Option 
 IsChosen form fallback None chosen = chosen ≡ fallback
 IsChosen form fallback (Some text) chosen = form text ≡ Some chosen
 
+-- the value of an option that has to be given: it has this form
+pub record IsRequired (Form : List ℕ → Type 0) (value : Option (List ℕ)) (chosen : List ℕ) : Type 0 where
+  pub given : value ≡ Some chosen
+  pub form : Form chosen
+
 -- ---- what clap is given
 
 -- a name that can be told from the value behind it
@@ -46,7 +51,7 @@ pub record IsOptionName (name : List ℕ) : Type 0 where
 
 -- a value that can't be taken for an option
 pub record IsPlain (value : List ℕ) : Type 0 where
-  pub ascii : IsAscii value
+  pub utf8 : IsUtf8 value
   pub no_hyphen : slice_index value 0 ≢ 45
 
 -- a word that may stand among options: text, and not two hyphens alone

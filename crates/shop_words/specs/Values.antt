@@ -1,7 +1,7 @@
 -- The values of options, this project's own.
-use Rattle.std.specs.Prelude.{ℕ, ◌&&◌, ◌||◌, ◌==◌, nat_le, Bool, List, Option, Some, None, if◌then◌else◌, codes}
+use Rattle.std.specs.Prelude.{◌≢◌, ◌≤◌, ℕ, ◌&&◌, ◌||◌, ◌==◌, nat_le, Bool, List, Option, Some, None, if◌then◌else◌, codes, length, slice_index}
 use Rattle.std.specs.List.{before_first, after_first}
-use Rattle.std.specs.Str.{bytes_eq}
+use Rattle.std.specs.Str.{bytes_eq, IsUtf8}
 use Rattle.shop_text.specs.Numbers.{number_of}
 use Rattle.shop_model.specs.population.Scales.{ScaleRow, desk, larger}
 use Rattle.shop_browsers.specs.declared.mix.Mix.{Mix}
@@ -64,3 +64,10 @@ mix_of text =
     if bytes_eq text (codes "browsing") then Some Browsing else
     (if bytes_eq text (codes "shopping") then Some Shopping else
     (if bytes_eq text (codes "ordering") then Some Ordering else None))
+
+-- the name of a file: text of 1 to 100 bytes that can't be taken for an option
+pub record IsFileName (name : List ℕ) : Type 0 where
+  pub utf8 : IsUtf8 name
+  pub some : 1 ≤ length name
+  pub few : length name ≤ 100
+  pub no_hyphen : slice_index name 0 ≢ 45

@@ -1,17 +1,23 @@
 //! What the values of options choose.
-ghost use Rattle.std.specs.Prelude.{IfSome, IfNone};
+ghost use Rattle.std.specs.Prelude.{◌≡◌, ℕ, List, Err, IfOk, IfSome, IfNone};
 ghost use Rattle.clap.specs.Words.{first_value, found_of};
 ghost use Rattle.shop_words.specs.Commands.{Chooses, ChoosesDrive, ChoosesRace, ChoosesServe, ChoosesWorkload};
+ghost use Rattle.shop_words.specs.Kept.{ChoosesKeep, ChoosesMigrate};
+ghost use Rattle.shop_words.specs.Options.{IsRequired};
+ghost use Rattle.shop_words.specs.Values.{IsFileName};
 
 use crate::command::{Drive, Race, Serve, Session};
+use crate::kept::{Keep, Migrate};
+use crate::options::Refusal;
 use crate::values::{
-    browsers_of, connections_of, gateway_of, limit_of, mix_of, port_of, scale_of, steps_of,
-    workers_of,
+    browsers_of, connections_of, gateway_of, is_file_name, limit_of, mix_of, port_of, scale_of,
+    steps_of, workers_of,
 };
 use clap::ArgMatches;
 use shop_browsers::Mix;
 use shop_model::Scale;
-use shop_text::number_of;
+use shop_text::{Text, number_of};
+use std::alloc::Global;
 
 /// A shop, and what each browser or worker does there.
 #[derive(Clone, Copy)]
@@ -118,4 +124,35 @@ pub(crate) fn serve_of(found: &ArgMatches) -> Option<Serve>
         connections,
         gateway,
     })
+}
+
+pub(crate) fn keep_of(alloc: Global, found: &ArgMatches) -> Result<Keep, Refusal>
+    ensures keep { IfOk result (ChoosesKeep (first_value (found_of found.now))) }
+    ensures bad { result ≡ Err Refusal.Bad → (keep : Keep) → ¬ (ChoosesKeep (first_value (found_of found.now)) keep) }
+{
+    let Some(shop) = session_of(found) else {
+        return Err(Refusal::Bad);
+    };
+    let journal = file_of(alloc, found, "journal")?;
+    Ok(Keep { shop, journal })
+}
+
+pub(crate) fn migrate_of(alloc: Global, found: &ArgMatches) -> Result<Migrate, Refusal>
+    ensures migrate { IfOk result (ChoosesMigrate (first_value (found_of found.now))) }
+    ensures bad { result ≡ Err Refusal.Bad → (migrate : Migrate) → ¬ (ChoosesMigrate (first_value (found_of found.now)) migrate) }
+{
+    let from = file_of(alloc, found, "from")?;
+    let to = file_of(alloc, found, "to")?;
+    Ok(Migrate { from, to })
+}
+
+/// The name of a file that the option with this name must have.
+fn file_of(alloc: Global, found: &ArgMatches, option: &str) -> Result<Text, Refusal>
+    ensures file { IfOk result (IsRequired IsFileName (first_value (found_of found.now) option.now)) }
+    ensures bad { result ≡ Err Refusal.Bad → (file : List ℕ) → ¬ (IsRequired IsFileName (first_value (found_of found.now) option.now) file) }
+{
+    match found.get_str(option) {
+        Some(name) if is_file_name(name) => Ok(Text::copy(alloc, name.as_bytes())?),
+        _ => Err(Refusal::Bad),
+    }
 }

@@ -3,7 +3,9 @@
 
 mod choices;
 mod command;
+mod kept;
 mod options;
 mod values;
 
 pub use command::{Command, Drive, Parsed, Race, Serve, Session, command_of};
+pub use kept::{Keep, KeptCommand, Migrate, is_kept, kept_command_of};

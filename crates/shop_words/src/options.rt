@@ -6,7 +6,7 @@ ghost use Rattle.shop_words.specs.Parser.{options_app};
 
 use clap::error::ErrorKind;
 use clap::{Arg, ArgAction, ArgMatches, Command, Error};
-use shop_text::Text;
+use shop_text::{Memory, Text};
 use std::alloc::{AllocError, AllocFailed, Global};
 
 /// Why words give no command.
@@ -24,6 +24,16 @@ impl From<AllocError> for Refusal {
     ghost from_gives = { λ _ e. e ≡ Memory };
 
     fn from(_: AllocError) -> Self {
+        Refusal::Memory
+    }
+}
+
+impl From<Memory> for Refusal {
+    ghost use Rattle.shop_words.specs.declared.options.Refusal.TheVariants.{Memory};
+
+    ghost from_gives = { λ _ e. e ≡ Memory };
+
+    fn from(_: Memory) -> Self {
         Refusal::Memory
     }
 }

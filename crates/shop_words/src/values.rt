@@ -1,4 +1,4 @@
-ghost use Rattle.std.specs.Prelude.{◌≡◌};
+ghost use Rattle.std.specs.Prelude.{◌≡◌, ◌↔◌, IsTrue};
 ghost use Rattle.shop_words.specs.Values as spec;
 
 use shop_browsers::Mix;
@@ -93,5 +93,15 @@ pub(crate) fn mix_of(text: &str) -> Option<Mix>
         "shopping" => Some(Mix::Shopping),
         "ordering" => Some(Mix::Ordering),
         _ => None,
+    }
+}
+
+/// Whether a file may have this name.
+pub(crate) fn is_file_name(text: &str) -> bool
+    ensures { IsTrue result ↔ spec.IsFileName text.now }
+{
+    match text.as_bytes() {
+        [first, ..] => *first != b'-' && text.len() <= 100,
+        [] => false,
     }
 }

@@ -2,8 +2,8 @@ use Rattle.std.proofs.Common.{◌∙◌, Err, ap, arith}
 use Rattle.clap.specs.Words.{first_value, found_of}
 use Rattle.shop_words.specs.declared.options.Refusal.{Refusal}
 use Rattle.shop_words.specs.Commands.{IsCommand}
-use Rattle.shop_words.proofs.Commands.{first-named, passed, texts}
-use Rattle.shop_words.proofs.Sessions.{chosen-read, command-words, drive-kind, gateway-kind, none-chosen, none-read, race-kind, serve-kind, session-kind}
+use Rattle.shop_words.proofs.Commands.{chosen-read, first-named, none-chosen, none-read, passed, texts}
+use Rattle.shop_words.proofs.Sessions.{command-words, drive-kind, gateway-kind, race-kind, serve-kind, session-kind}
 use Rattle.shop_words.proofs.command.read_command.Goals as goal
 
 pub returns-in_err-texts : goal.returns-in_err-texts
