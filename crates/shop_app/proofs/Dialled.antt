@@ -57,3 +57,5 @@ unlinked_later before mid now status.BadWords later is = absurd is
 unlinked_later before mid now status.ReadFault later is = absurd is
 unlinked_later before mid now status.WriteFault later is = absurd is
 unlinked_later before mid now status.WorkerFault later is = absurd is
+unlinked_later before mid now status.DiskFault later is = absurd is
+unlinked_later before mid now status.NotThisJournal later is = absurd is

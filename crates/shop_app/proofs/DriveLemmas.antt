@@ -28,23 +28,23 @@ use Rattle.shop_app.specs.Driving.{DroveTo, Unfinished, first_browsers, first_st
 use Rattle.shop_app.specs.Noted.{NotedAs, TellsOf}
 use Rattle.shop_app.specs.Session.{IsFirst, first_seat, first_standing, moment_as, moments_of}
 use Rattle.shop_app.specs.Summaries.{drive_lines}
-use Rattle.shop_app.proofs.AloneLemmas.{IsAlone, IsQuick, alone_next, quick, stamps_of}
+use Rattle.shop_app.proofs.cited.Alone.{IsAlone, IsQuick, alone_next, none_later, quick, stamps_of}
 use Rattle.shop_app.proofs.SessionLemmas.{standing_first}
 
-pub turns_once : (from to : Stage) (turns : List Turn) → AreTurns from turns to → IsAlone from.worker → All IsQuick (map (λ t. t.step.point) turns)
+pub turns_once : (from to : Stage) (turns : List Turn) → AreTurns from turns to → IsAlone 0 from.worker → All IsQuick (map (λ t. t.step.point) turns)
 turns_once from to [] are alone = All-nil IsQuick
 turns_once from to (turn ∷ turns) (next, is, are) alone =
-    All-cons IsQuick turn.step.point (map (λ (t : Turn). t.step.point) turns) (quick _ from.worker next.worker turn.step (asked turn.step.message) is.asks.answered alone)
-    (turns_once next to turns are (alone_next _ from.worker next.worker turn.step (asked turn.step.message) is.asks.answered alone))
+    All-cons IsQuick turn.step.point (map (λ (t : Turn). t.step.point) turns) (quick 0 _ from.worker next.worker turn.step (asked turn.step.message) is.asks.answered alone)
+    (turns_once next to turns are (alone_next 0 _ from.worker next.worker turn.step (asked turn.step.message) is.asks.answered alone))
 
-pub turns_stamped : (from to : Stage) (turns : List Turn) → AreTurns from turns to → IsAlone from.worker
+pub turns_stamped : (from to : Stage) (turns : List Turn) → AreTurns from turns to → IsAlone 0 from.worker
     → map (λ e. e.stamp) (flat_map (λ t. t.step.made) turns) ≡ moments_of (map (λ t. t.step.point) turns)
 turns_stamped from to [] are alone = refl
 turns_stamped from to (turn ∷ turns) (next, is, are) alone =
     map-append (λ (e : Entry). e.stamp) turn.step.made (flat_map (λ (t : Turn). t.step.made) turns)
-    ∙ ap (λ (l : List ℕ). l ++ map (λ (e : Entry). e.stamp) (flat_map (λ (t : Turn). t.step.made) turns)) (stamps_of _ from.worker next.worker turn.step (asked turn.step.message) is.asks.answered alone)
+    ∙ ap (λ (l : List ℕ). l ++ map (λ (e : Entry). e.stamp) (flat_map (λ (t : Turn). t.step.made) turns)) (stamps_of 0 _ from.worker next.worker turn.step (asked turn.step.message) is.asks.answered alone ∙ none_later _)
     ∙ ap (λ (l : List ℕ). moment_as turn.step.point.moment turn.step.point.kind ++ l)
-    (turns_stamped next to turns are (alone_next _ from.worker next.worker turn.step (asked turn.step.message) is.asks.answered alone))
+    (turns_stamped next to turns are (alone_next 0 _ from.worker next.worker turn.step (asked turn.step.message) is.asks.answered alone))
 
 -- what holds anyway holds where memory ran out
 pub on_err : {A : Type 0} (P : Type 0) (result : Result A Memory) → P → OnErr result P
@@ -79,7 +79,7 @@ module _ (drive : Drive) (from to : Stage) (old new : Outside) (all : List Answe
       = subst (λ (s : Stage). (drove : Drove s to drive.steps tally) × AreFresh marked to drove.turns) is_first (given, fresh) in
       let drove : Drove (first_stage drive old.clock old.failures) to drive.steps tally = both.0 in
       let at_first : Stage = first_stage drive old.clock old.failures in
-      let alone : IsAlone at_first.worker = record { stamp = 0; latest = refl; within = omega arith } in
+      let alone : IsAlone 0 at_first.worker = record { stamp = 0; latest = refl; since = omega arith; within = omega arith } in
       let same : to.worker.seat.opening ≡ populated drive.shop.seed drive.shop.scale = drove.stays.follows.opening in
       let log : to.worker.seat.seen ≡ flat_map (λ (t : Turn). t.step.made) drove.turns = drove.stays.alone refl in
       let answered : all ≡ flat_map (λ (t : Turn). t.step.answers) drove.turns = injected (sym said ∙ drove.asked.told [] refl) in

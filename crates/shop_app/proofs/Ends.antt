@@ -34,11 +34,15 @@ module _ (To : List ℕ → Type 0) (jobs : ℕ) (Unreached : Type 0) (old new :
   comes (Ok lines) status.NetworkFault told printed = absurd printed
   comes (Ok lines) status.WorkerFault told printed = absurd printed
   comes (Ok lines) status.Memory told printed = absurd printed
+  comes (Ok lines) status.DiskFault told printed = absurd printed
+  comes (Ok lines) status.NotThisJournal told printed = absurd printed
   comes (Err status.Done) outcome told printed = absurd told
   comes (Err status.WriteFault) outcome told printed = absurd told
   comes (Err status.Unserved) outcome told printed = absurd told
   comes (Err status.BadWords) outcome told printed = absurd told
   comes (Err status.ReadFault) outcome told printed = absurd told
+  comes (Err status.DiskFault) outcome told printed = absurd told
+  comes (Err status.NotThisJournal) outcome told printed = absurd told
   comes (Err status.NetworkFault) outcome told printed = subst (Comes To jobs Unreached before after) (sym printed.0) (told, printed.1)
   comes (Err status.WorkerFault) outcome told printed = subst (Comes To jobs Unreached before after) (sym printed.0) (told, printed.1)
   comes (Err status.Memory) outcome told printed = subst (Comes To jobs Unreached before after) (sym printed.0) printed.1
@@ -53,6 +57,8 @@ module _ (To : List ℕ → Type 0) (jobs : ℕ) (Unreached : Type 0) (old new :
   comes_done status.NetworkFault good did no_start no_link no_write = absurd (no_link did.0)
   comes_done status.WorkerFault good did no_start no_link no_write = absurd (no_start did.0)
   comes_done status.Memory good did no_start no_link no_write = inr refl
+  comes_done status.DiskFault good did no_start no_link no_write = absurd did
+  comes_done status.NotThisJournal good did no_start no_link no_write = absurd did
 
 -- why no more links were served
 pub stopped : (stop : Stop) (before mid after : ℕ) (old new : Spawning) → before ≤ mid → (stop ≡ NoLink → Rose mid after) → (stop ≡ NotStarted → Rose old.faults new.faults) → IsUntold (Rose before after) old new (status_of stop)
@@ -70,6 +76,8 @@ bad_lines (Ok lines) held held' writes writes' status.ReadFault printed bad = ab
 bad_lines (Ok lines) held held' writes writes' status.NetworkFault printed bad = absurd printed
 bad_lines (Ok lines) held held' writes writes' status.WorkerFault printed bad = absurd printed
 bad_lines (Ok lines) held held' writes writes' status.Memory printed bad = absurd printed
+bad_lines (Ok lines) held held' writes writes' status.DiskFault printed bad = absurd printed
+bad_lines (Ok lines) held held' writes writes' status.NotThisJournal printed bad = absurd printed
 bad_lines (Err why) held held' writes writes' outcome printed bad = ap (λ (w : Status). Err w) (sym printed.0 ∙ bad)
 
 pub bad_status : (lines : Result (List ℕ) Status) (held held' : Option (List ℕ)) (writes writes' : ℕ) (outcome : Status) → Prints lines held held' writes writes' outcome → lines ≡ Err status.BadWords → outcome ≡ status.BadWords

@@ -32,6 +32,8 @@ obeyed (command.Session session) old new status.WriteFault good did no_read no_w
 obeyed (command.Session session) old new status.NetworkFault good did no_read no_write = absurd did
 obeyed (command.Session session) old new status.WorkerFault good did no_read no_write = absurd did
 obeyed (command.Session session) old new status.Memory good did no_read no_write = inr (inr refl)
+obeyed (command.Session session) old new status.DiskFault good did no_read no_write = absurd did
+obeyed (command.Session session) old new status.NotThisJournal good did no_read no_write = absurd did
 obeyed (command.Drive drive) old new status.Done good did no_read no_write = inl refl
 obeyed (command.Drive drive) old new status.Unserved good did no_read no_write = absurd did
 obeyed (command.Drive drive) old new status.BadWords good did no_read no_write = absurd (good refl)
@@ -40,6 +42,8 @@ obeyed (command.Drive drive) old new status.WriteFault good did no_read no_write
 obeyed (command.Drive drive) old new status.NetworkFault good did no_read no_write = absurd did
 obeyed (command.Drive drive) old new status.WorkerFault good did no_read no_write = absurd did
 obeyed (command.Drive drive) old new status.Memory good did no_read no_write = inr (inr refl)
+obeyed (command.Drive drive) old new status.DiskFault good did no_read no_write = absurd did
+obeyed (command.Drive drive) old new status.NotThisJournal good did no_read no_write = absurd did
 obeyed (command.Race race) old new outcome good did no_read no_write = absurd did
 obeyed (command.Serve serve) old new outcome good did no_read no_write = absurd did
 obeyed command.Gateway old new outcome good did no_read no_write = let p = did.pays in paid p.end outcome p.status_is (λ e. no_read (p.read_fault e)) (λ e. no_write (p.write_fault e))

@@ -24,7 +24,7 @@ use Rattle.shop_words.specs.declared.command.Session.{Session}
 use Rattle.shop_app.specs.Outside.{Run}
 use Rattle.shop_app.specs.Session.{IsFirst, IsSession, ServedTo, first_caller, first_seat, first_standing}
 use Rattle.shop_app.specs.Statuses.{status_of}
-use Rattle.shop_app.proofs.AloneLemmas.{IsAlone, all_at_once, log_made, opening_same, stamps_are}
+use Rattle.shop_app.proofs.cited.Alone.{IsAlone, all_at_once, log_made, none_later, opening_same, stamps_are}
 
 pub standing_first : (session : Session) (worker : WorkerState SoloValue) (clock : Option (List ℕ)) (told : Option (List Answer)) → IsFirst session worker
     → standing seat_of worker clock told ≡ first_standing session clock told
@@ -41,8 +41,8 @@ module _ (session : Session) (before after : Standing) (old new : Run) (points :
   unfolding first_seat
   served_to end given =
       let served : Served (first_standing session old.outside.clock old.outside.told) after old.streams new.streams end points = rw is_first at given in
-      let alone : IsAlone (first_standing session old.outside.clock old.outside.told) = record { stamp = 0; latest = refl; within = omega arith } in
-      let log : after.seat.seen ≡ flat_map (λ (s : Step). s.made) served.steps = log_made (first_standing session old.outside.clock old.outside.told) after old.streams new.streams end points served alone in
+      let alone : IsAlone 0 (first_standing session old.outside.clock old.outside.told) = record { stamp = 0; latest = refl; since = omega arith; within = omega arith } in
+      let log : after.seat.seen ≡ flat_map (λ (s : Step). s.made) served.steps = log_made 0 (first_standing session old.outside.clock old.outside.told) after old.streams new.streams end points served alone in
       record {
         points = points;
         after = after;
@@ -51,11 +51,11 @@ module _ (session : Session) (before after : Standing) (old new : Run) (points :
         told = told;
         failed = failed;
         kept = kept;
-        alone = all_at_once (first_standing session old.outside.clock old.outside.told) after old.streams new.streams end points served alone;
-        lawful = subst (λ (t : Tables). IsLawful t after.seat.seen) (opening_same (first_standing session old.outside.clock old.outside.told) after old.streams new.streams end points served alone) lawful;
+        alone = all_at_once 0 (first_standing session old.outside.clock old.outside.told) after old.streams new.streams end points served alone;
+        lawful = subst (λ (t : Tables). IsLawful t after.seat.seen) (opening_same 0 (first_standing session old.outside.clock old.outside.told) after old.streams new.streams end points served alone) lawful;
         fresh = fresh;
         log = log;
-        stamps = ap (map (λ (e : Entry). e.stamp)) log ∙ stamps_are (first_standing session old.outside.clock old.outside.told) after old.streams new.streams end points served alone;
+        stamps = ap (map (λ (e : Entry). e.stamp)) log ∙ stamps_are 0 (first_standing session old.outside.clock old.outside.told) after old.streams new.streams end points served alone ∙ none_later _;
       }
 
   pub session-by-end : (end : Ended) → Served before after old.streams new.streams end points

@@ -14,6 +14,8 @@ exit_code status.WriteFault = 4
 exit_code status.NetworkFault = 5
 exit_code status.WorkerFault = 6
 exit_code status.Memory = 7
+exit_code status.DiskFault = 8
+exit_code status.NotThisJournal = 9
 
 -- what the faults sink is told
 abbrev pub fault_line : Status → List ℕ
@@ -25,6 +27,8 @@ fault_line status.WriteFault = codes "tpcw: write fault\n"
 fault_line status.NetworkFault = codes "tpcw: network fault\n"
 fault_line status.WorkerFault = codes "tpcw: worker fault\n"
 fault_line status.Memory = codes "tpcw: out of memory\n"
+fault_line status.DiskFault = codes "tpcw: disk fault\n"
+fault_line status.NotThisJournal = codes "tpcw: not this journal\n"
 
 -- the status of a session whose connection ended so
 abbrev pub status_of : Ended → Status

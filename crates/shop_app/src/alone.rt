@@ -5,7 +5,6 @@ ghost use Rattle.shop_edges.specs.Causes.{Rose};
 ghost use Rattle.shop_model.specs.lists.Catalogues.{opened};
 ghost use Rattle.shop_words.specs.declared.command.Command.{Command};
 ghost use Rattle.shop_words.specs.Commands.{IsCommand};
-ghost use Rattle.shop_app.specs.Statuses as spec;
 ghost use Rattle.shop_app.specs.Statuses.{IsFaultless};
 ghost use Rattle.shop_app.specs.Runs.{RunsBy, SessionBy};
 ghost use Rattle.shop_app.specs.Session.{IsFirst};
@@ -16,7 +15,7 @@ use crate::driven::drive_browsers;
 use crate::gateway::answer_lines;
 use shop_book::{Book, Solo};
 use shop_edges::{Clock, Gateway, Sink, Source, write_all};
-use shop_engine::{Ended, Worker, serve_connection};
+use shop_engine::{Worker, serve_connection};
 use shop_model::Tables;
 use shop_populate::populate;
 use shop_search::Index;
@@ -85,7 +84,7 @@ fn run<S: Source, K: Sink, C: Clock, G: Gateway>(
 
 /// The index of what tables open with, which workers may share.
 #[tactic(auto, using(shop_model::proofs::cited::Opened::opened_all))]
-pub(crate) fn index_of(alloc: Global, tables: &Tables) -> Result<Arc<Index, Global>, Memory>
+pub fn index_of(alloc: Global, tables: &Tables) -> Result<Arc<Index, Global>, Memory>
     requires { tables.now.born_items ≡ length tables.now.items }
     ensures { IfOk result (λ index. arc_value index ≡ opened tables.now) }
 {
@@ -131,17 +130,5 @@ fn session<S: Source, K: Sink, C: Clock, G: Gateway>(
         return Status::Memory;
     };
     let report = serve_connection(alloc, &mut worker, source, sink, clock, gateway);
-    status_of(report.end)
-}
-
-fn status_of(end: Ended) -> Status
-    ensures { result ≡ spec.status_of end }
-{
-    match end {
-        Ended::Closed | Ended::Asked => Status::Done,
-        Ended::Cut | Ended::Refused(_) | Ended::Spent => Status::Unserved,
-        Ended::ReadFault => Status::ReadFault,
-        Ended::WriteFault => Status::WriteFault,
-        Ended::Memory => Status::Memory,
-    }
+    Status::of(report.end)
 }

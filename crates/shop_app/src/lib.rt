@@ -11,7 +11,7 @@ mod shops;
 mod status;
 mod summary;
 
-pub use alone::{first_worker, run_alone};
+pub use alone::{first_worker, index_of, run_alone};
 pub use shared::{is_shared, run_shared};
 pub use status::Status;
 pub use summary::authorised_only;

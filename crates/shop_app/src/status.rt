@@ -1,3 +1,5 @@
+use shop_engine::Ended;
+
 /// How a run ended.
 #[derive(Clone, Copy, Debug, PartialEq, Eq)]
 pub enum Status {
@@ -17,11 +19,28 @@ pub enum Status {
     WorkerFault,
     /// Memory ran out.
     Memory,
+    /// The disk failed.
+    DiskFault,
+    /// The file is not the journal that the words ask for.
+    NotThisJournal,
 }
 
 impl Status {
     ghost use Rattle.std.specs.Prelude.{◌≡◌};
-    ghost use Rattle.shop_app.specs.Statuses.{exit_code, fault_line};
+    ghost use Rattle.shop_app.specs.Statuses.{exit_code, fault_line, status_of};
+
+    /// How a run ended whose connection ended so.
+    pub fn of(end: Ended) -> Status
+        ensures { result ≡ status_of end }
+    {
+        match end {
+            Ended::Closed | Ended::Asked => Status::Done,
+            Ended::Cut | Ended::Refused(_) | Ended::Spent => Status::Unserved,
+            Ended::ReadFault => Status::ReadFault,
+            Ended::WriteFault => Status::WriteFault,
+            Ended::Memory => Status::Memory,
+        }
+    }
 
     /// The exit code of the program.
     pub fn code(&self) -> u8
@@ -36,6 +55,8 @@ impl Status {
             Status::NetworkFault => 5,
             Status::WorkerFault => 6,
             Status::Memory => 7,
+            Status::DiskFault => 8,
+            Status::NotThisJournal => 9,
         }
     }
 
@@ -52,6 +73,8 @@ impl Status {
             Status::NetworkFault => b"tpcw: network fault\n",
             Status::WorkerFault => b"tpcw: worker fault\n",
             Status::Memory => b"tpcw: out of memory\n",
+            Status::DiskFault => b"tpcw: disk fault\n",
+            Status::NotThisJournal => b"tpcw: not this journal\n",
         }
     }
 }

@@ -12,7 +12,7 @@ use std::alloc::Global;
 
 /// How entries are kept.
 #[derive(Clone, Copy, PartialEq, Eq)]
-pub(crate) enum Format {
+pub enum Format {
     /// Purchases are taxed by one rate for all.
     First,
     /// A byte tells the rule of a purchase's tax, and items may be added.

@@ -36,7 +36,7 @@ mod target;
 mod targets;
 
 pub use appending::Appended;
-pub use headers::Head;
+pub use headers::{Format, Head};
 pub use journal::Journal;
 pub use migrating::{Migrated, migrate};
 pub use opening::{Created, Found};

@@ -1,5 +1,5 @@
 use Rattle.std.proofs.lemmas.Result.{IfOk-weaker}
-use Rattle.shop_app.proofs.Chosen.{opens_at}
+use Rattle.shop_app.proofs.cited.Chosen.{opens_at}
 use Rattle.shop_app.proofs.SessionLemmas.{posted, is_first}
 use Rattle.shop_app.proofs.alone.first_worker.Goals as goal
 

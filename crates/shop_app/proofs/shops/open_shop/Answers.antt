@@ -1,4 +1,4 @@
-use Rattle.shop_app.proofs.Chosen.{opens_at}
+use Rattle.shop_app.proofs.cited.Chosen.{opens_at}
 use Rattle.shop_app.proofs.NewShops.{opens_new}
 use Rattle.shop_app.proofs.shops.open_shop.Goals as goal
 
