@@ -1,12 +1,15 @@
-//! The shop's program: its words, the standard streams, the system's clock, its threads, its sockets and an emulated
-//! payment gateway go to the top calls.
+//! The shop's program: its words, the standard streams, the system's clock, its files, its threads, its sockets and an
+//! emulated payment gateway go to the top calls.
 #![tactic(auto)]
 
 use shop_app::{Status, is_shared, run_alone, run_shared};
+use shop_disk::FileDisk;
 use shop_edges::{ReaderSource, Spawner, StandardOutput, SystemClock, Way, WriterSink, write_all};
 use shop_gateway::Emulator;
+use shop_keep::run_kept;
 use shop_tcp::TcpLinks;
 use shop_text::{Memory, Text};
+use shop_words::is_kept;
 use std::alloc::Global;
 use std::env::{self, Args, Env};
 use std::io::{self, ErrorKind};
@@ -59,6 +62,25 @@ fn alone(rt: HostRuntime, words: &[Text], sink: &mut Output, faults: &mut Output
     )
 }
 
+/// Does what the words say with files that outlive the program.
+fn kept(rt: HostRuntime, words: &[Text], sink: &mut Output, faults: &mut Output) -> Status {
+    let mut source = ReaderSource::new(rt.stdin());
+    let mut clock = SystemClock::new(rt);
+    let mut gateway = Emulator::new(rt.alloc());
+    let (status, _, _) = run_kept(
+        rt.alloc(),
+        words,
+        FileDisk::new(rt),
+        FileDisk::new(rt),
+        &mut source,
+        sink,
+        faults,
+        &mut clock,
+        &mut gateway,
+    );
+    status
+}
+
 /// Does what the words say for several callers, each in a thread of its own, over sockets where they ask for them.
 fn shared<
     R: Threads
@@ -96,7 +118,9 @@ fn main(rt: HostRuntime) -> ExitCode {
         }
     };
     let mut sink = WriterSink::new(StandardOutput::Output(rt.stdout()));
-    let status = if is_shared(&words) {
+    let status = if is_kept(&words) {
+        kept(rt, &words, &mut sink, &mut faults)
+    } else if is_shared(&words) {
         shared(rt, &words, &mut sink, &mut faults)
     } else {
         alone(rt, &words, &mut sink, &mut faults)

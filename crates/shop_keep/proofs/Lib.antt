@@ -1,0 +1,9 @@
+pub mod Appending
+pub mod Grown
+pub mod Turns
+pub mod Ends
+pub mod FirstWorkers
+pub mod Opening
+pub mod SessionEnds
+pub mod Unserved
+pub mod Moved
