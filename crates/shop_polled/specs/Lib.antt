@@ -1,0 +1,8 @@
+pub mod Streams
+pub mod Pieces
+pub mod BytesInView
+pub mod BytesOutView
+pub mod Meetings
+pub mod Polls
+pub mod Lives
+pub mod Connections
