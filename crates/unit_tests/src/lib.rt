@@ -12,6 +12,8 @@ mod line_cases;
 #[cfg(test)]
 mod messages;
 #[cfg(test)]
+mod polled_lanes;
+#[cfg(test)]
 mod rankings;
 #[cfg(test)]
 mod searches;

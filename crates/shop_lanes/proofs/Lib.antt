@@ -1,0 +1,5 @@
+mod Spots
+mod Since
+mod Pools
+mod Turns
+mod Waits

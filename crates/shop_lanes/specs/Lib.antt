@@ -1,0 +1,10 @@
+pub mod Accepts
+pub mod Traces
+pub mod ListedLinks
+pub mod PolledLinksView
+pub mod Berths
+pub mod Spots
+pub mod Pools
+pub mod Waits
+pub mod Turns
+pub mod Landings
