@@ -9,3 +9,5 @@ pub mod ScaleNames
 pub mod Commands
 pub mod Sessions
 pub mod KeptCommands
+pub mod cited
+pub mod PolledCommand

@@ -27,7 +27,7 @@ some-within : (low high : ℕ) (number : Option ℕ) (n : ℕ) → within low hi
 some-within low high (Some m) n is = (m, refl)
 some-within low high None n is = cc
 
-within-plain : (low high : ℕ) (text : Text) (n : ℕ) → within low high (number_of text) ≡ Some n → IsPlain text
+pub within-plain : (low high : ℕ) (text : Text) (n : ℕ) → within low high (number_of text) ≡ Some n → IsPlain text
 within-plain low high text n is = let number = some-within low high (number_of text) n is in number-plain text number.0 number.1
 
 mix-plain : (text : Text) (mix : Mix) → mix_of text ≡ Some mix → IsPlain text

@@ -88,13 +88,21 @@ IsRace = IsGiven (codes "race") race_options ChoosesRace
 abbrev pub serve_options : List (List ℕ)
 serve_options = codes "port" ∷ codes "workers" ∷ codes "connections" ∷ codes "gateway" ∷ session_options
 
--- the shop that option values choose, the port, 8080 by default, how many workers, 4 by default, how many connections,
--- 1 by default, and the gateway's port, 0 by default
+-- the port that option values choose, 8080 by default
+abbrev pub ChoosesPort : (List ℕ → Option (List ℕ)) → ℕ → Type 0
+ChoosesPort values = IsChosen port_of 8080 (values (codes "port"))
+
+-- how many connections they choose, 1 by default
+abbrev pub ChoosesConnections : (List ℕ → Option (List ℕ)) → ℕ → Type 0
+ChoosesConnections values = IsChosen connections_of 1 (values (codes "connections"))
+
+-- the shop that option values choose, the port, how many workers, 4 by default, how many connections, and the gateway's
+-- port, 0 by default
 pub record ChoosesServe (values : List ℕ → Option (List ℕ)) (serve : Serve) : Type 0 where
   pub shop : Chooses values serve.shop
-  pub port : IsChosen port_of 8080 (values (codes "port")) serve.port
+  pub port : ChoosesPort values serve.port
   pub workers : IsChosen workers_of 4 (values (codes "workers")) serve.workers
-  pub connections : IsChosen connections_of 1 (values (codes "connections")) serve.connections
+  pub connections : ChoosesConnections values serve.connections
   pub gateway : IsChosen gateway_of 0 (values (codes "gateway")) serve.gateway
 
 -- `serve` and its options

@@ -3,3 +3,4 @@ pub mod Options
 pub mod Values
 pub mod Commands
 pub mod Kept
+pub mod Polled

@@ -34,7 +34,7 @@ within low high (Some number) = if nat_le low number && nat_le number high then 
 abbrev pub browsers_of : List ℕ → Option ℕ
 browsers_of text = within 1 64 (number_of text)
 
--- how many workers there are: 1 to 16
+-- how many workers or lanes there are: 1 to 16
 abbrev pub workers_of : List ℕ → Option ℕ
 workers_of text = within 1 16 (number_of text)
 

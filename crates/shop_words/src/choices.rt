@@ -1,14 +1,16 @@
 //! What the values of options choose.
 ghost use Rattle.std.specs.Prelude.{◌≡◌, ℕ, List, Err, IfOk, IfSome, IfNone};
 ghost use Rattle.clap.specs.Words.{first_value, found_of};
-ghost use Rattle.shop_words.specs.Commands.{Chooses, ChoosesDrive, ChoosesRace, ChoosesServe, ChoosesWorkload};
+ghost use Rattle.shop_words.specs.Commands.{Chooses, ChoosesConnections, ChoosesDrive, ChoosesPort, ChoosesRace, ChoosesServe, ChoosesWorkload};
 ghost use Rattle.shop_words.specs.Kept.{ChoosesKeep, ChoosesMigrate};
 ghost use Rattle.shop_words.specs.Options.{IsRequired};
+ghost use Rattle.shop_words.specs.Polled.{ChoosesPoll};
 ghost use Rattle.shop_words.specs.Values.{IsFileName};
 
 use crate::command::{Drive, Race, Serve, Session};
 use crate::kept::{Keep, Migrate};
 use crate::options::Refusal;
+use crate::polled::Poll;
 use crate::values::{
     browsers_of, connections_of, gateway_of, is_file_name, limit_of, mix_of, port_of, scale_of,
     steps_of, workers_of,
@@ -96,23 +98,37 @@ pub(crate) fn race_of(found: &ArgMatches) -> Option<Race>
     })
 }
 
+fn chosen_port(found: &ArgMatches) -> Option<u16>
+    ensures some { IfSome result (ChoosesPort (first_value (found_of found.now))) }
+    ensures none { IfNone result ((port : ℕ) → ¬ (ChoosesPort (first_value (found_of found.now)) port)) }
+{
+    match found.get_str("port") {
+        Some(text) => port_of(text),
+        None => Some(8080),
+    }
+}
+
+fn chosen_connections(found: &ArgMatches) -> Option<u32>
+    ensures some { IfSome result (ChoosesConnections (first_value (found_of found.now))) }
+    ensures none { IfNone result ((connections : ℕ) → ¬ (ChoosesConnections (first_value (found_of found.now)) connections)) }
+{
+    match found.get_str("connections") {
+        Some(text) => connections_of(text),
+        None => Some(1),
+    }
+}
+
 pub(crate) fn serve_of(found: &ArgMatches) -> Option<Serve>
     ensures some { IfSome result (ChoosesServe (first_value (found_of found.now))) }
     ensures none { IfNone result ((serve : Serve) → ¬ (ChoosesServe (first_value (found_of found.now)) serve)) }
 {
     let shop = session_of(found)?;
-    let port = match found.get_str("port") {
-        Some(text) => port_of(text)?,
-        None => 8080,
-    };
+    let port = chosen_port(found)?;
     let workers = match found.get_str("workers") {
         Some(text) => workers_of(text)?,
         None => 4,
     };
-    let connections = match found.get_str("connections") {
-        Some(text) => connections_of(text)?,
-        None => 1,
-    };
+    let connections = chosen_connections(found)?;
     let gateway = match found.get_str("gateway") {
         Some(text) => gateway_of(text)?,
         None => 0,
@@ -123,6 +139,25 @@ pub(crate) fn serve_of(found: &ArgMatches) -> Option<Serve>
         workers,
         connections,
         gateway,
+    })
+}
+
+pub(crate) fn poll_of(found: &ArgMatches) -> Option<Poll>
+    ensures some { IfSome result (ChoosesPoll (first_value (found_of found.now))) }
+    ensures none { IfNone result ((poll : Poll) → ¬ (ChoosesPoll (first_value (found_of found.now)) poll)) }
+{
+    let shop = session_of(found)?;
+    let port = chosen_port(found)?;
+    let lanes = match found.get_str("lanes") {
+        Some(text) => workers_of(text)?,
+        None => 4,
+    };
+    let connections = chosen_connections(found)?;
+    Some(Poll {
+        shop,
+        port,
+        lanes,
+        connections,
     })
 }
 
