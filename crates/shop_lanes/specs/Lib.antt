@@ -8,3 +8,4 @@ pub mod Pools
 pub mod Waits
 pub mod Turns
 pub mod Landings
+pub mod Runs

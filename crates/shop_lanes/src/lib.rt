@@ -13,6 +13,7 @@ mod listener;
 mod polled_links;
 mod polling;
 mod pool;
+mod runner;
 mod trace;
 
 pub use berth::{Berth, Completed};
@@ -20,3 +21,4 @@ pub use lanes::{Landed, Lanes, LanesOf};
 pub use listener::PolledListener;
 pub use polled_links::PolledLinks;
 pub use pool::LanesEnd;
+pub use runner::{BlockOn, Ran, Runner};
