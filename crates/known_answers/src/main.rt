@@ -65,5 +65,6 @@ fn main(rt: HostRuntime) -> Result<(), Stop> {
     browsers::print(&rt)?;
     print_input(&rt, &Routes::new(rt.alloc())?)?;
     words::print_no_words(&rt)?;
-    words::print_kept(&rt)
+    words::print_kept(&rt)?;
+    words::print_polled(&rt)
 }

@@ -2,7 +2,7 @@
 use crate::answers::{answer, heading};
 use crate::stop::Stop;
 use shop_text::{Memory, Text};
-use shop_words::{command_of, is_kept, kept_command_of};
+use shop_words::{command_of, is_kept, is_polled, kept_command_of, poll_of};
 use std::alloc::Global;
 use std::fmt::Debug;
 
@@ -29,6 +29,8 @@ fn print_command(
 ) -> Result<(), Stop> {
     if is_kept(words) {
         answer(rt, asked, &kept_command_of(rt.alloc(), words))
+    } else if is_polled(words) {
+        answer(rt, asked, &poll_of(rt.alloc(), words))
     } else {
         answer(rt, asked, &command_of(rt.alloc(), words))
     }
@@ -91,14 +93,14 @@ pub fn print_kept(rt: &(impl Print + AllocGlobal)) -> Result<(), Stop> {
         answer(rt, &line, &is_kept(&words_of(rt.alloc(), line)?))?;
     }
     heading(rt, "each grammar has its own commands")?;
-    for line in ["keep --journal=a", "migrate --from=a --to=b"] {
+    for line in ["keep --journal=a", "migrate --from=a --to=b", "poll"] {
         answer(
             rt,
             &line,
             &command_of(rt.alloc(), &words_of(rt.alloc(), line)?),
         )?;
     }
-    for line in ["session", "gateway"] {
+    for line in ["session", "gateway", "poll"] {
         answer(
             rt,
             &line,
@@ -106,4 +108,32 @@ pub fn print_kept(rt: &(impl Print + AllocGlobal)) -> Result<(), Stop> {
         )?;
     }
     Ok(())
+}
+
+/// Prints which first words are that of the command of lanes, and that its grammar has no other command.
+pub fn print_polled(rt: &(impl Print + AllocGlobal)) -> Result<(), Stop> {
+    heading(rt, "lanes are polled where the first word says so")?;
+    answer(rt, &"no words", &is_polled(&[]))?;
+    for line in [
+        "poll",
+        "poll poll",
+        "''",
+        "Poll",
+        "pol",
+        "polls",
+        "serve",
+        "keep poll",
+        "--poll",
+    ] {
+        answer(rt, &line, &is_polled(&words_of(rt.alloc(), line)?))?;
+    }
+    heading(rt, "its grammar has no other command")?;
+    for line in ["serve", "keep --journal=a", "''"] {
+        answer(
+            rt,
+            &line,
+            &poll_of(rt.alloc(), &words_of(rt.alloc(), line)?),
+        )?;
+    }
+    answer(rt, &"no words", &poll_of(rt.alloc(), &[]))
 }

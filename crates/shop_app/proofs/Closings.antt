@@ -27,7 +27,7 @@ use Rattle.shop_engine.proofs.Steps.{lawful}
 use Rattle.shop_engine.proofs.cited.Fresh.{all_fresh}
 use Rattle.shop_words.specs.declared.command.Session.{Session}
 use Rattle.shop_app.specs.NewShops.{new_book}
-use Rattle.shop_app.proofs.Places.{at_place}
+use Rattle.shop_app.proofs.cited.Places.{at_place}
 
 -- a caller who has no entry made none
 none_made : (c : ℕ) (log : List Entry) → entries_of c log ≡ [] → All (λ (e : Entry). ¬ (e.caller ≡ c)) log

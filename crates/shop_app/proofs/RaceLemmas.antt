@@ -33,7 +33,7 @@ use Rattle.shop_app.specs.NewShops.{caller_of, first_seat_at, new_book}
 use Rattle.shop_app.specs.Racing.{IsFirstTask, OpensRace, RacedBy, RacedTo, first_stage_at}
 use Rattle.shop_app.specs.Summaries.{race_lines}
 use Rattle.shop_app.proofs.Closings.{IsWithinPlace, by_callers, count, desk_at, fresh_later, is_lawful, one_shop as one_shop_at, opened, outlasts, stamps_by as stamps_at}
-use Rattle.shop_app.proofs.Places.{PairAt, same_there, zip_at, zip_size, zip_then}
+use Rattle.shop_app.proofs.cited.Places.{PairAt, same_there, zip_at, zip_size, zip_then}
 
 abbrev desk_of : RacedValue → DeskValue
 desk_of one = one.desk

@@ -12,6 +12,7 @@ mod status;
 mod summary;
 
 pub use alone::{first_worker, index_of, run_alone};
-pub use shared::{is_shared, run_shared};
+pub use shared::{is_shared, print_lines, run_shared};
+pub use shops::open_shop;
 pub use status::Status;
-pub use summary::authorised_only;
+pub use summary::{authorised_only, race_lines};

@@ -101,7 +101,7 @@ fn told_of<
 }
 
 /// Prints lines, if there are any.
-fn print_lines<K: Sink>(sink: &mut K, lines: Result<Text, Status>) -> Status
+pub fn print_lines<K: Sink>(sink: &mut K, lines: Result<Text, Status>) -> Status
     ensures prints { Prints lines (K.held sink.old) (K.held sink.new) (K.faults sink.old) (K.faults sink.new) result }
     ensures untouched { (why : Status) → lines ≡ Err why → sink.new ≡ sink.old }
 {

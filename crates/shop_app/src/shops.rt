@@ -18,7 +18,7 @@ use std::alloc::Global;
 use std::sync::{Arc, Wait};
 
 /// The desks of a new shop, and the index of its items.
-pub(crate) fn open_shop<R: Wait + Clone + Drop>(
+pub fn open_shop<R: Wait + Clone + Drop>(
     rt: &R,
     alloc: Global,
     asked: Session,

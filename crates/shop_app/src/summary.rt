@@ -85,7 +85,7 @@ fn push_caller(text: &mut Text, book: &Book, caller: u32) -> Result<(), Memory>
 }
 
 /// The lines that tell what the book came to, and how many entries each of the callers has.
-pub(crate) fn race_lines(alloc: Global, book: &Book, callers: u32) -> Result<Text, Memory>
+pub fn race_lines(alloc: Global, book: &Book, callers: u32) -> Result<Text, Memory>
     ensures { IfOk result (λ text. text ≡ spec.race_lines callers book.now) }
 {
     let mut text = Text::with_capacity(alloc, ROOM)?;

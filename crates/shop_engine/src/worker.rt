@@ -167,6 +167,13 @@ impl<St: Store> Worker<St> {
         &self.store
     }
 
+    /// The number of its caller.
+    pub fn number(&self) -> u32
+        ensures { result ≡ self.now.caller.number }
+    {
+        self.calls.caller()
+    }
+
     /// The reply that was made last.
     pub fn reply(&self) -> &[u8]
         ensures { result.now ≡ self.now.reply }

@@ -1,5 +1,4 @@
 pub mod cited
 mod Calls
 mod Connections
-mod Stations
 mod Tasks

@@ -1,2 +1,3 @@
 pub mod InTurn
 pub mod Sent
+pub mod Stations

@@ -7,14 +7,17 @@ use shop_disk::FileDisk;
 use shop_edges::{ReaderSource, Spawner, StandardOutput, SystemClock, Way, WriterSink, write_all};
 use shop_gateway::Emulator;
 use shop_keep::run_kept;
+use shop_poll::run_polled;
 use shop_tcp::TcpLinks;
 use shop_text::{Memory, Text};
-use shop_words::is_kept;
+use shop_tokio::{TokioLinks, TokioRunner};
+use shop_words::{is_kept, is_polled};
 use std::alloc::Global;
 use std::env::{self, Args, Env};
 use std::io::{self, ErrorKind};
 use std::net::{Net, TcpListener, TcpStream};
 use std::process::ExitCode;
+use std::random::RandomSource;
 use std::rt::Clock;
 use std::sync::Wait;
 use std::thread::Threads;
@@ -108,6 +111,50 @@ fn shared<
     )
 }
 
+/// A runner, and a listener whose links it waits for.
+fn runner_of<R: Wait + Net + Clock + RandomSource + AllocGlobal + Copy + Drop>(
+    rt: R,
+) -> Result<(TokioRunner<R>, TokioLinks<R>), Status> {
+    let runner = match TokioRunner::new(rt) {
+        Ok(runner) => runner,
+        Err(error) if error.kind() == ErrorKind::OutOfMemory => return Err(Status::Memory),
+        Err(_) => return Err(Status::WorkerFault),
+    };
+    let Ok(handle) = runner.handle().clone() else {
+        return Err(Status::Memory);
+    };
+    let listener = TokioLinks::new(rt, handle);
+    Ok((runner, listener))
+}
+
+/// Does what the words say for many callers, all in one thread, over sockets.
+fn polled<R: Wait + Net + Clock + RandomSource + AllocGlobal + Copy + Drop>(
+    rt: R,
+    words: &[Text],
+    sink: &mut Output,
+    faults: &mut Output,
+) -> Status {
+    let (mut runner, listener) = match runner_of(rt) {
+        Ok(both) => both,
+        Err(status) => {
+            let _ = write_all(faults, status.line());
+            return status;
+        }
+    };
+    let clock = SystemClock::new(rt);
+    let (status, _) = run_polled(
+        &rt,
+        rt.alloc(),
+        words,
+        listener,
+        &mut runner,
+        sink,
+        faults,
+        &clock,
+    );
+    status
+}
+
 fn main(rt: HostRuntime) -> ExitCode {
     let mut faults = WriterSink::new(StandardOutput::Error(rt.stderr()));
     let words = match words_of(&rt) {
@@ -120,6 +167,8 @@ fn main(rt: HostRuntime) -> ExitCode {
     let mut sink = WriterSink::new(StandardOutput::Output(rt.stdout()));
     let status = if is_kept(&words) {
         kept(rt, &words, &mut sink, &mut faults)
+    } else if is_polled(&words) {
+        polled(rt, &words, &mut sink, &mut faults)
     } else if is_shared(&words) {
         shared(rt, &words, &mut sink, &mut faults)
     } else {

@@ -2,7 +2,7 @@ use Rattle.std.proofs.Common.{inr, refl, subst}
 use Rattle.shop_words.specs.declared.command.Command.TheVariants as command
 use Rattle.shop_words.specs.Commands.{IsCommand, IsDrive, IsSession}
 use Rattle.shop_words.specs.Options.{value_for}
-use Rattle.shop_app.proofs.cited.Chosen.{limit_chosen}
+use Rattle.shop_words.proofs.cited.Chosen.{limit_chosen}
 use Rattle.shop_app.proofs.alone.run.Goals as goal
 
 pub session-requires : goal.session-requires

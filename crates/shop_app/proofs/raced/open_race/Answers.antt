@@ -1,5 +1,5 @@
 use Rattle.std.proofs.Common.{arith}
-use Rattle.shop_app.proofs.NewShops.{rest_new, rest_opens, rest_size}
+use Rattle.shop_app.proofs.cited.NewShops.{rest_new, rest_opens, rest_size}
 use Rattle.shop_app.proofs.raced.open_race.Goals as goal
 
 pub tasks_of-requires-clause-desks : goal.tasks_of-requires-clause-desks

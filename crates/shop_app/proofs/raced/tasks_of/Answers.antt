@@ -6,7 +6,7 @@ use Rattle.std.proofs.lemmas.List.{nil_from_length}
 use Rattle.shop_attempt.specs.Seats.{IsSeat}
 use Rattle.shop_turn.specs.Desks.{DeskValue, seat_of}
 use Rattle.shop_app.specs.Racing.{IsFirstTask}
-use Rattle.shop_app.proofs.NewShops.{holds_next, next_desk, posted_at}
+use Rattle.shop_app.proofs.cited.NewShops.{holds_next, next_desk, posted_at}
 use Rattle.shop_app.proofs.RaceLemmas.{first_task}
 use Rattle.shop_app.proofs.raced.tasks_of.Goals as goal
 

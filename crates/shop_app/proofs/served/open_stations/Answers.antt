@@ -2,7 +2,7 @@ use Rattle.std.proofs.Common.{◌≡◌, ◌+◌, length, arith, subst}
 use Rattle.shop_places.specs.Listening.{Listening, listening}
 use Rattle.shop_app.specs.Serving.{Dials, dials}
 use Rattle.shop_app.proofs.Dialled.{listens_by}
-use Rattle.shop_app.proofs.NewShops.{rest_new, rest_size}
+use Rattle.shop_app.proofs.cited.NewShops.{rest_new, rest_size}
 use Rattle.shop_app.proofs.served.open_stations.Goals as goal
 
 pub stations_of-requires-clause-desks : goal.stations_of-requires-clause-desks

@@ -3,8 +3,8 @@ use denote.Param.Send.{sendable}
 use Rattle.shop_places.specs.declared.serving.Stop.{Stop}
 use Rattle.shop_places.specs.Listening.{Listening, listening}
 use Rattle.shop_tasks.proofs.cited.Sent.{station_sent}
-use Rattle.shop_app.proofs.ServeLemmas.{one_shop, served_links}
-use Rattle.shop_app.proofs.Ends.{stopped}
+use Rattle.shop_app.proofs.cited.ServeLemmas.{one_shop, served_links}
+use Rattle.shop_app.proofs.cited.Ends.{stopped}
 use Rattle.shop_app.proofs.served.serve_connections.Goals as goal
 
 pub serve-requires-send-S : goal.serve-requires-send-S

@@ -7,7 +7,7 @@ use Rattle.shop_places.specs.Listening.{Listening, listening}
 use Rattle.shop_turn.specs.Desks.{DeskValue, seat_of}
 use Rattle.shop_tasks.specs.Serves.{Meanings}
 use Rattle.shop_app.specs.Serving.{AreFirstStations, Dials, IsFirstStation, dials}
-use Rattle.shop_app.proofs.NewShops.{holds_next, next_desk, posted_at}
+use Rattle.shop_app.proofs.cited.NewShops.{holds_next, next_desk, posted_at}
 use Rattle.shop_app.proofs.Dialled.{dials_more, dials_none}
 use Rattle.shop_app.proofs.served.stations_of.Goals as goal
 

@@ -1,6 +1,6 @@
 use Rattle.shop_places.specs.Listening.{listening}
 use Rattle.shop_app.specs.Shared.{shared}
-use Rattle.shop_app.proofs.Ends.{all_done, bad_status, run_told}
+use Rattle.shop_app.proofs.cited.Ends.{all_done, bad_status, run_told}
 use Rattle.shop_app.proofs.shared.run_shared.Goals as goal
 
 pub returns-clause-run : goal.returns-clause-run

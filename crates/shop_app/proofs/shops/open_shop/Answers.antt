@@ -1,5 +1,5 @@
 use Rattle.shop_app.proofs.cited.Chosen.{opens_at}
-use Rattle.shop_app.proofs.NewShops.{opens_new}
+use Rattle.shop_app.proofs.cited.NewShops.{opens_new}
 use Rattle.shop_app.proofs.shops.open_shop.Goals as goal
 
 pub open-requires : goal.open-requires

@@ -4,7 +4,7 @@ use Rattle.shop_engine.specs.Workers.{WorkerState}
 use Rattle.shop_turn.specs.Desks.{DeskValue}
 use Rattle.shop_tasks.specs.Serves.{Meanings, Serves}
 use Rattle.shop_tasks.specs.StationValues.{station_of}
-use Rattle.shop_tasks.proofs.Stations.{unserved}
+use Rattle.shop_tasks.proofs.cited.Stations.{unserved}
 use Rattle.shop_tasks.proofs.station.serve_by.Goals as goal
 
 pub returns-in-Err : goal.returns-in-Err

@@ -1,4 +1,4 @@
-use Rattle.shop_tasks.proofs.Stations.{let_go}
+use Rattle.shop_tasks.proofs.cited.Stations.{let_go}
 use Rattle.shop_tasks.proofs.station.StationStation.serve.Goals as goal
 
 pub returns : goal.returns

@@ -26,7 +26,7 @@ use Rattle.shop_words.specs.declared.command.Serve.{Serve}
 use Rattle.shop_app.specs.NewShops.{first_seat_at, first_standing_at, new_book}
 use Rattle.shop_app.specs.Serving.{IsFirstStation, IsServable, Listens, OpensStations, ServedBy, ServedLinks, TellsOfBook, dials, told_at_first}
 use Rattle.shop_app.proofs.Closings.{IsWithinPlace, by_callers, count, desk_at, fresh_later, is_lawful, name, one_shop as one_shop_at, opened, outlasts, stamps_by as stamps_at}
-use Rattle.shop_app.proofs.Places.{PairAt, at_place, zip_at, zip_size}
+use Rattle.shop_app.proofs.cited.Places.{PairAt, at_place, zip_at, zip_size}
 use Rattle.shop_app.proofs.Visits.{visits_few}
 
 module _ {C I O : Type 0} (by : Meanings C I O) (serve : Serve) (clock : Option (List ℕ)) (own : DeskValue) (firsts : List (StationValue C I O)) (opens : OpensStations by serve clock own firsts) where

@@ -25,7 +25,7 @@ module _ (To : List ℕ → Type 0) (jobs : ℕ) (Unreached : Type 0) (old new :
   abbrev after : Shared
   after = record { held = held'; writes = writes'; spawning = new }
 
-  comes : (lines : Result (List ℕ) Status) (outcome : Status) → Tells To jobs Unreached old new lines → Prints lines held held' writes writes' outcome → Comes To jobs Unreached before after outcome
+  pub comes : (lines : Result (List ℕ) Status) (outcome : Status) → Tells To jobs Unreached old new lines → Prints lines held held' writes writes' outcome → Comes To jobs Unreached before after outcome
   comes (Ok lines) status.Done told printed = (lines, told.0, told.1, printed)
   comes (Ok lines) status.WriteFault told printed = (lines, told.0, told.1, printed.0, printed.1)
   comes (Ok lines) status.Unserved told printed = absurd printed
@@ -48,7 +48,7 @@ module _ (To : List ℕ → Type 0) (jobs : ℕ) (Unreached : Type 0) (old new :
   comes (Err status.Memory) outcome told printed = subst (Comes To jobs Unreached before after) (sym printed.0) printed.1
 
   -- where nothing failed, all was served, or memory ran out
-  comes_done : (outcome : Status) → outcome ≢ status.BadWords → Comes To jobs Unreached before after outcome → (Rose old.faults new.faults → ⊥) → (Unreached → ⊥) → (Rose writes writes' → ⊥) → IsDone outcome
+  pub comes_done : (outcome : Status) → outcome ≢ status.BadWords → Comes To jobs Unreached before after outcome → (Rose old.faults new.faults → ⊥) → (Unreached → ⊥) → (Rose writes writes' → ⊥) → IsDone outcome
   comes_done status.Done good did no_start no_link no_write = inl refl
   comes_done status.Unserved good did no_start no_link no_write = absurd did
   comes_done status.BadWords good did no_start no_link no_write = absurd (good refl)

@@ -1,0 +1,2 @@
+mod Servings
+mod Runs

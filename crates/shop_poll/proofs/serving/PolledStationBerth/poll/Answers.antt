@@ -1,0 +1,23 @@
+use Rattle.std.proofs.Common.{sym, subst}
+use Rattle.shop_turn.specs.Desks.{DeskValue}
+use Rattle.shop_poll.specs.Servings.{GivesAs, IsPutOffAs, PolledMeanings}
+use Rattle.shop_poll.specs.declared.serving.Stage.{Stage}
+use Rattle.shop_poll.specs.declared.serving.Stage.TheVariants.{Live}
+use Rattle.shop_poll.proofs.serving.PolledStationBerth.poll.Goals as goal
+
+pub returns-in-Ready-clause-value : goal.returns-in-Ready-clause-value
+returns-in-Ready-clause-value g c =
+    let by : PolledMeanings g.row.S.Denot g.row.K.Denot g.row.C.Denot = (g.S.PolledSource, g.K.PolledSink, g.C.Clock) in
+    subst (λ (s : Stage DeskValue g.row.S.Denot g.row.K.Denot g.row.C.Denot). GivesAs by s c.completed.result) (sym c.in-Live.is)
+    (c.finish.result, c.in-Ready.ensures.value c.finish.result c.finish.ensures.out, c.completed.ensures.left, c.completed.ensures.verdicts)
+
+pub returns-in-Pending-clause-same : goal.returns-in-Pending-clause-same
+returns-in-Pending-clause-same g c done (finished, gives, left, verdicts) =
+    let by : PolledMeanings g.row.S.Denot g.row.K.Denot g.row.C.Denot = (g.S.PolledSource, g.K.PolledSink, g.C.Clock) in
+    subst (λ (s : Stage DeskValue g.row.S.Denot g.row.K.Denot g.row.C.Denot). GivesAs by s done) (sym c.in-Live.is)
+    (finished, c.in-Pending.ensures.same finished gives, left, verdicts)
+
+pub returns-in-Pending-clause-waited : goal.returns-in-Pending-clause-waited
+returns-in-Pending-clause-waited g c =
+    subst (λ (s : Stage DeskValue g.row.S.Denot g.row.K.Denot g.row.C.Denot). IsPutOffAs g.S.PolledSource.waits g.K.PolledSink.waits s (Live c.poll_end.new.self)) (sym c.in-Live.is)
+    (c.poll_end.new.cx, c.in-Pending.ensures.waited)

@@ -1,0 +1,4 @@
+pub mod Servings
+pub mod Workers
+pub mod Lanes
+pub mod Runs
