@@ -23,6 +23,22 @@ mod pages;
 #[cfg(test)]
 mod peers;
 #[cfg(test)]
+mod polled;
+#[cfg(test)]
+mod polled_links;
+#[cfg(test)]
+mod polled_loopback;
+#[cfg(test)]
+mod polled_runs;
+#[cfg(test)]
+mod polled_served;
+#[cfg(test)]
+mod polled_unserved;
+#[cfg(test)]
+mod polled_waits;
+#[cfg(test)]
+mod polling;
+#[cfg(test)]
 mod races;
 #[cfg(test)]
 mod runs;

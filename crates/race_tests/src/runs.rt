@@ -17,7 +17,7 @@ pub(crate) struct Outcome {
 }
 
 /// The words between blanks.
-fn words_of(alloc: Global, line: &str) -> Result<Vec<Text>, Memory> {
+pub(crate) fn words_of(alloc: Global, line: &str) -> Result<Vec<Text>, Memory> {
     let mut words = Vec::new(alloc);
     for word in line.split_whitespace() {
         words.push(Text::copy(alloc, word.as_bytes())?)?;

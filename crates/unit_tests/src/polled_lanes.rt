@@ -1,12 +1,11 @@
-use futures::executor::block_on;
 use futures::task::{Context, Poll};
 use futures::test::MockTask;
 use shop_edges::{Linked, Opened};
-use shop_lanes::{Berth, Completed, Lanes, LanesEnd, PolledLinks, PolledListener};
+use shop_lanes::{
+    Berth, BlockOn, Completed, Lanes, LanesEnd, PolledLinks, PolledListener, Ran, Runner,
+};
 use shop_text::{Listed, Memory};
-use std::alloc::{AllocGlobal, Global};
-use std::random::RandomSource;
-use std::sync::Wait;
+use std::alloc::Global;
 use std::test::Fail;
 
 /// Serves each link in as many polls as its source says, and one more, and writes its caller's number to it.
@@ -101,14 +100,14 @@ fn three_links(alloc: Global, case: &Case) -> Result<PolledLinks<u32, u32>, Memo
 }
 
 /// Whether two lanes end so, where these are the callers and reports of the links, and these the links that came back.
-fn come_back<R: Wait + RandomSource + AllocGlobal>(
-    rt: &R,
+fn come_back<N: Runner>(
+    runner: &mut N,
+    alloc: Global,
     case: &Case,
     end: LanesEnd,
     reports: &[(u32, u32)],
     back: &[(u64, u32, u32)],
 ) -> Result<bool, Memory> {
-    let alloc = rt.alloc();
     let listener = three_links(alloc, case)?;
     let berths = [
         Counting {
@@ -121,7 +120,7 @@ fn come_back<R: Wait + RandomSource + AllocGlobal>(
         },
     ];
     let lanes = Lanes::new(alloc, listener, case.links, Vec::from_array(alloc, berths)?)?;
-    let Ok(landed) = block_on(rt, lanes) else {
+    let Ran::Done(landed) = runner.run(lanes) else {
         return Err(Memory);
     };
     Ok(
@@ -133,6 +132,7 @@ fn come_back<R: Wait + RandomSource + AllocGlobal>(
 
 #[test]
 fn lanes_go_on_side_by_side(rt: HostRuntime) -> Result<(), Fail> {
+    let mut runner = BlockOn::new(rt);
     let case = Case {
         links: 3,
         waits: &[],
@@ -140,7 +140,8 @@ fn lanes_go_on_side_by_side(rt: HostRuntime) -> Result<(), Fail> {
     };
     assert!(rt;
         come_back(
-            &rt,
+            &mut runner,
+            rt.alloc(),
             &case,
             LanesEnd::All,
             &[(2, 1), (1, 1), (2, 2)],
@@ -152,6 +153,7 @@ fn lanes_go_on_side_by_side(rt: HostRuntime) -> Result<(), Fail> {
 
 #[test]
 fn a_link_that_is_waited_for_comes_later(rt: HostRuntime) -> Result<(), Fail> {
+    let mut runner = BlockOn::new(rt);
     let case = Case {
         links: 2,
         waits: &[1, 3, 4],
@@ -159,7 +161,8 @@ fn a_link_that_is_waited_for_comes_later(rt: HostRuntime) -> Result<(), Fail> {
     };
     assert!(rt;
         come_back(
-            &rt,
+            &mut runner,
+            rt.alloc(),
             &case,
             LanesEnd::All,
             &[(1, 1), (2, 1)],
@@ -171,12 +174,22 @@ fn a_link_that_is_waited_for_comes_later(rt: HostRuntime) -> Result<(), Fail> {
 
 #[test]
 fn what_was_accepted_comes_back_at_a_fault(rt: HostRuntime) -> Result<(), Fail> {
+    let mut runner = BlockOn::new(rt);
     let case = Case {
         links: 3,
         waits: &[],
         fails: &[2],
     };
-    assert!(rt; come_back(&rt, &case, LanesEnd::ListenerFault, &[(1, 1)], &[(1, 2, 1)])?);
+    assert!(rt;
+        come_back(
+            &mut runner,
+            rt.alloc(),
+            &case,
+            LanesEnd::ListenerFault,
+            &[(1, 1)],
+            &[(1, 2, 1)]
+        )?
+    );
     let case = Case {
         links: 4,
         waits: &[],
@@ -184,7 +197,8 @@ fn what_was_accepted_comes_back_at_a_fault(rt: HostRuntime) -> Result<(), Fail> 
     };
     assert!(rt;
         come_back(
-            &rt,
+            &mut runner,
+            rt.alloc(),
             &case,
             LanesEnd::ListenerFault,
             &[(2, 1), (1, 1), (2, 2)],
