@@ -7,10 +7,11 @@ use Rattle.futures.specs.declared.task.context.Context.{Context}
 use Rattle.shop_places.specs.declared.spot.Spot.{Spot}
 use Rattle.shop_places.specs.declared.spot.Spot.TheVariants.{Free, Busy, Gone}
 use Rattle.shop_lanes.specs.declared.berth.Berth as berth
+use Rattle.shop_lanes.specs.declared.berth.Completed.{Completed}
 use Rattle.shop_lanes.specs.declared.pool.Pool.{Pool}
 use Rattle.shop_lanes.specs.Pools.{IsClosed, IsOpen, Meanings}
 use Rattle.shop_lanes.specs.Spots.{IsBusy, lane_at}
-use Rattle.shop_lanes.specs.Turns.{Accepts, AcceptsAt, Began, BeginsAt, HadTurn, KeepsLanes, MayBegin, OnlyReports, TurnAt, Turns, TurnsOn}
+use Rattle.shop_lanes.specs.Turns.{Accepts, AcceptsAt, Began, BeginsAt, Completes, EndsTurn, HadTurn, HasEnded, KeepsLanes, MayBegin, OnlyReports, TurnAt, Turns, TurnsOn}
 use Rattle.shop_lanes.specs.Waits.{HasMore}
 use Rattle.shop_lanes.proofs.Pools.{free_began, only_began, open_closed}
 use Rattle.shop_lanes.proofs.Spots.{each_set}
@@ -99,6 +100,19 @@ module _ {B V I O P : Type 0} (by : berth.Ghosts B I O P V) where
   turned_on cx served (Free b) new turned = turned
   turned_on cx served (Busy link serving) new turned = subst (HadTurn by cx served (Busy link serving)) (sym turned.1) (turned.4, turned.5)
   turned_on cx served Gone new turned = turned
+
+  -- a lane that ended in its turn may be finished, and what is left then it served before
+  pub has_ended : (old new : Spot B V) → EndsTurn by old new → HasEnded by new
+  has_ended (Free b) new ends = absurd ends
+  has_ended (Busy link serving) new ends = subst (HasEnded by) (sym ends.1) ends.2
+  has_ended Gone new ends = absurd ends
+
+  pub completes : (old new : Spot B V) (ended : ℕ × Completed B I O P) → EndsTurn by old new → Completes by new ended → Completes by old ended
+  completes (Free b) new ended ends done = absurd ends
+  completes (Busy link serving) new ended (serving', is, over, more) (serving'', same, gives) =
+      let one : serving'' ≡ serving' = cc in
+      (serving, cc, more ended.1 (subst (λ (v : V). by.gives v ended.1) one gives))
+  completes Gone new ended ends done = absurd ends
 
   turned_later : (cx cx' : Context) → Keeps cx cx' → (served served' : Type 0) → (served → served') → (old new : Spot B V) → HadTurn by cx served old new → HadTurn by cx' served' old new
   turned_later cx cx' keeps served served' more (Free b) new turned = turned

@@ -1,12 +1,12 @@
 -- What is done at lanes in a poll, one lane after another.
-use Rattle.std.specs.Prelude.{◌≡◌, ◌≢◌, ◌⊎◌, ℕ, ◌+◌, ◌≤◌, ◌<◌, length, set, Option, Some, None}
+use Rattle.std.specs.Prelude.{◌≡◌, ◌≢◌, ◌⊎◌, ℕ, ◌+◌, ◌≤◌, ◌<◌, List, [], ◌∷◌, ◌++◌, length, set, Option, Some, None}
 use Rattle.std.specs.Vec.{vec_capacity}
 use Rattle.futures.specs.Task.{Covers}
 use Rattle.futures.specs.declared.task.Poll.{Poll}
 use Rattle.futures.specs.declared.task.Poll.TheVariants.{Ready, Pending}
 use Rattle.futures.specs.declared.task.context.Context.{Context}
 use Rattle.shop_edges.specs.Causes.{Rose}
-use Rattle.shop_places.specs.Listening.{Gave, GaveNone}
+use Rattle.shop_places.specs.Listening.{Gave, GaveNone, TookBack}
 use Rattle.shop_places.specs.declared.spot.Spot.{Spot}
 use Rattle.shop_places.specs.declared.spot.Spot.TheVariants.{Free, Busy, Gone}
 use Rattle.shop_lanes.specs.declared.berth.Berth as berth
@@ -25,6 +25,18 @@ module _ {B V I O P : Type 0} (by : berth.Ghosts B I O P V) where
   TurnsOn cx (Busy link serving) new = (serving' : V) × (new ≡ Busy link serving') × by.can_poll serving'
       × ((done : Completed B I O P) → by.gives serving' done → by.gives serving done) × by.puts_off serving serving' × Covers cx (by.needs serving')
   TurnsOn cx Gone new = new ≡ Gone
+
+  -- what it serves has ended in its turn
+  abbrev pub EndsTurn : Spot B V → Spot B V → Type 0
+  EndsTurn (Free berth) new = ⊥
+  EndsTurn (Busy link serving) new = (serving' : V) × (new ≡ Busy link serving') × by.has_ended serving'
+      × ((done : Completed B I O P) → by.gives serving' done → by.gives serving done)
+  EndsTurn Gone new = ⊥
+
+  abbrev pub HasEnded : Spot B V → Type 0
+  HasEnded (Free berth) = ⊥
+  HasEnded (Busy link serving) = by.has_ended serving
+  HasEnded Gone = ⊥
 
   -- a lane has served its link
   abbrev pub Completes : Spot B V → ℕ × Completed B I O P → Type 0
@@ -101,6 +113,15 @@ module _ {L B V I O P : Type 0} (by : Meanings L B V I O P) where
   -- where a link is waited for, the listener put it off
   abbrev pub AwaitsLink : Pool L B V P → Pool L B V P → Context → Type 0
   AwaitsLink old new cx = IsWaiting new → Rose (by.1.waits old.listener) (by.1.waits new.listener) × Covers cx (by.1.needs new.listener)
+
+  -- a lane has served its link: it is free, the report is told, and the link came back
+  pub record IsFreed (old new : Spot B V) (before after : List (ℕ × P)) (listener listener' : L) : Type 0 where
+    pub link : ℕ
+    pub done : Completed B I O P
+    pub completes : Completes by.0 old (link, done)
+    pub free : new ≡ Free done.berth
+    pub told : after ≡ before ++ (by.0.caller done.berth, done.report) ∷ []
+    pub back : TookBack (record { link = link; source = done.source; sink = done.sink }) (seen_polled by listener) (seen_polled by listener')
 
   -- one lane had its turn
   pub record TurnAt (at : ℕ) (old new : Pool L B V P) (cx : Context) : Type 0 where

@@ -57,6 +57,35 @@ impl<B: Berth, L: PolledListener<In = B::In, Out = B::Out>> Pool<L, B, B::Servin
         self.lanes[at] = Spot::Busy(link, berth.begin(source, sink));
     }
 
+    /// Accepts a link for a free lane, if there are links to come. It is false where no other lane need be asked.
+    #[inline(never)]
+    fn accept_free(&mut self, cx: &mut Context<'_>, at: usize) -> bool
+        requires live { CanGoOn B.can_poll self.old }
+        requires inside { at < length self.old.lanes.items }
+        requires free { IsFree (lane_at at self.old.lanes.items) }
+        ensures live { CanGoOn B.can_poll self.new }
+        ensures since { GoesOn (B.Berth, L.PolledListener) self.old self.new }
+        ensures accepts { spec.AcceptsAt (B.Berth, L.PolledListener) at self.old self.new }
+        ensures busy { IsTrue result → IsBusy (lane_at at self.new.lanes.items) }
+        ensures awaits { IsFalse result → spec.AwaitsLink (B.Berth, L.PolledListener) self.old self.new cx.new }
+        ensures kept { Keeps cx.old cx.new }
+    {
+        if !self.is_open() {
+            return false;
+        }
+        let accepted = match self.accept(cx) {
+            Poll::Ready(accepted) => accepted,
+            Poll::Pending => return false,
+        };
+        match accepted {
+            Some((source, sink)) => {
+                self.begin_at(at, source, sink);
+                true
+            }
+            None => false,
+        }
+    }
+
     /// Accepts a link for a lane, if it is free and there are links to come. It is false where no other lane need be
     /// asked.
     fn accept_at(&mut self, cx: &mut Context<'_>, at: usize) -> bool
@@ -72,20 +101,7 @@ impl<B: Berth, L: PolledListener<In = B::In, Out = B::Out>> Pool<L, B, B::Servin
         if let Spot::Busy(_, _) = &self.lanes[at] {
             return true;
         }
-        if !self.is_open() {
-            return false;
-        }
-        let accepted = match self.accept(cx) {
-            Poll::Ready(accepted) => accepted,
-            Poll::Pending => return false,
-        };
-        match accepted {
-            Some((source, sink)) => {
-                self.begin_at(at, source, sink);
-                true
-            }
-            None => false,
-        }
+        self.accept_free(cx, at)
     }
 
     /// Accepts links as long as a lane is free for one, the first such lane each time.

@@ -35,6 +35,9 @@ pub trait Berth: Drop {
     /// Holds of a serving that may be polled.
     ghost can_poll: { Self.Serving → Type 0 };
 
+    /// Holds of a serving whose link was served.
+    ghost has_ended: { Self.Serving → Type 0 };
+
     /// Holds of what a serving may leave.
     ghost gives: { Self.Serving → Completed Self Self.In Self.Out Self.Report → Type 0 };
 
@@ -54,15 +57,18 @@ pub trait Berth: Drop {
         ensures serving { IsServing serves gives self source sink result };
 
     /// Serves on, until the link was served, or as far as it goes now; then word is left with the task to be polled again.
-    fn poll(
-        serving: &mut Self::Serving,
-        cx: &mut Context<'_>,
-    ) -> Poll<Completed<Self, Self::In, Self::Out, Self::Report>>
+    /// Nothing is handed out, so that a call that is put off clears no room for it; behind the end `finish` does.
+    fn poll(serving: &mut Self::Serving, cx: &mut Context<'_>) -> Poll<()>
         requires { can_poll serving.old }
-        ensures value { IfReady result (gives serving.old) }
+        ensures ended { IfReady result (λ done. has_ended serving.new) }
         ensures again { OnPending result (can_poll serving.new) }
-        ensures same { OnPending result ((x : _) → gives serving.new x → gives serving.old x) }
+        ensures same { (x : _) → gives serving.new x → gives serving.old x }
         ensures waited { OnPending result (puts_off serving.old serving.new) }
         ensures registered { OnPending result (Covers cx.new (needs serving.new)) }
         ensures kept { Keeps cx.old cx.new };
+
+    /// Hands out what is left of a link that was served.
+    fn finish(serving: Self::Serving) -> Completed<Self, Self::In, Self::Out, Self::Report>
+        requires { has_ended serving }
+        ensures { gives serving result };
 }

@@ -1,4 +1,4 @@
-ghost use Rattle.std.specs.Prelude.{◌≡◌, ◌+◌, ◌≤◌, ◌<◌, [], ℕ, All, IfOk, length, map};
+ghost use Rattle.std.specs.Prelude.{◌≡◌, ◌+◌, ◌≤◌, ◌<◌, [], ℕ, All, IfOk, IsSomeAnd, length, map};
 ghost use Rattle.std.specs.Vec.{vec_len, vec_capacity};
 ghost use Rattle.futures.specs.Poll.{IfReady, OnPending};
 ghost use Rattle.futures.specs.Task.{Covers, Keeps};
@@ -105,8 +105,8 @@ impl<B: Berth, L: PolledListener<In = B::In, Out = B::Out> + Drop> Lanes<
     B::Serving,
     B::Report,
 > {
-    ghost use Rattle.shop_lanes.specs.Landings.{CanPoll, IsBegun};
-    ghost use Rattle.shop_lanes.specs.Pools.{seen_polled};
+    ghost use Rattle.shop_lanes.specs.Landings.{CanPoll, Gives, IsBegun};
+    ghost use Rattle.shop_lanes.specs.Pools.{CanGoOn, IsOver, seen_polled};
 
     /// A lane for each berth, in their order, which are to serve so many links of the listener. No link was accepted yet.
     pub fn new(
@@ -133,6 +133,18 @@ impl<B: Berth, L: PolledListener<In = B::In, Out = B::Out> + Drop> Lanes<
                 ended: LanesEnd::All,
             }),
         })
+    }
+
+    /// What is left, once all links were served.
+    #[inline(never)]
+    fn land(&mut self) -> Landed<L, B, B::Report>
+        requires { IsSomeAnd self.old.pool (λ pool. CanGoOn B.can_poll pool × IsOver pool) }
+        ensures { Gives (B.Berth, L.PolledListener) self.old result }
+    {
+        let Some(pool) = self.pool.take() else {
+            unreachable!()
+        };
+        pool.land()
     }
 }
 
@@ -161,12 +173,8 @@ impl<B: Berth, L: PolledListener<In = B::In, Out = B::Out> + Drop> Future
             unreachable!()
         };
         match pool.poll(cx) {
-            Poll::Ready(()) => {}
-            Poll::Pending => return Poll::Pending,
+            Poll::Ready(()) => Poll::Ready(self.land()),
+            Poll::Pending => Poll::Pending,
         }
-        let Some(pool) = self.pool.take() else {
-            unreachable!()
-        };
-        Poll::Ready(pool.land())
     }
 }

@@ -1,4 +1,4 @@
-ghost use Rattle.std.specs.Prelude.{◌≡◌, ◌≤◌, ◌<◌, ◌++◌, ◌∷◌, [], IfNone, IfSome, length, option_map};
+ghost use Rattle.std.specs.Prelude.{◌≡◌, ◌≤◌, ◌<◌, ◌++◌, ◌∷◌, [], IsFalse, IsTrue, length, option_map};
 ghost use Rattle.std.specs.Vec.{vec_capacity};
 ghost use Rattle.futures.specs.Task.{Keeps};
 ghost use Rattle.shop_edges.specs.Links.{got_back};
@@ -10,41 +10,51 @@ use crate::pool::Pool;
 use crate::{Berth, Completed, PolledListener};
 use futures::task::{Context, Poll};
 use shop_places::Spot;
+use std::mem;
 
-/// Polls what a lane serves, if it is busy, where it stands. The number of its link, and what is left, if that was served.
-fn poll_lane<B: Berth>(
-    lane: &mut Spot<B, B::Serving>,
-    cx: &mut Context<'_>,
-) -> Option<(u64, Completed<B, B::In, B::Out, B::Report>)>
+/// Polls what a lane serves, if it is busy, where it stands. Whether its link was served.
+fn poll_lane<B: Berth>(lane: &mut Spot<B, B::Serving>, cx: &mut Context<'_>) -> bool
     requires { IsHere B.can_poll lane.old }
-    ensures completed { IfSome result (spec.Completes B.Berth lane.old) }
-    ensures turned { IfNone result (spec.TurnsOn B.Berth cx.new lane.old lane.new) }
+    ensures ended { IsTrue result → spec.EndsTurn B.Berth lane.old lane.new }
+    ensures turned { IsFalse result → spec.TurnsOn B.Berth cx.new lane.old lane.new }
     ensures kept { Keeps cx.old cx.new }
 {
     match lane {
-        Spot::Busy(link, serving) => match B::poll(serving, cx) {
-            Poll::Ready(done) => Some((*link, done)),
-            Poll::Pending => None,
+        Spot::Busy(_, serving) => match B::poll(serving, cx) {
+            Poll::Ready(()) => true,
+            Poll::Pending => false,
         },
-        Spot::Free(_) | Spot::Gone => None,
+        Spot::Free(_) | Spot::Gone => false,
     }
 }
 
-/// Tells the report of a link that was served, and gives the link back; the berth is left.
-fn complete<B: Berth, L: PolledListener<In = B::In, Out = B::Out>>(
+/// What is left of the link that a lane has served, behind its number.
+fn finish_lane<B: Berth>(lane: Spot<B, B::Serving>) -> (u64, Completed<B, B::In, B::Out, B::Report>)
+    requires { spec.HasEnded B.Berth lane }
+    ensures { spec.Completes B.Berth lane result }
+{
+    match lane {
+        Spot::Busy(link, serving) => (link, B::finish(serving)),
+        other => {
+            drop(other);
+            unreachable!()
+        }
+    }
+}
+
+/// Frees a lane that has served its link: the report is told, and the link given back.
+#[inline(never)]
+fn free_lane<B: Berth, L: PolledListener<In = B::In, Out = B::Out>>(
+    lane: &mut Spot<B, B::Serving>,
     listener: &mut L,
     reports: &mut Vec<(u32, B::Report)>,
-    link: u64,
-    done: Completed<B, B::In, B::Out, B::Report>,
-) -> B
-    requires { length reports.old.items < vec_capacity reports.old }
-    ensures berth { result ≡ done.berth }
-    ensures told { reports.new.items ≡ reports.old.items ++ (B.caller done.berth, done.report) ∷ [] }
+)
+    requires ended { spec.HasEnded B.Berth lane.old }
+    requires room { length reports.old.items < vec_capacity reports.old }
+    ensures freed { spec.IsFreed (B.Berth, L.PolledListener) lane.old lane.new reports.old.items reports.new.items listener.old listener.new }
     ensures room { vec_capacity reports.old ≤ vec_capacity reports.new }
-    ensures back { L.links listener.new ≡ option_map (got_back (record { link = link; source = done.source; sink = done.sink })) (L.links listener.old) }
-    ensures later { L.faults listener.old ≤ L.faults listener.new }
-    ensures accepted { L.accepted listener.new ≡ L.accepted listener.old }
 {
+    let (link, done) = finish_lane::<B>(mem::replace(lane, Spot::Gone));
     let Completed {
         berth,
         source,
@@ -55,7 +65,7 @@ fn complete<B: Berth, L: PolledListener<In = B::In, Out = B::Out>>(
     let Ok(()) = reports.push((berth.caller(), report)) else {
         unreachable!()
     };
-    berth
+    *lane = Spot::Free(berth);
 }
 
 impl<B: Berth, L: PolledListener<In = B::In, Out = B::Out>> Pool<L, B, B::Serving, B::Report> {
@@ -68,11 +78,10 @@ impl<B: Berth, L: PolledListener<In = B::In, Out = B::Out>> Pool<L, B, B::Servin
         ensures turned { spec.TurnAt (B.Berth, L.PolledListener) at self.old self.new cx.new }
         ensures kept { Keeps cx.old cx.new }
     {
-        let Some((link, done)) = poll_lane::<B>(&mut self.lanes[at], cx) else {
-            return;
-        };
-        let berth = complete(&mut self.listener, &mut self.reports, link, done);
-        self.lanes[at] = Spot::Free(berth);
+        let lane = &mut self.lanes[at];
+        if poll_lane::<B>(lane, cx) {
+            free_lane(lane, &mut self.listener, &mut self.reports);
+        }
     }
 
     /// Polls each lane that is busy, in their order.

@@ -18,7 +18,7 @@ use Rattle.shop_tasks.specs.Serves.{Serves}
 use Rattle.shop_tasks.specs.StationValues.{StationValue, station_of}
 use Rattle.shop_tasks.specs.declared.till.Till.TheVariants.{Own}
 use Rattle.shop_tasks.proofs.cited.Stations.{unserved}
-use Rattle.shop_poll.specs.Servings.{PolledMeanings, left_of, polls_by, serves_by}
+use Rattle.shop_poll.specs.Servings.{Leaves, PolledMeanings, left_of, polls_by, serves_by}
 
 module _ {S K C : Type 0} (by : PolledMeanings S K C) where
   abbrev pub Held : Type 0
@@ -54,8 +54,8 @@ module _ {S K C : Type 0} (by : PolledMeanings S K C) where
 
   -- a link whose connection was begun with these parts
   pub begun : (first : Parts DeskValue S K C EmulatorValue) (on : Connection DeskValue S K C EmulatorValue) → Begins (polls_by by) first on → (done : Completed (StationValue C S K) S K Report)
-      → ((finished : Held) × Gives (polls_by by) on finished × (done ≡ left_of finished) × AreVerdicts [] finished.gateway.answers) → IsServed first done
-  begun first on begins done (finished, gives, is, verdicts) = subst (IsServed first) (sym is) (served first finished (completed first finished on.live begins gives) verdicts)
+      → ((finished : Held) × Gives (polls_by by) on finished × Leaves finished done) → IsServed first done
+  begun first on begins done (finished, gives, leaves) = subst (IsServed first) (sym leaves.0) (served first finished (completed first finished on.live begins gives) leaves.1)
 
   -- a link for whose connection there was no memory
   pub refused_link : (first : Parts DeskValue S K C EmulatorValue) (finished : Held) → finished ≡ refused first.worker first.source first.sink first.clock first.gateway

@@ -1,12 +1,10 @@
-ghost use Rattle.std.specs.Prelude.{◌≡◌, []};
-ghost use Rattle.shop_gateway.specs.Verdicts.{AreVerdicts};
-ghost use Rattle.shop_poll.specs.Servings.{left_of};
+ghost use Rattle.shop_poll.specs.Servings.{CanPollAs, EndsLink, Leaves};
 
 use crate::PolledStation;
 use futures::task::{Context, Poll};
 use shop_attempt::Store;
 use shop_edges::Clock;
-use shop_engine::Report;
+use shop_engine::{Ended, Report};
 use shop_gateway::Emulator;
 use shop_lanes::{Berth, Completed};
 use shop_polled::{Connection, Finished, PolledSink, PolledSource};
@@ -27,8 +25,8 @@ pub struct Serving<St: Store, S, K, C> {
 enum Stage<St: Store, S, K, C> {
     /// Its connection goes on.
     Live(Connection<St, S, K, C, Emulator>),
-    /// There was no memory for its connection; the first poll tells so.
-    Refused(Option<Finished<St, S, K, C, Emulator>>),
+    /// It was served to the end of its connection, or there was no memory for one.
+    Over(Finished<St, S, K, C, Emulator>),
 }
 
 /// What is left of a link whose connection has finished.
@@ -36,8 +34,7 @@ fn completed<R: Wait + Drop, S: Drop, K: Drop, C: Drop>(
     alloc: Global,
     finished: Finished<Desk<R>, S, K, C, Emulator>,
 ) -> Completed<PolledStation<R, S, K, C>, S, K, Report>
-    ensures left { result ≡ left_of finished }
-    ensures verdicts { AreVerdicts [] finished.gateway.answers }
+    ensures { Leaves finished result }
 {
     let Finished {
         worker,
@@ -63,6 +60,21 @@ fn completed<R: Wait + Drop, S: Drop, K: Drop, C: Drop>(
     }
 }
 
+/// Takes the connection of a link apart, which has ended so.
+#[inline(never)]
+fn end_link<R: Wait + Drop, S: PolledSource + Drop, K: PolledSink + Drop, C: Clock + Drop>(
+    stage: &mut Stage<Desk<R>, S, K, C>,
+    end: Ended,
+)
+    requires { CanPollAs stage.old }
+    ensures { EndsLink (S.PolledSource, K.PolledSink, C.Clock) stage.old end stage.new }
+{
+    match stage {
+        Stage::Live(connection) => *stage = Stage::Over(connection.finish(end)),
+        Stage::Over(_) => {}
+    }
+}
+
 impl<R: Wait + Drop, S: PolledSource + Drop, K: PolledSink + Drop, C: Clock + Drop> Berth
     for PolledStation<R, S, K, C> {
     ghost use Rattle.shop_tasks.specs.Serves.{Serves};
@@ -81,6 +93,8 @@ impl<R: Wait + Drop, S: PolledSource + Drop, K: PolledSink + Drop, C: Clock + Dr
     ghost caller = { λ station. station.worker.caller.number };
 
     ghost can_poll = { spec.CanPoll };
+
+    ghost has_ended = { spec.HasEnded };
 
     ghost gives = { spec.Gives (S.PolledSource, K.PolledSink, C.Clock) };
 
@@ -105,25 +119,33 @@ impl<R: Wait + Drop, S: PolledSource + Drop, K: PolledSink + Drop, C: Clock + Dr
         let _ = gateway.answers();
         let stage = match Connection::new(alloc, worker, source, sink, clock, gateway) {
             Ok(connection) => Stage::Live(connection),
-            Err(finished) => Stage::Refused(Some(finished)),
+            Err(finished) => Stage::Over(finished),
         };
         Serving { alloc, stage }
     }
 
-    fn poll(
-        serving: &mut Serving<Desk<R>, S, K, C>,
-        cx: &mut Context<'_>,
-    ) -> Poll<Completed<PolledStation<R, S, K, C>, S, K, Report>> {
-        let alloc = serving.alloc;
-        match &mut serving.stage {
+    fn poll(serving: &mut Serving<Desk<R>, S, K, C>, cx: &mut Context<'_>) -> Poll<()> {
+        let end = match &mut serving.stage {
             Stage::Live(connection) => match connection.poll_end(cx) {
-                Poll::Ready(end) => Poll::Ready(completed(alloc, connection.finish(end))),
-                Poll::Pending => Poll::Pending,
+                Poll::Ready(end) => end,
+                Poll::Pending => return Poll::Pending,
             },
-            Stage::Refused(finished) => match finished.take() {
-                Some(finished) => Poll::Ready(completed(alloc, finished)),
-                None => unreachable!(),
-            },
+            Stage::Over(_) => return Poll::Ready(()),
+        };
+        end_link(&mut serving.stage, end);
+        Poll::Ready(())
+    }
+
+    fn finish(
+        serving: Serving<Desk<R>, S, K, C>,
+    ) -> Completed<PolledStation<R, S, K, C>, S, K, Report> {
+        let Serving { alloc, stage } = serving;
+        match stage {
+            Stage::Over(finished) => completed(alloc, finished),
+            Stage::Live(live) => {
+                drop(live);
+                unreachable!()
+            }
         }
     }
 }

@@ -42,6 +42,8 @@ impl Berth for Counting {
 
     ghost can_poll = { λ serving. ⊤ };
 
+    ghost has_ended = { λ serving. ⊤ };
+
     ghost gives = { λ serving done. ⊤ };
 
     ghost needs = { λ serving event. ⊥ };
@@ -62,16 +64,17 @@ impl Berth for Counting {
         }
     }
 
-    fn poll(
-        serving: &mut Counted,
-        cx: &mut Context<'_>,
-    ) -> Poll<Completed<Counting, u32, u32, u32>> {
+    fn poll(serving: &mut Counted, cx: &mut Context<'_>) -> Poll<()> {
         if 0 < serving.left {
             serving.left -= 1;
             return cx.yield_now();
         }
+        Poll::Ready(())
+    }
+
+    fn finish(serving: Counted) -> Completed<Counting, u32, u32, u32> {
         let served = serving.served.saturating_add(1);
-        Poll::Ready(Completed {
+        Completed {
             berth: Counting {
                 caller: serving.caller,
                 served,
@@ -79,7 +82,7 @@ impl Berth for Counting {
             source: serving.source,
             sink: serving.caller,
             report: served,
-        })
+        }
     }
 }
 

@@ -1,4 +1,4 @@
-use Rattle.std.proofs.Common.{◌≡◌, ◌∙◌}
+use Rattle.std.proofs.Common.{◌∙◌}
 use Rattle.shop_lanes.proofs.lanes.LanesServingReportFuture.poll.Goals as goal
 
 pub returns-in-Pending-clause-same : goal.returns-in-Pending-clause-same
@@ -9,16 +9,10 @@ returns-in-Pending-clause-same g c = λ landed gives.
       λ closed. gives.1 (now.closed closed).0 ∙ (now.closed closed).1,
     )
 
-pub land-requires-clause-over : goal.land-requires-clause-over
-land-requires-clause-over g c =
-    let same : c.in-Some-take.pool ≡ c.poll.new.self = cc c.in-Some-take.ensures.value in
-    rw same c.in-Ready.ensures.over
-
-pub returns-clause-value : goal.returns-clause-value
-returns-clause-value g c =
-    let same : c.in-Some-take.pool ≡ c.poll.new.self = cc c.in-Some-take.ensures.value in
+pub returns-in-Ready-clause-value : goal.returns-in-Ready-clause-value
+returns-in-Ready-clause-value g c =
     let now = c.in-Ready.ensures in
     rw c.in-Some.is (
-      λ start total since. c.land.ensures.0 start total (rw same (now.since start total since)),
-      λ closed. c.land.ensures.1 (rw same (now.closed closed).0) ∙ rw same (now.closed closed).1,
+      λ start total since. c.land.ensures.0 start total (now.since start total since),
+      λ closed. c.land.ensures.1 (now.closed closed).0 ∙ (now.closed closed).1,
     )

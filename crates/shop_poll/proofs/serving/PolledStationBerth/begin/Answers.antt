@@ -19,6 +19,6 @@ returns-clause-serving g c done gives =
     let is : IsServed by first done = elim c.match-new.branch [
       | in-Ok w ↦ begun by first w.in-Ok.connection w.in-Ok.ensures.begun done (subst (λ (s : Stage DeskValue g.row.S.Denot g.row.K.Denot g.row.C.Denot). GivesAs by s done) w.stage-is given)
       | in-Err w ↦ refused_link by first w.in-Err.finished w.in-Err.ensures.refused c.store.ensures.lawful c.answers.ensures.verdicts done
-          (subst (λ (s : Stage DeskValue g.row.S.Denot g.row.K.Denot g.row.C.Denot). GivesAs by s done) w.stage-is given)
+          (subst (λ (s : Stage DeskValue g.row.S.Denot g.row.K.Denot g.row.C.Denot). GivesAs by s done) w.stage-is given).0
     ] in
     subst (λ (s : StationValue g.row.C.Denot g.row.S.Denot g.row.K.Denot). Serves (serves_by by) s c.args.source c.args.sink done.berth done.source done.sink done.report) c.self.view_is is

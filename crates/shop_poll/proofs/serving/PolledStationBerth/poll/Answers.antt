@@ -5,17 +5,18 @@ use Rattle.shop_poll.specs.declared.serving.Stage.{Stage}
 use Rattle.shop_poll.specs.declared.serving.Stage.TheVariants.{Live}
 use Rattle.shop_poll.proofs.serving.PolledStationBerth.poll.Goals as goal
 
-pub returns-in-Ready-clause-value : goal.returns-in-Ready-clause-value
-returns-in-Ready-clause-value g c =
+pub returns-clause-same : goal.returns-clause-same
+returns-clause-same g c done leaves =
     let by : PolledMeanings g.row.S.Denot g.row.K.Denot g.row.C.Denot = (g.S.PolledSource, g.K.PolledSink, g.C.Clock) in
-    subst (λ (s : Stage DeskValue g.row.S.Denot g.row.K.Denot g.row.C.Denot). GivesAs by s c.completed.result) (sym c.in-Live.is)
-    (c.finish.result, c.in-Ready.ensures.value c.finish.result c.finish.ensures.out, c.completed.ensures.left, c.completed.ensures.verdicts)
+    let over = c.end_link.ensures in
+    subst (λ (s : Stage DeskValue g.row.S.Denot g.row.K.Denot g.row.C.Denot). GivesAs by s done) (sym c.in-Live.is)
+    (over.0, c.in-Ready.ensures.value over.0 over.2, subst (λ (s : Stage DeskValue g.row.S.Denot g.row.K.Denot g.row.C.Denot). GivesAs by s done) over.1 leaves)
 
 pub returns-in-Pending-clause-same : goal.returns-in-Pending-clause-same
-returns-in-Pending-clause-same g c done (finished, gives, left, verdicts) =
+returns-in-Pending-clause-same g c done (finished, gives, leaves) =
     let by : PolledMeanings g.row.S.Denot g.row.K.Denot g.row.C.Denot = (g.S.PolledSource, g.K.PolledSink, g.C.Clock) in
     subst (λ (s : Stage DeskValue g.row.S.Denot g.row.K.Denot g.row.C.Denot). GivesAs by s done) (sym c.in-Live.is)
-    (finished, c.in-Pending.ensures.same finished gives, left, verdicts)
+    (finished, c.in-Pending.ensures.same finished gives, leaves)
 
 pub returns-in-Pending-clause-waited : goal.returns-in-Pending-clause-waited
 returns-in-Pending-clause-waited g c =

@@ -1,7 +1,7 @@
 use Rattle.std.proofs.Common.{◌∙◌, ⊎_elim, inl, inr, sym}
 use Rattle.shop_lanes.proofs.Pools.{live_began, live_keeps, since_begins, since_keeps}
 use Rattle.shop_lanes.proofs.Turns.{accepts_began, accepts_kept, busy_began}
-use Rattle.shop_lanes.proofs.accepting.Pool+L+B+B+Serving+B+Report.accept_at.Goals as goal
+use Rattle.shop_lanes.proofs.accepting.Pool+L+B+B+Serving+B+Report.accept_free.Goals as goal
 
 pub returns-in-Pending : goal.returns-in-Pending
 returns-in-Pending g c =
